@@ -1,0 +1,13 @@
+/// What a run enters before each delivery, under the lock of the actor that it is for. It promises nothing: a test
+/// may hold a thread there, to make a schedule happen.
+pub trait Gate: Sync {
+    fn enter(&self, node: u8, actor: u8);
+}
+
+/// A gate that lets everybody through at once.
+#[derive(Clone, Copy, Debug, PartialEq, Eq)]
+pub struct OpenGate;
+
+impl Gate for OpenGate {
+    fn enter(&self, _node: u8, _actor: u8) {}
+}

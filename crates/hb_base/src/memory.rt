@@ -1,0 +1,156 @@
+ghost use Rattle.std.specs.Prelude.{◌≡◌, ℕ, ◌+◌, ◌-◌, ◌^◌, ◌<◌, ◌≤◌, ◌↔◌, min, [], ◌++◌, List, length, Some, IsErr, IsTrue, IfOk, OnOk, OnErr, Contains};
+ghost use Rattle.std.specs.Io.{ReadsAtMost};
+ghost use Rattle.std.specs.Io.KnownBytes.{ReadConsumes};
+ghost use Rattle.hb_base.specs.Outside.{HasCause, Puts};
+
+use crate::bytes::Bytes;
+use crate::outside::{Failed, Sink, Source};
+use std::alloc::Global;
+use std::marker::Model;
+
+/// A source over bytes in memory, of which chosen calls fail. Clauses see a `Tape`.
+#[derive(Debug, Drop)]
+pub struct MemorySource {
+    bytes: Bytes,
+    at: usize,
+    step: u32,
+    failing: Vec<u32>,
+    calls: u64,
+    faults: u64,
+}
+
+impl Model for MemorySource {
+    ghost use Rattle.std.specs.Prelude.{◌<◌, ◌≤◌, length, drop};
+    ghost use Rattle.hb_base.specs.Memory.{Tape};
+
+    ghost Value = { Tape };
+
+    ghost view = { λ s. record {
+      left = drop s.at s.bytes;
+      step = s.step;
+      failing = s.failing.items;
+      calls = s.calls;
+      faults = s.faults;
+    } };
+
+    ghost invariant = { λ s. (s.at ≤ length s.bytes) × (0 < s.step) };
+}
+
+impl MemorySource {
+    /// A source of these bytes, at most `step` in one call. Calls are numbered from 1; those in `failing` fail and
+    /// take nothing.
+    pub fn new(bytes: Bytes, step: u32, failing: Vec<u32>) -> MemorySource
+        requires { 0 < step }
+        ensures { result ≡ record { left = bytes; step = step; failing = failing.items; calls = 0; faults = 0 } }
+    {
+        MemorySource {
+            bytes,
+            at: 0,
+            step,
+            failing,
+            calls: 0,
+            faults: 0,
+        }
+    }
+}
+
+impl Source for MemorySource {
+    ghost left = { λ s. Some s.left };
+
+    ghost faults = { λ s. s.faults };
+
+    fn take(&mut self, buf: &mut [u8]) -> Result<usize, Failed>
+        requires { 0 < length buf.old }
+        ensures bound { ReadsAtMost result buf.new }
+        ensures bytes { ReadConsumes (Some self.old.left) (Some self.new.left) result buf.new }
+        ensures cause { HasCause self.old.faults self.new.faults result }
+        ensures count { IfOk result (λ n. n ≡ min (min self.old.step (length buf.old)) (length self.old.left)) }
+        ensures fails { IsErr result ↔ Contains self.old.failing self.new.calls }
+        ensures calls { self.new.calls ≡ min (self.old.calls + 1) (2 ^ 64 - 1) }
+        ensures plan { (self.new.step ≡ self.old.step) × (self.new.failing ≡ self.old.failing) }
+    {
+        self.calls = self.calls.saturating_add(1);
+        if is_named(&self.failing, self.calls) {
+            self.faults = self.faults.saturating_add(1);
+            return Err(Failed);
+        }
+        let left = self.bytes.as_slice().split_at(self.at).1;
+        let count = left.len().min(buf.len()).min(self.step as usize);
+        buf[..count].copy_from_slice(&left[..count]);
+        self.at += count;
+        Ok(count)
+    }
+}
+
+/// A sink in memory, of which chosen calls fail. Clauses see a `Shelf`.
+#[derive(Debug, Drop)]
+pub struct MemorySink {
+    bytes: Vec<u8>,
+    failing: Vec<u32>,
+    calls: u64,
+    faults: u64,
+}
+
+impl Model for MemorySink {
+    ghost use Rattle.hb_base.specs.Memory.{Shelf};
+
+    ghost Value = { Shelf };
+
+    ghost view = { λ s. record {
+      held = s.bytes.items;
+      failing = s.failing.items;
+      calls = s.calls;
+      faults = s.faults;
+    } };
+}
+
+impl MemorySink {
+    /// An empty sink. Calls are numbered from 1; those in `failing` fail and append nothing, as does one that finds
+    /// no memory.
+    pub fn new(alloc: Global, failing: Vec<u32>) -> MemorySink
+        ensures { result ≡ record { held = []; failing = failing.items; calls = 0; faults = 0 } }
+    {
+        MemorySink {
+            bytes: Vec::new(alloc),
+            failing,
+            calls: 0,
+            faults: 0,
+        }
+    }
+
+    /// The bytes that it holds.
+    pub fn held(&self) -> &[u8]
+        ensures { result.now ≡ self.now.held }
+    {
+        self.bytes.as_slice()
+    }
+}
+
+impl Sink for MemorySink {
+    ghost held = { λ s. Some s.held };
+
+    ghost faults = { λ s. s.faults };
+
+    fn put(&mut self, bytes: &[u8]) -> Result<(), Failed>
+        ensures bytes { Puts (Some self.old.held) (Some self.new.held) result bytes.now }
+        ensures cause { HasCause self.old.faults self.new.faults result }
+        ensures nothing { OnErr result (self.new.held ≡ self.old.held) }
+        ensures fails { Contains self.old.failing self.new.calls → IsErr result }
+        ensures calls { self.new.calls ≡ min (self.old.calls + 1) (2 ^ 64 - 1) }
+        ensures plan { self.new.failing ≡ self.old.failing }
+    {
+        self.calls = self.calls.saturating_add(1);
+        if is_named(&self.failing, self.calls) || self.bytes.extend_from_slice(bytes).is_err() {
+            self.faults = self.faults.saturating_add(1);
+            return Err(Failed);
+        }
+        Ok(())
+    }
+}
+
+// Whether the list of failing calls names this one.
+fn is_named(failing: &Vec<u32>, call: u64) -> bool
+    ensures { IsTrue result ↔ Contains failing.now.items call }
+{
+    failing.iter().any(|named| u64::from(*named) == call)
+}

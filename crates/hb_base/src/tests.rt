@@ -1,0 +1,91 @@
+//! What no clause says: that calls find memory and succeed, and that the limits are those that were meant.
+use crate::{Bytes, Config, LiarName, MemorySink, MemorySource, NodeSet, Sink, Source};
+use std::test::Fail;
+
+#[test]
+fn configs_at_their_limits(rt: HostRuntime) {
+    for (n, f, epochs, rounds, batch, version, wanted) in [
+        (1, 0, 1, 1, 1, 1, true),
+        (16, 5, 32, 32, 64, 1, true),
+        (4, 1, 1, 32, 64, 1, true),
+        (3, 1, 1, 32, 64, 1, false),
+        (15, 5, 1, 32, 64, 1, false),
+        (0, 0, 1, 32, 64, 1, false),
+        (17, 5, 1, 32, 64, 1, false),
+        (16, 6, 1, 32, 64, 1, false),
+        (4, 1, 0, 32, 64, 1, false),
+        (4, 1, 33, 32, 64, 1, false),
+        (4, 1, 1, 0, 64, 1, false),
+        (4, 1, 1, 33, 64, 1, false),
+        (4, 1, 1, 32, 0, 1, false),
+        (4, 1, 1, 32, 65, 1, false),
+        (4, 1, 1, 32, 64, 0, false),
+        (4, 1, 1, 32, 64, 2, false),
+    ] {
+        let config = Config::new(n, f, epochs, rounds, batch, 7, version, NodeSet::new());
+        assert_eq!(rt; config.is_some(), wanted, "n {n}, f {f}, epochs {epochs}");
+    }
+}
+
+#[test]
+fn liars_of_a_config(rt: HostRuntime) {
+    for (first, second, wanted) in [(0, 0, true), (3, 3, true), (4, 4, false), (0, 3, false)] {
+        let mut liars = NodeSet::new();
+        liars.add(first);
+        liars.add(second);
+        let config = Config::new(4, 1, 1, 32, 64, 0, 1, liars);
+        assert_eq!(rt; config.is_some(), wanted, "liars {first} and {second}");
+    }
+}
+
+#[test]
+fn names_of_liars(rt: HostRuntime) {
+    for (text, wanted) in [
+        ("silent", true),
+        ("echo_split", true),
+        ("a", true),
+        ("0123456789abcdef", true),
+        ("", false),
+        ("0123456789abcdefg", false),
+        ("Silent", false),
+        ("a b", false),
+        ("a-b", false),
+        ("é", false),
+    ] {
+        let name = LiarName::of(text);
+        assert_eq!(rt; name.is_some(), wanted, "{text}");
+        if let Some(name) = name {
+            assert_eq!(rt; name.as_bytes(), text.as_bytes(), "{text}");
+        }
+    }
+}
+
+#[test]
+fn a_source_in_pieces(rt: HostRuntime) -> Result<(), Fail> {
+    let alloc = rt.alloc();
+    let mut source = MemorySource::new(Bytes::copy(alloc, b"honey")?, 2, vec![in alloc; 2]?);
+    let mut buf = [0u8; 4];
+    for (wanted, front) in [
+        (Some(2), b"ho"),
+        (None, b"ho"),
+        (Some(2), b"ne"),
+        (Some(1), b"ye"),
+        (Some(0), b"ye"),
+    ] {
+        let count = source.take(&mut buf).ok();
+        assert_eq!(rt; count, wanted);
+        assert_eq!(rt; buf[..2], front[..]);
+    }
+    Ok(())
+}
+
+#[test]
+fn a_sink_that_fails_once(rt: HostRuntime) -> Result<(), Fail> {
+    let alloc = rt.alloc();
+    let mut sink = MemorySink::new(alloc, vec![in alloc; 2]?);
+    for (piece, wanted) in [(b"ho", true), (b"xx", false), (b"ny", true)] {
+        assert_eq!(rt; sink.put(piece).is_ok(), wanted);
+    }
+    assert_eq!(rt; sink.held(), b"hony".as_slice());
+    Ok(())
+}
