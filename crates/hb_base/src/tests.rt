@@ -61,6 +61,17 @@ fn names_of_liars(rt: HostRuntime) {
 }
 
 #[test]
+fn byte_strings(rt: HostRuntime) -> Result<(), Fail> {
+    let honey = Bytes::copy(rt.alloc(), b"honey")?;
+    let badger = Bytes::from(vec![in rt.alloc(); 98, 97, 100]?);
+    assert_eq!(rt; badger.as_slice(), b"bad".as_slice());
+    let again = honey.clone()?;
+    assert_eq!(rt; again.as_slice(), b"honey".as_slice());
+    assert!(rt; again == honey && badger < honey);
+    Ok(())
+}
+
+#[test]
 fn a_source_in_pieces(rt: HostRuntime) -> Result<(), Fail> {
     let alloc = rt.alloc();
     let mut source = MemorySource::new(Bytes::copy(alloc, b"honey")?, 2, vec![in alloc; 2]?);
