@@ -1,4 +1,4 @@
-ghost use Rattle.std.specs.Prelude.{◌≡◌, ℕ, ◌<◌, List, Bool, true, false, slice_set, replicate};
+ghost use Rattle.std.specs.Prelude.{◌≡◌, ℕ, ◌<◌, ◌==◌, ◌||◌, List, Bool, true, false, slice_set, replicate};
 ghost use Rattle.hb_base.specs.NodeSet.{is_in};
 ghost use Rattle.hb_base.specs.Counting.{count_nodes};
 
@@ -23,7 +23,8 @@ impl Model for NodeSet {
 impl NodeSet {
     /// The set with no node.
     pub fn new() -> NodeSet
-        ensures { result ≡ replicate 16 false }
+        ensures exact { result ≡ replicate 16 false }
+        ensures members { (node : ℕ) → is_in result node ≡ false }
     {
         NodeSet { marks: [false; 16] }
     }
@@ -31,7 +32,8 @@ impl NodeSet {
     /// Adds a node, which may be in the set already.
     pub fn add(&mut self, node: u8)
         requires { node < 16 }
-        ensures { self.new ≡ slice_set self.old node true }
+        ensures exact { self.new ≡ slice_set self.old node true }
+        ensures members { (other : ℕ) → is_in self.new other ≡ ((other == node) || is_in self.old other) }
     {
         self.marks[node as usize] = true;
     }
