@@ -1,4 +1,4 @@
-ghost use Rattle.std.specs.Prelude.{◌≡◌, ℕ, ◌+◌, ◌-◌, ◌*◌, ◌<◌, ◌≤◌, ◌↔◌, Bool, true, IsSome, IfSome, IsTrue};
+ghost use Rattle.std.specs.Prelude.{◌≡◌, ℕ, ◌+◌, ◌-◌, ◌*◌, ◌<◌, ◌≤◌, ◌↔◌, Bool, true, false, replicate, IsSome, IfSome, IsTrue};
 ghost use Rattle.hb_base.specs.Numbers.{numbers, AreSound};
 ghost use Rattle.hb_base.specs.NodeSet.{is_in};
 
@@ -145,6 +145,24 @@ impl Config {
         ensures bounds { (1 ≤ result) × (result ≤ 16) }
     {
         self.n - 2 * self.f
+    }
+}
+
+/// The least run: one node, which is correct, one epoch, one round, batches of one, seed 0.
+impl Default for Config {
+    ghost is_default = { λ c. c ≡ numbers 1 0 1 1 1 0 1 (replicate 16 false) };
+
+    fn default() -> Config {
+        Config {
+            n: 1,
+            f: 0,
+            epochs: 1,
+            rounds: 1,
+            batch: 1,
+            seed: 0,
+            version: 1,
+            liars: NodeSet::new(),
+        }
     }
 }
 
