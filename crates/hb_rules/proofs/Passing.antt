@@ -35,7 +35,7 @@ none_owed : {V : Type 0} (b : Bool) (o : Option V) → o ≡ None → (if b then
 none_owed true o none = refl
 none_owed false o none = rw none refl
 
-settled_if_none : {V H : Type 0} (slot : Slot V H) (own : List V) (heard : List H) → slot.choice own heard ≡ None → IsSettledAt slot own heard
+pub settled_if_none : {V H : Type 0} (slot : Slot V H) (own : List V) (heard : List H) → slot.choice own heard ≡ None → IsSettledAt slot own heard
 settled_if_none slot own heard no_choice = record { none = none_owed (slot.is_cast own) (slot.choice own heard) no_choice }
 
 -- either it is filled or it has no choice

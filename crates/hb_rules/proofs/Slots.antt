@@ -73,7 +73,7 @@ val_made i j e m own heard v h = by (i == j) refl h
     by true same h = (eqb-true i j same, mapped (Val e m) (first_of (claimed_by i (proposed e)) heard) v h)
     by false same h = absurd (cc (h))
 
-val_slot_plain : (i j e m : ℕ) → IsPlain (val_slot i j e m)
+pub val_slot_plain : (i j e m : ℕ) → IsPlain (val_slot i j e m)
 unfolding val_slot
 val_slot_plain i j e m = record {
   test = is_val_to e m;
@@ -82,7 +82,7 @@ val_slot_plain i j e m = record {
   fills = λ own heard v h. let made = val_made i j e m own heard v h in rw (sym made.1.is) (rw (eq-eqb e e refl, eq-eqb m m refl) refl);
 }
 
-echo_slot_plain : (i j e : ℕ) → IsPlain (echo_slot i j e)
+pub echo_slot_plain : (i j e : ℕ) → IsPlain (echo_slot i j e)
 unfolding echo_slot
 echo_slot_plain i j e = record {
   test = is_any_echo e;
@@ -91,7 +91,7 @@ echo_slot_plain i j e = record {
   fills = λ own heard v h. let made = mapped (Echo e) (first_of (claimed_by j (sent e i)) heard) v h in rw (sym made.is) (rw (eq-eqb e e refl) refl);
 }
 
-ready_slot_plain : (c : Numbers) (e : ℕ) → IsPlain (ready_slot c e)
+pub ready_slot_plain : (c : Numbers) (e : ℕ) → IsPlain (ready_slot c e)
 unfolding ready_slot
 ready_slot_plain c e = record {
   test = is_any_ready e;
@@ -100,7 +100,7 @@ ready_slot_plain c e = record {
   fills = λ own heard v h. let made = mapped (Ready e) (first_of (λ h. passing (readies c e heard) (named e h)) heard) v h in rw (sym made.is) (rw (eq-eqb e e refl) refl);
 }
 
-delivery_slot_plain : (c : Numbers) (e : ℕ) → IsPlain (delivery_slot c e)
+pub delivery_slot_plain : (c : Numbers) (e : ℕ) → IsPlain (delivery_slot c e)
 unfolding delivery_slot
 delivery_slot_plain c e = record {
   test = is_any_delivery e;
@@ -170,3 +170,11 @@ broadcast_in_turn c i j e own heard =
     (AllByRecursion-each (IsAllowedBy May heard) c.n (λ m. val_slot i j e m ∷ []) (λ m below. (val_slot_allowed c i j e m heard below, tt)))
     (echo_slot_allowed c i j e heard, (ready_slot_allowed c i j e heard, (delivery_slot_allowed c i j e heard, tt))))
     own
+
+pub AllByRecursion-parts : {A : Type 0} (P : A → Type 0) (xs ys : List A) → AllByRecursion P (xs ++ ys) → AllByRecursion P xs × AllByRecursion P ys
+AllByRecursion-parts P [] ys all = (tt, all)
+AllByRecursion-parts P (x ∷ xs) ys all = let rest = AllByRecursion-parts P xs ys all.1 in ((all.0, rest.0), rest.1)
+
+pub AllByRecursion-both : {A : Type 0} (P Q R : A → Type 0) (xs : List A) → ((x : A) → P x → Q x → R x) → AllByRecursion P xs → AllByRecursion Q xs → AllByRecursion R xs
+AllByRecursion-both P Q R [] both one two = tt
+AllByRecursion-both P Q R (x ∷ xs) both one two = (both x one.0 two.0, AllByRecursion-both P Q R xs both one.1 two.1)
