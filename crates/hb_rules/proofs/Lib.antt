@@ -4,5 +4,6 @@ pub mod Histories
 pub mod Passing
 pub mod Seats
 pub mod Slots
+pub mod Repeats
 pub mod Sayings
 pub mod Validity

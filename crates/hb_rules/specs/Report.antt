@@ -102,6 +102,11 @@ pub record IsQuiet (report : Report) : Type 0 where
       → IsReceived report.config report.history.items end.node end.actor k
   pub settled : (end : End) → Contains report.ends.items end → end.fate ≡ Running → IsSettled report end
 
+-- votes of which none is among those before it
+abbrev pub AreNewAfter : List Vote → List Vote → Type 0
+AreNewAfter before [] = Unit {0}
+AreNewAfter before (v ∷ votes) = (Contains before v → ⊥) × AreNewAfter (before ++ v ∷ []) votes
+
 -- no vote of an actor stands twice
 abbrev pub NoVoteTwice : List Post → Type 0
-NoVoteTwice history = (i x : ℕ) (before after : List Vote) (v : Vote) → own_in i x history ≡ before ++ v ∷ after → Contains before v → ⊥
+NoVoteTwice history = (i x : ℕ) → AreNewAfter [] (own_in i x history)

@@ -14,6 +14,6 @@ pub use book::{Book, BookFault};
 pub use due::Due;
 pub use plain_book::PlainBook;
 pub use plain_seat::PlainSeat;
-pub use post::{Post, reaches};
+pub use post::{Post, hears, reaches};
 pub use report::{End, Fate, Report, Submit, running};
 pub use vote::{To, Vote};

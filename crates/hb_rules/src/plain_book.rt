@@ -61,6 +61,21 @@ impl PlainBook {
         }
     }
 
+    /// The posts so far, lent.
+    pub fn history(&self) -> &[Post]
+        ensures posts { result.now ≡ self.now.posts }
+        ensures few { length result.now ≤ 2 ^ 22 }
+    {
+        self.history.as_slice()
+    }
+
+    /// The config of the run.
+    pub fn config(&self) -> Config
+        ensures { result ≡ self.now.config }
+    {
+        self.config
+    }
+
     /// The history, which is legal.
     pub fn into_history(self) -> Vec<Post>
         ensures posts { result.items ≡ self.posts }

@@ -1,7 +1,8 @@
-ghost use Rattle.std.specs.Prelude.{◌≡◌};
-ghost use Rattle.hb_rules.specs.Hearing.{reaches};
+ghost use Rattle.std.specs.Prelude.{◌≡◌, is_some};
+ghost use Rattle.hb_rules.specs.Hearing.{reaches, heeds, hearing_of};
 
 use crate::vote::{To, Vote};
+use hb_base::Config;
 use std::alloc::AllocError;
 
 /// One entry of a history: an actor of a node has cast a vote, and where it goes. Lanes are the actors below n, the
@@ -40,5 +41,28 @@ pub fn reaches(n: u8, post: &Post, node: u8, actor: u8) -> bool
         }
         To::All => post.actor == actor,
         To::Node(target) => post.actor == actor && target == node,
+    }
+}
+
+/// Whether an actor of a node hears a post: it reaches the actor, which takes heed of such a vote of such a sender, and
+/// the run has its epoch.
+pub fn hears(config: &Config, post: &Post, node: u8, actor: u8) -> bool
+    ensures { result ≡ is_some (hearing_of config.now node actor post.now) }
+{
+    let n = config.n();
+    let is_heeded = heeds(n, node, actor, post);
+    let is_known = post.vote.epoch() < config.epochs();
+    reaches(n, post, node, actor) & (is_heeded & is_known)
+}
+
+// Whether an actor takes heed of such a vote of such a sender.
+fn heeds(n: u8, node: u8, actor: u8, post: &Post) -> bool
+    ensures { result ≡ heeds n node actor post.now.from post.now.actor post.now.vote }
+{
+    match &post.vote {
+        Vote::Propose { .. } => actor < n && post.from == node && post.actor == n,
+        Vote::Val { target, .. } => actor < n && post.from == actor && *target == node,
+        Vote::Echo { .. } | Vote::Ready { .. } => actor < n,
+        Vote::Delivered { .. } => actor == n && post.from == node && post.actor < n,
     }
 }
