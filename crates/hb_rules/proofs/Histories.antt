@@ -1,5 +1,6 @@
 -- Legal histories, one post after another.
-use Rattle.std.proofs.Common.{◌^◌, ◌<◌, List, [], ◌∷◌, ◌++◌, length, arith, append_assoc, append-nil, length-append}
+use Rattle.std.proofs.Common.{Contains, inl, inr, ap, ◌^◌, ◌<◌, List, [], ◌∷◌, ◌++◌, length, arith, append_assoc, append-nil, length-append}
+use Rattle.std.proofs.lemmas.List.Elements.{Contains-push_cases}
 use Rattle.hb_base.specs.Numbers.{Numbers}
 use Rattle.hb_rules.specs.declared.post.Post.{Post}
 use Rattle.hb_rules.specs.History.{MayFollow, AreLegalAfter, IsLegal}
@@ -31,3 +32,13 @@ pub legal_induction : (c : Numbers) (P : List Post → Type 0) → P []
     → ((history : List Post) (post : Post) → P history → MayFollow c history post → P (history ++ post ∷ []))
     → (history : List Post) → IsLegal c history → P history
 legal_induction c P none step history legal = legal_induction_after c P step [] history none legal.each
+
+-- the sender of each post of a legal history is one of the n nodes
+pub legal_known : (c : Numbers) (history : List Post) → IsLegal c history → (post : Post) → Contains history post → post.from < c.n
+legal_known c history legal = legal_induction c (λ history. (post : Post) → Contains history post → post.from < c.n)
+    (λ post none. absurd (omega (arith, none.1)))
+    (λ history post known follows other stands. elim (Contains-push_cases history post other stands) [
+      inl before ↦ known other before
+    | inr is ↦ omega (arith, follows.known, ap (λ (p : Post). p.from) is)
+    ])
+    history legal

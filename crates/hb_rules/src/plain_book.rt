@@ -61,10 +61,10 @@ impl PlainBook {
         }
     }
 
-    /// The posts so far, lent.
+    /// The posts so far, lent. They are legal.
     pub fn history(&self) -> &[Post]
         ensures posts { result.now ≡ self.now.posts }
-        ensures few { length result.now ≤ 2 ^ 22 }
+        ensures legal { IsLegal self.now.config self.now.posts }
     {
         self.history.as_slice()
     }
@@ -118,6 +118,7 @@ impl Book for PlainBook {
         ensures refused { OnErr result (Watched seat.old.node seat.old.actor seat.old.seen seat.new.seen) }
         ensures full { result ≡ Err BookFault.Full → length seat.new.seen ≡ 2 ^ 22 }
         ensures whole { seat.new.seen ≡ self.new.posts }
+        ensures nothing { OnErr result (self.new ≡ self.old) }
     {
         let number = see(&self.history, seat);
         if number as usize >= MOST_POSTS {
