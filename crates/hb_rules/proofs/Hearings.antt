@@ -51,12 +51,11 @@ pub MayBroadcast-among : (c : Numbers) (i j : ℕ) (own : List Vote) (some all :
 MayBroadcast-among c i j own some all (Propose e v) among may = may
 MayBroadcast-among c i j own some all (Val e m v) among may = (may.0, may.1, among.tests _ may.2, may.3)
 MayBroadcast-among c i j own some all (Echo e v) among may = (among.tests _ may.0, may.1)
-MayBroadcast-among c i j own some all (Ready e v) among may =
-    (
-      elim may.0 [
-        inl echoes ↦ inl (omega (arith, echoes, count_of-among c.n (is_echo e v) some all among))
-      | inr readies ↦ inr (omega (arith, readies, count_of-among c.n (is_ready e v) some all among))
-      ],
-      may.1,
-    )
+MayBroadcast-among c i j own some all (Ready e v) among may = (
+  elim may.0 [
+    | inl echoes ↦ inl (omega (arith, echoes, count_of-among c.n (is_echo e v) some all among))
+    | inr readies ↦ inr (omega (arith, readies, count_of-among c.n (is_ready e v) some all among))
+  ],
+  may.1,
+)
 MayBroadcast-among c i j own some all (Delivered e v) among may = (omega (arith, may.0, count_of-among c.n (is_ready e v) some all among), may.1)

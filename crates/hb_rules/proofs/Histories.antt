@@ -38,7 +38,7 @@ pub legal_known : (c : Numbers) (history : List Post) → IsLegal c history → 
 legal_known c history legal = legal_induction c (λ history. (post : Post) → Contains history post → post.from < c.n)
     (λ post none. absurd (omega (arith, none.1)))
     (λ history post known follows other stands. elim (Contains-push_cases history post other stands) [
-      inl before ↦ known other before
-    | inr is ↦ omega (arith, follows.known, ap (λ (p : Post). p.from) is)
+      | inl before ↦ known other before
+      | inr is ↦ omega (arith, follows.known, ap (λ (p : Post). p.from) is)
     ])
     history legal

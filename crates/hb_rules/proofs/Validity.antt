@@ -61,7 +61,7 @@ AreAddressed-push c history post addressed follows p stands correct = elim (Cont
   | inr is ↦ rw (sym is) (follows.correct (rw is correct)).address
 ]
 
-is_value_if : (v w : List ℕ) (b : Bool) → is_value v (if b then Some w else None) ≡ true → (b ≡ true) × (w ≡ v)
+pub is_value_if : (v w : List ℕ) (b : Bool) → is_value v (if b then Some w else None) ≡ true → (b ≡ true) × (w ≡ v)
 is_value_if v w true h = (refl, (bytes_eq-Decides w v).0 h)
 is_value_if v w false h = absurd (cc (h))
 
@@ -220,3 +220,21 @@ IsSourced-push c x sound lane correct history post sourced follows = record {
 pub broadcast_validity : (c : Numbers) (x : ℕ) → AreSound c → x < c.n → is_in c.liars x ≡ false → (history : List Post) → IsLegal c history → IsSourced c x history
 broadcast_validity c x sound lane correct history legal =
     legal_induction c (IsSourced c x) (IsSourced-nil c x) (IsSourced-push c x sound lane correct) history legal
+
+-- only lanes deliver
+lane_delivers : (c : Numbers) (e : ℕ) (v : List ℕ) (i x : ℕ) (own : List Vote) (heard : List Hearing) (vote : Vote) → is_delivery e v vote ≡ true → MayCast c i x own heard vote → x < c.n
+lane_delivers c e v i x own heard vote passes (inl may) = may.0
+lane_delivers c e v i x own heard (Delivered d w) passes (inr may) = absurd may.1
+lane_delivers c e v i x own heard (Propose d w) passes (inr may) = absurd (cc (passes))
+lane_delivers c e v i x own heard (Val d t w) passes (inr may) = absurd (cc (passes))
+lane_delivers c e v i x own heard (Echo d w) passes (inr may) = absurd (cc (passes))
+lane_delivers c e v i x own heard (Ready d w) passes (inr may) = absurd (cc (passes))
+
+-- an actor of a correct node that has delivered is a lane
+pub delivery_in_lane : (c : Numbers) (e : ℕ) (v : List ℕ) (i x : ℕ) → is_in c.liars i ≡ false → (history : List Post) → IsLegal c history → said (is_delivery e v) i x history ≡ true → x < c.n
+delivery_in_lane c e v i x correct history legal said_it =
+    legal_induction c (λ (h : List Post). said (is_delivery e v) i x h ≡ true → x < c.n) (λ none. absurd (cc (none)))
+    (λ before post holds follows h. elim (newly_said c (is_delivery e v) i x before post correct follows h) [
+      | inl earlier ↦ holds earlier
+      | inr new ↦ lane_delivers c e v i x (own_in i x before) (heard_in c i x before) post.vote new.passes new.may
+    ]) history legal said_it

@@ -8,6 +8,8 @@ pub mod plain_book;
 pub mod plain_seat;
 pub mod post;
 pub mod report;
+#[cfg(test)]
+mod tests;
 pub mod vote;
 
 pub use book::{Book, BookFault};
