@@ -4,5 +4,7 @@
 
 mod rbc;
 mod tallies;
+#[cfg(test)]
+mod tests;
 
 pub use rbc::Rbc;
