@@ -1,0 +1,9 @@
+pub mod Answers
+pub mod Casts
+pub mod Deliveries
+pub mod Prints
+pub mod Quiet
+pub mod Runs
+pub mod Scenarios
+pub mod Taking
+pub mod Teams

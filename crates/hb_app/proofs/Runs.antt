@@ -1,0 +1,294 @@
+-- A run, one delivery after another.
+use Rattle.std.proofs.Common.{◌≡◌, ◌≢◌, ℕ, zero, suc, ◌+◌, ◌<◌, ◌≤◌, true, false, inl, inr, List, [], ◌∷◌, ◌++◌, length, map, set, Contains, Some, refl, sym, ap, ◌∙◌, subst, append-nil, arith, slice_get, get_or, length-append, ◌==◌}
+use Rattle.std.proofs.lemmas.List.{length-set}
+use Rattle.std.proofs.lemmas.Bool.{cases_lt, cases_Bool, eqb-true, eq-eqb}
+use Rattle.std.proofs.lemmas.Option.{slice_get_within, slice_get-get_or}
+use Rattle.std.proofs.lemmas.List.Elements.{Contains-push, Contains-append_left}
+use Rattle.hb_base.specs.Numbers.{Numbers}
+use Rattle.hb_rules.specs.declared.vote.Vote.{Vote}
+use Rattle.hb_rules.specs.declared.post.Post.{Post}
+use Rattle.hb_rules.specs.declared.report.Fate.TheVariants.{Running}
+use Rattle.hb_rules.specs.Hearing.{own_in, reaches}
+use Rattle.hb_rules.specs.Book.{BookView, Moved}
+use Rattle.hb_rules.specs.BookLaws.{own_in-append, own_in-others, Moved-refl, IsSeatOf-moved}
+use Rattle.hb_rules.specs.Report.{heard_of, NoVoteTwice, actors}
+use Rattle.hb_app.specs.declared.member.Member.{Member}
+use Rattle.hb_app.specs.Member.{IsReady, IsMember, IsTeam, HasReceived, AddsReceived, Delivers}
+use Rattle.hb_app.specs.Team.{HasProposed, IsRun}
+use Rattle.hb_app.proofs.Taking.{slice_get-front, got_within, heard_of-more, IsReceived-moved}
+
+-- where an actor is
+abbrev pub place_of_member : Member → ℕ × ℕ
+place_of_member m = (m.node, m.actor)
+
+-- nothing is delivered to an actor that ended, or that the post does not reach
+pub Delivers-nothing : (k : ℕ) (book : BookView) (m : Member) → IsMember book.config book.posts m → HasReceived book.config book.posts k m → Delivers k book book m m
+Delivers-nothing k book m member received = record {
+  node = refl;
+  actor = refl;
+  member = member;
+  moved = Moved-refl m.node m.actor book;
+  once = λ once. once;
+  desk = λ _. refl;
+  kept = λ j running stands. stands;
+  worked = λ running. running;
+  received = received;
+}
+
+pub HasReceived-ended : (c : Numbers) (posts : List Post) (k : ℕ) (m : Member) → (m.fate ≡ Running → ⊥) → HasReceived c posts k m
+HasReceived-ended c posts k m ended post stands reached running = absurd (ended running)
+
+pub HasReceived-apart : (c : Numbers) (posts : List Post) (k : ℕ) (m : Member) (here : Post) → slice_get posts k ≡ Some here → reaches c.n here m.node m.actor ≡ false → HasReceived c posts k m
+HasReceived-apart c posts k m here stands apart post is reached running =
+    let same : here ≡ post = cc in absurd (cc (sym apart ∙ ap (λ (p : Post). reaches c.n p m.node m.actor) same ∙ reached))
+
+pub HasReceived-pushed : (c : Numbers) (posts : List Post) (k : ℕ) (old m : Member) → (m.fate ≡ Running → m.got.items ≡ old.got.items ++ k ∷ []) → HasReceived c posts k m
+HasReceived-pushed c posts k old m got post stands reached running =
+    subst (λ (ks : List ℕ). Contains ks k) (sym (got running)) (Contains-push old.got.items k)
+
+-- another actor stays a member while one posts
+pub IsMember-others : (book book' : BookView) (i x : ℕ) (m : Member) → Moved i x book book' → IsMember book.config book.posts m → (m.node ≡ i → m.actor ≢ x) → IsMember book'.config book'.posts m
+IsMember-others book book' i x m moved member apart =
+    let own : own_in m.node m.actor book'.posts ≡ own_in m.node m.actor book.posts =
+    ap (own_in m.node m.actor) moved.extended.is ∙ own_in-append m.node m.actor book.posts moved.extended.added
+    ∙ ap (λ (vs : List Vote). own_in m.node m.actor book.posts ++ vs) (own_in-others i x m.node m.actor moved.extended.added moved.extended.mine apart)
+    ∙ append-nil (own_in m.node m.actor book.posts) in
+    record {
+      seat = IsSeatOf-moved i x book book' m.seat moved (λ node actor. apart (sym member.node ∙ node) (sym member.actor ∙ actor)) member.seat;
+      node = member.node;
+      actor = member.actor;
+      got = λ j stands. IsReceived-moved book book' m.node m.actor i x j moved (member.got j stands);
+      ready = λ running.
+          let heard : heard_of book.config m.node m.actor book'.posts m.got.items ≡ heard_of book.config m.node m.actor book.posts m.got.items =
+          ap (λ (posts : List Post). heard_of book.config m.node m.actor posts m.got.items) moved.extended.is
+          ∙ heard_of-more book.config m.node m.actor book.posts moved.extended.added m.got.items (got_within book.config book.posts m.node m.actor m.got.items member.got) in
+          subst (λ (c : Numbers). IsReady c m.node m.actor (own_in m.node m.actor book'.posts) (heard_of c m.node m.actor book'.posts m.got.items) m.core) (sym moved.config)
+          (rw (own, heard) (member.ready running));
+    }
+
+-- one element of a list set
+pub slice_get-set_same : {A : Type 0} (xs : List A) (p : ℕ) (y : A) → p < length xs → slice_get (set xs p y) p ≡ Some y
+slice_get-set_same [] p y within = absurd (omega (arith, within))
+slice_get-set_same (x ∷ xs) zero y within = refl
+slice_get-set_same (x ∷ xs) (suc p) y within = slice_get-set_same xs p y (omega (arith, within))
+
+pub slice_get-set_other : {A : Type 0} (xs : List A) (p q : ℕ) (y : A) → q ≢ p → slice_get (set xs p y) q ≡ slice_get xs q
+slice_get-set_other [] p q y apart = refl
+slice_get-set_other (x ∷ xs) zero zero y apart = absurd (apart refl)
+slice_get-set_other (x ∷ xs) zero (suc q) y apart = refl
+slice_get-set_other (x ∷ xs) (suc p) zero y apart = refl
+slice_get-set_other (x ∷ xs) (suc p) (suc q) y apart = slice_get-set_other xs p q y (λ same. apart (ap (λ (n : ℕ). suc n) same))
+
+pub map-set_same_place : {A B : Type 0} (f : A → B) (xs : List A) (p : ℕ) (x y : A) → slice_get xs p ≡ Some x → f y ≡ f x → map f (set xs p y) ≡ map f xs
+map-set_same_place f [] p x y stands same = refl
+map-set_same_place f (z ∷ zs) zero x y stands same = let is : z ≡ x = cc in ap (λ b. b ∷ map f zs) (same ∙ ap f (sym is))
+map-set_same_place f (z ∷ zs) (suc p) x y stands same = ap (λ bs. f z ∷ bs) (map-set_same_place f zs p x y stands same)
+
+-- an actor after some deliveries is the same actor, and has what it had
+pub record GoesOn (old new : Member) : Type 0 where
+  pub node : new.node ≡ old.node
+  pub actor : new.actor ≡ old.actor
+  pub worked : new.fate ≡ Running → old.fate ≡ Running
+  pub kept : (j : ℕ) → new.fate ≡ Running → Contains old.got.items j → Contains new.got.items j
+
+-- the first p actors have had post k delivered
+pub record IsDelivering (k : ℕ) (book0 : BookView) (team0 : List Member) (book : BookView) (team : List Member) (p : ℕ) : Type 0 where
+  pub is_team : IsTeam book.config book.posts team
+  pub config : book.config ≡ book0.config
+  pub places : map place_of_member team ≡ map place_of_member team0
+  pub size : length team ≡ length team0
+  pub once : NoVoteTwice book0.posts → NoVoteTwice book.posts
+  pub desk : (i : ℕ) → own_in i book0.config.n book.posts ≡ own_in i book0.config.n book0.posts
+  pub grown : (j : ℕ) → j < length book0.posts → slice_get book.posts j ≡ slice_get book0.posts j
+  pub longer : length book0.posts ≤ length book.posts
+  pub goes_on : (q : ℕ) (m : Member) → slice_get team q ≡ Some m → (m0 : Member) × (slice_get team0 q ≡ Some m0) × GoesOn m0 m
+  pub done : (q : ℕ) (m : Member) → q < p → slice_get team q ≡ Some m → HasReceived book0.config book0.posts k m
+
+-- post k as it was read
+pub stands_read : (posts read : List Post) (k : ℕ) (post : Post) → read ≡ posts → k < length posts → post ≡ get_or read k post → slice_get posts k ≡ Some post
+stands_read posts read k post same within is =
+    slice_get-get_or posts k post within
+    ∙ ap (λ (p : Post). Some p) (ap (λ (ps : List Post). get_or ps k post) (sym same) ∙ sym is)
+
+-- an actor that received the post
+pub Delivers-received : (k : ℕ) (book book' : BookView) (old new : Member) → old.fate ≡ Running → IsMember book'.config book'.posts new → AddsReceived k old new → Moved old.node old.actor book book'
+    → (NoVoteTwice book.posts → NoVoteTwice book'.posts) → (old.actor ≡ book.config.n → book'.posts ≡ book.posts) → Delivers k book book' old new
+Delivers-received k book book' old new running member adds moved once desk = record {
+  node = adds.node;
+  actor = adds.actor;
+  member = member;
+  moved = moved;
+  once = once;
+  desk = desk;
+  kept = λ j now stands. subst (λ (ks : List ℕ). Contains ks j) (sym (adds.got now)) (Contains-append_left old.got.items (k ∷ []) j stands);
+  worked = λ _. running;
+  received = HasReceived-pushed book.config book.posts k old new adds.got;
+}
+
+GoesOn-refl : (m : Member) → GoesOn m m
+GoesOn-refl m = record { node = refl; actor = refl; worked = λ running. running; kept = λ j running stands. stands }
+
+-- before any delivery
+pub IsDelivering-start : (k : ℕ) (book : BookView) (team : List Member) → IsTeam book.config book.posts team → IsDelivering k book team book team 0
+IsDelivering-start k book team is_team = record {
+  is_team = is_team;
+  config = refl;
+  places = refl;
+  size = refl;
+  once = λ once. once;
+  desk = λ i. refl;
+  grown = λ j within. refl;
+  longer = omega arith;
+  goes_on = λ q m stands. (m, stands, GoesOn-refl m);
+  done = λ q m below stands. absurd (omega (arith, below));
+}
+
+-- the member at p
+pub member_at : (k : ℕ) (book0 book : BookView) (team0 team : List Member) (p : ℕ) (m : Member) → IsDelivering k book0 team0 book team p → p < length team → m ≡ get_or team p m
+    → IsMember book.config book.posts m
+member_at k book0 book team0 team p m delivering within is =
+    delivering.is_team.members p m (slice_get-get_or team p m within ∙ ap (λ (o : Member). Some o) (sym is))
+
+GoesOn-trans : (a b c : Member) → GoesOn a b → GoesOn b c → GoesOn a c
+GoesOn-trans a b c one two = record {
+  node = two.node ∙ one.node;
+  actor = two.actor ∙ one.actor;
+  worked = λ running. one.worked (two.worked running);
+  kept = λ j running stands. two.kept j running (one.kept j (two.worked running) stands);
+}
+
+-- who stands at a place of a team in which one place was set
+record WasAt (team : List Member) (p : ℕ) (new : Member) (q : ℕ) (m : Member) : Type 0 where
+  pub old : Member
+  pub stands : slice_get team q ≡ Some old
+  pub goes_on : GoesOn old m
+  pub here : q ≡ p → m ≡ new
+  pub there : q ≢ p → m ≡ old
+
+was_at : (team : List Member) (p : ℕ) (old new : Member) (q : ℕ) (m : Member) → slice_get team p ≡ Some old → GoesOn old new → slice_get (set team p new) q ≡ Some m → WasAt team p new q m
+was_at team p old new q m at goes now = elim (cases_Bool (q == p)) [
+  | inl same ↦
+      let e : q ≡ p = eqb-true q p same in
+      let is : m ≡ new = let h : Some new ≡ Some m = sym (slice_get-set_same team p new (slice_get_within team p old at)) ∙ ap (slice_get (set team p new)) (sym e) ∙ now in cc in
+      record {
+        old = old;
+        stands = ap (slice_get team) e ∙ at;
+        goes_on = subst (λ (o : Member). GoesOn old o) (sym is) goes;
+        here = λ _. is;
+        there = λ apart. absurd (apart e);
+      }
+  | inr other ↦
+      let apart : q ≢ p = λ e. absurd (cc (sym other ∙ eq-eqb q p e)) in
+      record {
+        old = m;
+        stands = sym (slice_get-set_other team p q new apart) ∙ now;
+        goes_on = GoesOn-refl m;
+        here = λ e. absurd (apart e);
+        there = λ _. refl;
+      }
+]
+
+-- what was received of a history was received of the beginning
+HasReceived-back : (book0 book : BookView) (k : ℕ) (m : Member) → book.config ≡ book0.config → slice_get book.posts k ≡ slice_get book0.posts k → HasReceived book.config book.posts k m → HasReceived book0.config book0.posts k m
+HasReceived-back book0 book k m config same received post stands reached running =
+    received post (same ∙ stands) (ap (λ (c : Numbers). reaches c.n post m.node m.actor) config ∙ reached) running
+
+-- no desk posts
+desk_same : (book book' : BookView) (i x j : ℕ) → Moved i x book book' → (x ≡ book.config.n → book'.posts ≡ book.posts) → own_in j book.config.n book'.posts ≡ own_in j book.config.n book.posts
+desk_same book book' i x j moved desk = elim (cases_Bool (x == book.config.n)) [
+  | inl same ↦ ap (own_in j book.config.n) (desk (eqb-true x book.config.n same))
+  | inr other ↦
+      ap (own_in j book.config.n) moved.extended.is ∙ own_in-append j book.config.n book.posts moved.extended.added
+      ∙ ap (λ (vs : List Vote). own_in j book.config.n book.posts ++ vs)
+      (own_in-others i x j book.config.n moved.extended.added moved.extended.mine (λ node actor. absurd (cc (sym other ∙ eq-eqb x book.config.n (sym actor)))))
+      ∙ append-nil (own_in j book.config.n book.posts)
+]
+
+-- delivered to the actor at p
+pub IsDelivering-step : (k : ℕ) (book0 : BookView) (team0 : List Member) (book : BookView) (team : List Member) (p : ℕ) (old new : Member) (book' : BookView)
+    → k < length book0.posts → IsDelivering k book0 team0 book team p → p < length team → old ≡ get_or team p old → Delivers k book book' old new
+    → IsDelivering k book0 team0 book' (set team p new) (p + 1)
+IsDelivering-step k book0 team0 book team p old new book' within0 delivering within is delivers =
+    let stands : slice_get team p ≡ Some old = slice_get-get_or team p old within ∙ ap (λ (o : Member). Some o) (sym is) in
+    let goes : GoesOn old new = record { node = delivers.node; actor = delivers.actor; worked = delivers.worked; kept = delivers.kept } in
+    record {
+      is_team = record {
+        members = λ q m now.
+            let was : WasAt team p new q m = was_at team p old new q m stands goes now in
+            elim (cases_Bool (q == p)) [
+              | inl same ↦ subst (λ (o : Member). IsMember book'.config book'.posts o) (sym (was.here (eqb-true q p same))) delivers.member
+              | inr other ↦
+                  let apart : q ≢ p = λ e. absurd (cc (sym other ∙ eq-eqb q p e)) in
+                  let at : slice_get team q ≡ Some m = was.stands ∙ ap (λ (o : Member). Some o) (sym (was.there apart)) in
+                  IsMember-others book book' old.node old.actor m delivers.moved (delivering.is_team.members q m at)
+                  (delivering.is_team.apart p q old m stands at (λ e. apart (sym e)))
+            ];
+        apart = λ a b m o at_a at_b apart node actor.
+            let was_a : WasAt team p new a m = was_at team p old new a m stands goes at_a in
+            let was_b : WasAt team p new b o = was_at team p old new b o stands goes at_b in
+            delivering.is_team.apart a b was_a.old was_b.old was_a.stands was_b.stands apart
+            (sym was_b.goes_on.node ∙ node ∙ was_a.goes_on.node) (sym was_b.goes_on.actor ∙ actor ∙ was_a.goes_on.actor);
+      };
+      config = delivers.moved.config ∙ delivering.config;
+      places = map-set_same_place place_of_member team p old new stands (place_same old new goes) ∙ delivering.places;
+      size = length-set team p new ∙ delivering.size;
+      once = λ once. delivers.once (delivering.once once);
+      desk = λ i. subst (λ (c : Numbers). own_in i c.n book'.posts ≡ own_in i c.n book.posts) delivering.config (desk_same book book' old.node old.actor i delivers.moved delivers.desk) ∙ delivering.desk i;
+      grown = λ j below.
+          ap (λ (posts : List Post). slice_get posts j) delivers.moved.extended.is
+          ∙ slice_get-front book.posts delivers.moved.extended.added j (omega (arith, below, delivering.longer)) ∙ delivering.grown j below;
+      longer = omega (arith, delivering.longer, ap (λ (posts : List Post). length posts) delivers.moved.extended.is, length-append book.posts delivers.moved.extended.added);
+      goes_on = λ q m now.
+          let was : WasAt team p new q m = was_at team p old new q m stands goes now in
+          let before = delivering.goes_on q was.old was.stands in
+          (before.0, before.1, GoesOn-trans before.0 was.old m before.2 was.goes_on);
+      done = λ q m below now.
+          let was : WasAt team p new q m = was_at team p old new q m stands goes now in
+          elim (cases_Bool (q == p)) [
+            | inl same ↦ subst (λ (o : Member). HasReceived book0.config book0.posts k o) (sym (was.here (eqb-true q p same)))
+                (HasReceived-back book0 book k new delivering.config (delivering.grown k within0) delivers.received)
+            | inr other ↦
+                let apart : q ≢ p = λ e. absurd (cc (sym other ∙ eq-eqb q p e)) in
+                let at : slice_get team q ≡ Some m = was.stands ∙ ap (λ (o : Member). Some o) (sym (was.there apart)) in
+                delivering.done q m (omega (arith, below, apart)) at
+          ];
+    }
+  where
+    place_same : (a b : Member) → GoesOn a b → place_of_member b ≡ place_of_member a
+    place_same a b goes i = (goes.node i, goes.actor i)
+
+-- post k is delivered to all
+pub IsRun-next : (k : ℕ) (value : List ℕ) (book0 : BookView) (team0 : List Member) (book : BookView) (team : List Member) (p : ℕ) → k < length book0.posts → length team ≤ p
+    → IsDelivering k book0 team0 book team p → IsRun book0.config value book0.posts team0 k → IsRun book.config value book.posts team (k + 1)
+IsRun-next k value book0 team0 book team p within all delivering run = record {
+  is_team = delivering.is_team;
+  places = delivering.places ∙ run.places ∙ ap actors (sym delivering.config);
+  once = delivering.once run.once;
+  proposed = subst (λ (c : Numbers). HasProposed c value book.posts) (sym delivering.config) (proposed run.proposed);
+  silent = λ i apart. subst (λ (c : Numbers). own_in i c.n book.posts ≡ []) (sym delivering.config) (delivering.desk i ∙ run.silent i apart);
+  received = λ q m stands j below post at reached running.
+      let before = delivering.goes_on q m stands in
+      let reached0 : reaches book0.config.n post m.node m.actor ≡ true = ap (λ (c : Numbers). reaches c.n post m.node m.actor) (sym delivering.config) ∙ reached in
+      elim (cases_lt j k) [
+        | inl earlier ↦ before.2.kept j running
+            (run.received q before.0 before.1 j earlier post (sym (delivering.grown j (omega (arith, earlier, within))) ∙ at)
+            (ap (λ (i : ℕ). reaches book0.config.n post i before.0.actor) (sym before.2.node) ∙ ap (λ (x : ℕ). reaches book0.config.n post m.node x) (sym before.2.actor) ∙ reached0)
+            (before.2.worked running))
+        | inr now ↦
+            let e : j ≡ k = omega (arith, below, now) in
+            subst (λ (n : ℕ). Contains m.got.items n) (sym e)
+            (delivering.done q m (omega (arith, slice_get_within team q m stands, all)) stands post
+            (sym (delivering.grown k within) ∙ ap (slice_get book.posts) (sym e) ∙ at) reached0 running)
+      ];
+}
+  where
+    proposed : HasProposed book0.config value book0.posts → HasProposed book0.config value book.posts
+    proposed (inl none) = inl (delivering.desk 0 ∙ none)
+    proposed (inr one) = inr (delivering.desk 0 ∙ one)
+
+-- the posts below k are delivered
+pub record IsDeliveringAll (book0 : BookView) (team0 : List Member) (book : BookView) (team : List Member) (k : ℕ) : Type 0 where
+  pub is_team : IsTeam book.config book.posts team
+  pub config : book.config ≡ book0.config
+  pub within : k ≤ length book.posts
+  pub run : (value : List ℕ) → IsRun book0.config value book0.posts team0 0 → IsRun book.config value book.posts team k

@@ -1,0 +1,196 @@
+-- The actors of a run, gathered node by node.
+use Rattle.std.proofs.Common.{◌≡◌, ◌≢◌, ℕ, zero, suc, ◌+◌, ◌≤◌, Bool, true, false, ◌⊎◌, inl, inr, List, [], ◌∷◌, ◌++◌, length, Some, refl, sym, ap, ◌∙◌, subst, append-nil, arith, slice_get, if◌then◌else◌, ◌==◌}
+use Rattle.std.specs.List.{flat_map, range_with_len}
+use Rattle.hb_base.specs.Numbers.{Numbers}
+use Rattle.hb_base.specs.NodeSet.{is_in}
+use Rattle.hb_rules.specs.declared.post.Post.{Post}
+use Rattle.hb_rules.specs.declared.vote.Vote.TheVariants.{Propose}
+use Rattle.hb_rules.specs.Hearing.{own_in}
+use Rattle.hb_rules.specs.Book.{BookView, Moved}
+use Rattle.hb_rules.specs.BookLaws.{own_in-append, own_in-others}
+use Rattle.hb_rules.specs.Report.{actors_of, NoVoteTwice}
+use Rattle.hb_app.specs.Team.{correct_actors, IsGathering, IsRun, HasProposed}
+use Rattle.std.proofs.lemmas.Bool.{eqb-true, false_from_ne_true}
+use Rattle.std.proofs.lemmas.Grind.{flat_map-append}
+use Rattle.std.proofs.lemmas.List.{map-append}
+use Rattle.hb_app.specs.declared.member.Member.{Member}
+use Rattle.hb_app.specs.Member.{IsMember, IsTeam}
+use Rattle.hb_app.proofs.Runs.{place_of_member}
+
+-- an element of a list with one more
+pub slice_get-push_cases : {A : Type 0} (xs : List A) (y : A) (p : ℕ) (m : A) → slice_get (xs ++ y ∷ []) p ≡ Some m
+    → (slice_get xs p ≡ Some m) ⊎ ((p ≡ length xs) × (m ≡ y))
+slice_get-push_cases [] y zero m at = inr (refl, cc (at))
+slice_get-push_cases [] y (suc p) m at = absurd (cc (at))
+slice_get-push_cases (x ∷ xs) y zero m at = inl at
+slice_get-push_cases (x ∷ xs) y (suc p) m at = elim (slice_get-push_cases xs y p m at) [
+  | inl before ↦ inl before
+  | inr last ↦ inr (ap (λ (n : ℕ). suc n) last.0, last.1)
+]
+
+pub IsTeam-nil : (c : Numbers) (posts : List Post) → IsTeam c posts []
+IsTeam-nil c posts = record {
+  members = λ p m at. absurd (cc (at));
+  apart = λ p q m o at. absurd (cc (at));
+}
+
+-- one actor more
+pub IsTeam-push : (c : Numbers) (posts : List Post) (team : List Member) (new : Member) → IsTeam c posts team → IsMember c posts new
+    → ((p : ℕ) (m : Member) → slice_get team p ≡ Some m → m.node ≡ new.node → m.actor ≢ new.actor) → IsTeam c posts (team ++ new ∷ [])
+IsTeam-push c posts team new is_team member others = record {
+  members = λ p m at. elim (slice_get-push_cases team new p m at) [
+    | inl before ↦ is_team.members p m before
+    | inr last ↦ subst (λ (o : Member). IsMember c posts o) (sym last.1) member
+  ];
+  apart = λ p q m o at_p at_q apart node actor. elim (slice_get-push_cases team new p m at_p) [
+    | inl before_p ↦ elim (slice_get-push_cases team new q o at_q) [
+      | inl before_q ↦ is_team.apart p q m o before_p before_q apart node actor
+      | inr last_q ↦ others p m before_p (sym node ∙ ap (λ (a : Member). a.node) last_q.1) (sym actor ∙ ap (λ (a : Member). a.actor) last_q.1)
+    ]
+    | inr last_p ↦ elim (slice_get-push_cases team new q o at_q) [
+      | inl before_q ↦ others q o before_q (node ∙ ap (λ (a : Member). a.node) last_p.1) (actor ∙ ap (λ (a : Member). a.actor) last_p.1)
+      | inr last_q ↦ apart (last_p.0 ∙ sym last_q.0)
+    ]
+  ];
+}
+
+-- numbers from a on, and one more
+range_with_len-suc : (a n : ℕ) → range_with_len a (suc n) ≡ range_with_len a n ++ (a + n) ∷ []
+range_with_len-suc a zero = ap (λ (j : ℕ). j ∷ []) (omega arith)
+range_with_len-suc a (suc n) =
+    ap (λ (xs : List ℕ). a ∷ xs) (range_with_len-suc (a + 1) n ∙ ap (λ (j : ℕ). range_with_len (a + 1) n ++ j ∷ []) (omega arith))
+
+-- one number more below a bound
+range-more : (n : ℕ) → range_with_len 0 (n + 1) ≡ range_with_len 0 n ++ n ∷ []
+range-more n =
+    let e : n + 1 ≡ suc n = omega arith in
+    let d : 0 + n ≡ n = omega arith in
+    ap (range_with_len 0) e ∙ range_with_len-suc 0 n ∙ ap (λ (j : ℕ). range_with_len 0 n ++ j ∷ []) d
+
+-- a node more of which no actor is there
+places-more : (c : Numbers) (places : List (ℕ × ℕ)) (node : ℕ) → places ≡ flat_map (correct_actors c) (range_with_len 0 node)
+    → flat_map (correct_actors c) (range_with_len 0 (node + 1)) ≡ places ++ correct_actors c node
+places-more c places node is =
+    ap (flat_map (correct_actors c)) (range-more node)
+    ∙ flat_map-append (correct_actors c) (range_with_len 0 node) (node ∷ [])
+    ∙ ap (λ (xs : List (ℕ × ℕ)). xs ++ (correct_actors c node ++ [])) (sym is)
+    ∙ ap (λ (xs : List (ℕ × ℕ)). places ++ xs) (append-nil (correct_actors c node))
+
+-- a node that lies has no actors
+pub IsGathering-liar : (c : Numbers) (posts : List Post) (team : List Member) (node : ℕ) → is_in c.liars node ≡ true → IsGathering c posts team node → IsGathering c posts team (node + 1)
+IsGathering-liar c posts team node lies gathering = record {
+  is_team = gathering.is_team;
+  below = λ p m at. omega (arith, gathering.below p m at);
+  places = gathering.places ∙ sym (places-more c (flat_map (correct_actors c) (range_with_len 0 node)) node refl
+      ∙ ap (λ (b : Bool). flat_map (correct_actors c) (range_with_len 0 node) ++ (if b then [] else actors_of c node)) lies
+      ∙ append-nil (flat_map (correct_actors c) (range_with_len 0 node)));
+  fresh = gathering.fresh;
+}
+
+-- a correct node other than node 0 has its lane
+pub IsGathering-lane : (c : Numbers) (posts : List Post) (team : List Member) (node : ℕ) (new : Member) → is_in c.liars node ≡ false → 1 ≤ node → IsGathering c posts team node
+    → IsMember c posts new → new.node ≡ node → new.actor ≡ 0 → IsGathering c posts (team ++ new ∷ []) (node + 1)
+IsGathering-lane c posts team node new correct behind gathering member at_node at_actor = record {
+  is_team = IsTeam-push c posts team new gathering.is_team member (λ p m at same. absurd (omega (arith, gathering.below p m at, same, at_node)));
+  below = λ p m at. elim (slice_get-push_cases team new p m at) [
+    | inl before ↦ omega (arith, gathering.below p m before)
+    | inr last ↦ omega (arith, ap (λ (a : Member). a.node) last.1, at_node)
+  ];
+  places = map-append place_of_member team (new ∷ []) ∙ ap (λ (xs : List (ℕ × ℕ)). xs ++ (new.node, new.actor) ∷ []) gathering.places
+      ∙ ap (λ (xs : List (ℕ × ℕ)). flat_map (correct_actors c) (range_with_len 0 node) ++ xs) (here node behind correct at_node at_actor)
+      ∙ sym (places-more c (flat_map (correct_actors c) (range_with_len 0 node)) node refl);
+  fresh = gathering.fresh;
+}
+  where
+    here : (i : ℕ) → 1 ≤ i → is_in c.liars i ≡ false → new.node ≡ i → new.actor ≡ 0 → (new.node, new.actor) ∷ [] ≡ correct_actors c i
+    here i behind correct at_node at_actor =
+        let apart : (i == 0) ≡ false = false_from_ne_true (i == 0) (λ same. absurd (omega (arith, behind, eqb-true i 0 same))) in
+        rw (correct, at_node, at_actor, apart) refl
+
+-- what actors other than node 0's desk have said after the proposal: nothing
+pub own_of_others : (book0 book : BookView) (i x a y : ℕ) → book0.posts ≡ [] → Moved i x book0 book → (a ≡ i → y ≢ x) → own_in a y book.posts ≡ []
+own_of_others book0 book i x a y empty moved apart =
+    ap (own_in a y) moved.extended.is ∙ own_in-append a y book0.posts moved.extended.added
+    ∙ ap (λ (posts : List Post). own_in a y posts ++ own_in a y moved.extended.added) empty
+    ∙ own_in-others i x a y moved.extended.added moved.extended.mine apart
+
+-- node 0 has its lane and its desk
+pub IsGathering-start : (c : Numbers) (posts : List Post) (lane desk : Member) → is_in c.liars 0 ≡ false → 1 ≤ c.n → ((i : ℕ) → own_in i 0 posts ≡ [])
+    → IsMember c posts lane → lane.node ≡ 0 → lane.actor ≡ 0 → IsMember c posts desk → desk.node ≡ 0 → desk.actor ≡ c.n → IsGathering c posts (lane ∷ desk ∷ []) 1
+IsGathering-start c posts lane desk correct some fresh lane_member lane_node lane_actor desk_member desk_node desk_actor = record {
+  is_team = IsTeam-push c posts (lane ∷ []) desk (IsTeam-push c posts [] lane (IsTeam-nil c posts) lane_member (λ p m at. absurd (cc (at)))) desk_member
+      (λ p m at same_node same_actor. elim (slice_get-push_cases [] lane p m at) [
+        | inl none ↦ absurd (cc (none))
+        | inr last ↦ omega (arith, some, ap (λ (a : Member). a.actor) last.1, lane_actor, desk_actor, same_actor)
+      ]);
+  below = λ p m at. elim (slice_get-push_cases (lane ∷ []) desk p m at) [
+    | inl before ↦ elim (slice_get-push_cases [] lane p m before) [
+      | inl none ↦ absurd (cc (none))
+      | inr last ↦ omega (arith, ap (λ (a : Member). a.node) last.1, lane_node)
+    ]
+    | inr last ↦ omega (arith, ap (λ (a : Member). a.node) last.1, desk_node)
+  ];
+  places = rw (lane_node, lane_actor, desk_node, desk_actor, correct) refl;
+  fresh = fresh;
+}
+
+-- all are there, and nothing is delivered yet
+pub IsRun-start : (c : Numbers) (value : List ℕ) (posts : List Post) (team : List Member) (node : ℕ) → c.n ≤ node → node ≤ c.n → NoVoteTwice posts → HasProposed c value posts
+    → ((i : ℕ) → i ≢ 0 → own_in i c.n posts ≡ []) → IsGathering c posts team node → IsRun c value posts team 0
+IsRun-start c value posts team node all within once proposed silent gathering = record {
+  is_team = gathering.is_team;
+  places = let e : node ≡ c.n = omega (arith, all, within) in gathering.places ∙ ap (λ (n : ℕ). flat_map (correct_actors c) (range_with_len 0 n)) e;
+  once = once;
+  proposed = proposed;
+  silent = silent;
+  received = λ p m at j below. absurd (omega (arith, below));
+}
+
+-- the actors of the nodes below a number are there, and the desk of node 0 has made its proposal
+pub record IsAssembling (c : Numbers) (value : List ℕ) (book : BookView) (team : List Member) (node : ℕ) : Type 0 where
+  pub config : book.config ≡ c
+  pub behind : 1 ≤ node
+  pub gathering : IsGathering book.config book.posts team node
+  pub once : NoVoteTwice book.posts
+  pub proposed : HasProposed book.config value book.posts
+  pub silent : (i : ℕ) → i ≢ 0 → own_in i book.config.n book.posts ≡ []
+
+NoVoteTwice-nil : (posts : List Post) → posts ≡ [] → NoVoteTwice posts
+NoVoteTwice-nil posts empty = subst (λ (ps : List Post). NoVoteTwice ps) (sym empty) (λ i x. tt)
+
+-- the actors of node 0
+pub IsAssembling-start : (value : List ℕ) (book0 book : BookView) (lane desk : Member) (team : List Member) → book0.posts ≡ [] → is_in book0.config.liars 0 ≡ false → 1 ≤ book0.config.n
+    → Moved 0 book0.config.n book0 book → (NoVoteTwice book0.posts → NoVoteTwice book.posts)
+    → ((own_in 0 book0.config.n book.posts ≡ []) ⊎ (own_in 0 book0.config.n book.posts ≡ Propose 0 value ∷ []))
+    → IsMember book.config book.posts desk → (desk.node ≡ 0) × (desk.actor ≡ book0.config.n) → IsMember book.config book.posts lane → (lane.node ≡ 0) × (lane.actor ≡ 0)
+    → team ≡ lane ∷ desk ∷ [] → IsAssembling book0.config value book team 1
+IsAssembling-start value book0 book lane desk team empty correct some moved once proposes desk_member desk_place lane_member lane_place is =
+    let n_is : book.config.n ≡ book0.config.n = ap (λ (c : Numbers). c.n) moved.config in
+    record {
+      config = moved.config;
+      behind = omega arith;
+      gathering = subst (λ (members : List Member). IsGathering book.config book.posts members 1) (sym is)
+          (IsGathering-start book.config book.posts lane desk (ap (λ (c : Numbers). is_in c.liars 0) moved.config ∙ correct) (omega (arith, some, n_is))
+          (λ i. own_of_others book0 book 0 book0.config.n i 0 empty moved (λ node actor. omega (arith, actor, some)))
+          lane_member lane_place.0 lane_place.1 desk_member desk_place.0 (desk_place.1 ∙ sym n_is));
+      once = once (NoVoteTwice-nil book0.posts empty);
+      proposed = subst (λ (n : ℕ). (own_in 0 n book.posts ≡ []) ⊎ (own_in 0 n book.posts ≡ Propose 0 value ∷ [])) (sym n_is) proposes;
+      silent = λ i apart. own_of_others book0 book 0 book0.config.n i book.config.n empty moved (λ node actor. apart node);
+    }
+
+-- a node more
+pub IsAssembling-step : (c : Numbers) (value : List ℕ) (book book' : BookView) (team team' : List Member) (node : ℕ) → IsAssembling c value book team node → book' ≡ book
+    → IsGathering book.config book.posts team' (node + 1) → IsAssembling c value book' team' (node + 1)
+IsAssembling-step c value book book' team team' node assembling same gathering = subst (λ (b : BookView). IsAssembling c value b team' (node + 1)) (sym same)
+    (record {
+      config = assembling.config;
+      behind = omega (arith, assembling.behind);
+      gathering = gathering;
+      once = assembling.once;
+      proposed = assembling.proposed;
+      silent = assembling.silent;
+    })
+
+-- the same of a book that is equal
+pub IsAssembling-same : {c : Numbers} {value : List ℕ} {book book' : BookView} {team : List Member} {node : ℕ} → book' ≡ book → IsAssembling c value book team node → IsAssembling c value book' team node
+IsAssembling-same {c = c} {value = value} {team = team} {node = node} same assembling = subst (λ (b : BookView). IsAssembling c value b team node) (sym same) assembling

@@ -1,0 +1,9 @@
+use Rattle.std.specs.Prelude.{◌^◌, ◌-◌}
+use Rattle.hb_app.proofs.Runs.{IsDeliveringAll}
+use Rattle.hb_app.proofs.driver.deliver_all.Given as goal
+
+abbrev pub invariant-posts : goal.invariant-posts
+invariant-posts l = IsDeliveringAll l.fn.book l.fn.team.items l.book l.team.items l.k
+
+abbrev pub decreases-posts : goal.decreases-posts
+decreases-posts l = 2 ^ 22 - l.k

@@ -1,0 +1,13 @@
+use Rattle.std.proofs.Common.{◌≡◌, ◌+◌, ◌-◌, vec_len}
+use Rattle.std.specs.Io.KnownBytes.{Consumes}
+use Rattle.hb_app.specs.Input.{most_input}
+use Rattle.hb_app.proofs.input.read_input.Given as goal
+
+abbrev pub invariant-pieces : goal.invariant-pieces
+invariant-pieces g l = record {
+  quiet : g.S.Source.faults l.source ≡ g.S.Source.faults l.fn.source;
+  taken : Consumes (g.S.Source.left l.fn.source) (g.S.Source.left l.source) l.bytes.items;
+}
+
+abbrev pub decreases-pieces : goal.decreases-pieces
+decreases-pieces g l = most_input + 1 - vec_len l.bytes

@@ -1,0 +1,31 @@
+-- What a run of one broadcast comes to.
+use Rattle.std.specs.Prelude.{◌≡◌, ℕ, ◌≤◌, false, List, [], ◌∷◌, length, replicate, Contains}
+use Rattle.hb_rules.specs.declared.vote.Vote.TheVariants.{Delivered}
+use Rattle.hb_rules.specs.declared.post.Post.{Post}
+use Rattle.hb_rules.specs.declared.report.Report.{Report}
+use Rattle.hb_rules.specs.Hearing.{own_in}
+use Rattle.hb_rules.specs.History.{IsLegal}
+use Rattle.hb_rules.specs.Report.{NoVoteTwice, IsQuiet, status_of}
+use Rattle.hb_app.specs.declared.scenario.Scenario.{Scenario}
+
+-- a scenario of one broadcast among correct nodes
+pub record IsPlain (s : Scenario) : Type 0 where
+  pub node : s.submit.node ≡ 0
+  pub tx : length s.submit.tx ≤ 256
+  pub epochs : s.config.epochs ≡ 1
+  pub liars : s.config.liars ≡ replicate 16 false
+
+-- every value that an actor has delivered is this one
+pub record Agree (value : List ℕ) (history : List Post) : Type 0 where
+  pub on : (i x e : ℕ) (v : List ℕ) → Contains (own_in i x history) (Delivered e v) → v ≡ value
+
+-- The report of a run of a scenario: its history is legal, no vote of an actor stands in it twice, nothing is left to do,
+-- and every delivered value is the one that was submitted.
+pub record IsRunOf (s : Scenario) (report : Report) : Type 0 where
+  pub config : report.config ≡ s.config
+  pub submit : report.submit.items ≡ s.submit ∷ []
+  pub legal : IsLegal report.config report.history.items
+  pub once : NoVoteTwice report.history.items
+  pub quiet : IsQuiet report
+  pub agreed : Agree s.submit.tx report.history.items
+  pub status : report.status ≡ status_of report.ends.items
