@@ -1,0 +1,4 @@
+pub mod Codeword
+pub mod Frame
+pub mod Column
+pub mod Rebuilding

@@ -1,0 +1,111 @@
+//! From some shards of a codeword to all of them.
+
+ghost use Rattle.std.specs.Prelude.{◌≡◌, ◌≢◌, ℕ, ◌<◌, ◌≤◌, length, List, MatchOption, IfOk, All, map, take, slice_index, EachIndex};
+ghost use Rattle.gf_field.specs.Field.{field_sum, field_product};
+ghost use Rattle.gf_field.specs.Polynomial.{AreDistinct, AreWeightsAt, sum_of_products};
+ghost use Rattle.rs_shards.specs.Rebuilding.{AreShards, IsRebuilt};
+ghost use Rattle.rs_shards.specs.Column.{indices_of, shard_at, column_of, AreEven};
+
+use gf_field::{interpolate_at, mul};
+use hb_base::Bytes;
+use std::alloc::{AllocError, Global};
+
+/// All n shards of the codeword that has each of these at its index, of a degree below their number.
+/// A given shard is copied, and each other one is the sum of the given ones, each times a weight.
+pub fn complete(alloc: Global, n: u8, got: &[(u8, Bytes)]) -> Result<Vec<Bytes>, AllocError>
+    requires some { 0 < length got.now }
+    requires shards { AreShards n got.now }
+    requires even { AreEven got.now }
+    ensures { IfOk result (λ shards. IsRebuilt n (length got.now) got.now shards.items) }
+{
+    let points = indices(alloc, got)?;
+    let mut shards = Vec::with_capacity(alloc, n as usize)?;
+    for m in 0..n {
+        let shard = match place_of(&points, m) {
+            Some(i) => Bytes::copy(alloc, got[i].1.as_slice())?,
+            None => combination(alloc, &weights(alloc, &points, m)?, got)?,
+        };
+        shards.push(shard)?;
+    }
+    Ok(shards)
+}
+
+/// The first place at which a number stands.
+fn place_of(numbers: &[u8], number: u8) -> Option<usize>
+    ensures { MatchOption result ((i : ℕ) → i < length numbers.now → slice_index numbers.now i ≢ number) (λ i. (i < length numbers.now) × (slice_index numbers.now i ≡ number)) }
+{
+    numbers.iter().position(|other| *other == number)
+}
+
+/// The indices of the shards, in order.
+fn indices(alloc: Global, got: &[(u8, Bytes)]) -> Result<Vec<u8>, AllocError>
+    ensures { IfOk result (λ points. points.items ≡ indices_of got.now) }
+{
+    let mut points = Vec::with_capacity(alloc, got.len())?;
+    for shard in got {
+        points.push(shard.0)?;
+    }
+    Ok(points)
+}
+
+/// For each point the value at `x` of the polynomial that is 1 there and 0 at the other points.
+fn weights(alloc: Global, points: &[u8], x: u8) -> Result<Vec<u8>, AllocError>
+    requires { AreDistinct points.now }
+    ensures len { IfOk result (λ weights. length weights.items ≡ length points.now) }
+    ensures weights { IfOk result (λ weights. AreWeightsAt x points.now weights.items) }
+{
+    let mut unit = vec![in alloc; 0; points.len()]?;
+    let mut weights = Vec::with_capacity(alloc, points.len())?;
+    for i in 0..points.len() {
+        unit[i] = 1;
+        weights.push(interpolate_at(points, &unit, x))?;
+        unit[i] = 0;
+    }
+    Ok(weights)
+}
+
+/// The sum of the shards, each times its weight, byte by byte.
+fn combination(alloc: Global, weights: &[u8], got: &[(u8, Bytes)]) -> Result<Bytes, AllocError>
+    requires some { 0 < length got.now }
+    requires paired { length weights.now ≡ length got.now }
+    requires equal { (i : ℕ) → i < length got.now → length (shard_at got.now i) ≡ length (shard_at got.now 0) }
+    ensures len { IfOk result (λ shard. length shard ≡ length (shard_at got.now 0)) }
+    ensures bytes { IfOk result (λ shard. (column : ℕ) → column < length (shard_at got.now 0) → slice_index shard column ≡ sum_of_products weights.now (column_of got.now column)) }
+{
+    let mut sum = vec![in alloc; 0; got[0].1.as_slice().len()]?;
+    add_combination(&mut sum, weights, got);
+    Ok(Bytes::from(sum))
+}
+
+/// Adds the shards, each times its weight, byte by byte.
+fn add_combination(sum: &mut [u8], weights: &[u8], got: &[(u8, Bytes)])
+    requires paired { length weights.now ≡ length got.now }
+    requires equal { (i : ℕ) → i < length got.now → length (shard_at got.now i) ≡ length sum.old }
+    ensures { (column : ℕ) → column < length sum.old → slice_index sum.new column ≡ field_sum (slice_index sum.old column) (sum_of_products weights.now (column_of got.now column)) }
+{
+    for i in 0..got.len() {
+        add_multiple(sum, weights[i], got[i].1.as_slice());
+    }
+}
+
+/// Adds a multiple of a shard, byte by byte.
+fn add_multiple(sum: &mut [u8], weight: u8, shard: &[u8])
+    requires { length sum.old ≡ length shard.now }
+    ensures { (i : ℕ) → i < length shard.now → slice_index sum.new i ≡ field_sum (slice_index sum.old i) (field_product weight (slice_index shard.now i)) }
+{
+    let row = multiples(weight);
+    for i in 0..sum.len() {
+        sum[i] ^= row[shard[i] as usize];
+    }
+}
+
+/// The products of an element with all others.
+fn multiples(weight: u8) -> [u8; 256]
+    ensures { (b : ℕ) → b < 256 → slice_index result b ≡ field_product weight b }
+{
+    let mut row = [0; 256];
+    for b in 0..row.len() {
+        row[b] = mul(weight, b as u8);
+    }
+    row
+}

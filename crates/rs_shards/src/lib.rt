@@ -1,0 +1,174 @@
+//! The erasure code: a value is framed and cut into k data shards, and n shards in all are such that any k of
+//! them give back the rest. Each column of bytes is a polynomial of a degree below k over the field of 256
+//! elements, whose value at m is the byte of shard m (Reed and Solomon 1960).
+#![tactic(auto)]
+
+ghost use Rattle.std.specs.Prelude.{◌≡◌, ℕ, ◌+◌, ◌*◌, ◌/◌, ◌<◌, ◌≤◌, length, IfOk, map, take, All, ◌^◌, IfSome, IsNone, MatchResult, MatchOption, slice_index, ◌==◌, IsTrue};
+ghost use Rattle.std.specs.List.{list_all};
+ghost use Rattle.rs_shards.specs.Column.{AreEven};
+ghost use Rattle.rs_shards.specs.Codeword.{IsCodeword, data_of};
+ghost use Rattle.rs_shards.specs.Frame.{frame, framed_value, value_in, is_frame, stated_length};
+ghost use Rattle.rs_shards.specs.Rebuilding.{AreShards, lengths, other_length, IsRebuilt};
+
+mod completing;
+mod fault;
+mod laws;
+
+use completing::complete;
+pub use fault::RsFault;
+use hb_base::Bytes;
+pub use laws::{codeword_laws, frame_laws};
+use std::alloc::{AllocError, Global};
+
+/// The most bytes that a value may have.
+pub const LONGEST_VALUE: usize = 16_514;
+
+/// The n shards of a value: the codeword whose first k shards, put together, are the frame of the value.
+/// The shards have one length.
+pub fn encode(alloc: Global, n: u8, k: u8, value: &[u8]) -> Result<Vec<Bytes>, AllocError>
+    requires some { 1 ≤ k }
+    requires within { k ≤ n }
+    requires few { n ≤ 16 }
+    requires short { length value.now ≤ LONGEST_VALUE }
+    ensures codeword { IfOk result (λ shards. IsCodeword n k shards.items) }
+    ensures framed { IfOk result (λ shards. data_of k shards.items ≡ frame k value.now) }
+{
+    let frame = framed(alloc, k, value)?;
+    let width = frame.len() / k as usize;
+    let mut pieces = Vec::with_capacity(alloc, k as usize)?;
+    for i in 0..k {
+        let start = i as usize * width;
+        pieces.push((i, Bytes::copy(alloc, &frame[start..start + width])?))?;
+    }
+    complete(alloc, n, &pieces)
+}
+
+/// All n shards of the one codeword that has the first k of the given shards, each at its index. What is
+/// given beyond these is not looked at. The first that holds is answered:
+/// `TooFew` where fewer than k shards are given, with both numbers; `Lengths` where among the first k one
+/// has another length than the first, with the two lengths, at the first such; `Memory`.
+pub fn rebuild(alloc: Global, n: u8, k: u8, got: &[(u8, Bytes)]) -> Result<Vec<Bytes>, RsFault>
+    requires some { 1 ≤ k }
+    requires within { k ≤ n }
+    requires few { n ≤ 16 }
+    requires shards { AreShards n got.now }
+    requires short { All (λ x. length x.1 < 2 ^ 32) got.now }
+    ensures too_few { length got.now < k → result ≡ Err (RsFault.TooFew (length got.now) k) }
+    ensures unequal { k ≤ length got.now → IfSome (other_length (take k got.now)) (λ other. result ≡ Err (RsFault.Lengths (slice_index (lengths got.now) 0) other)) }
+    ensures rebuilt { k ≤ length got.now → IsNone (other_length (take k got.now)) → MatchResult result (λ shards. IsRebuilt n k got.now shards.items) (λ fault. fault ≡ RsFault.Memory) }
+{
+    if got.len() < k as usize {
+        return Err(RsFault::TooFew {
+            have: got.len() as u8,
+            need: k,
+        });
+    }
+    let first = &got[..k as usize];
+    if let Some((a, b)) = unequal_lengths(first) {
+        return Err(RsFault::Lengths { a, b });
+    }
+    match complete(alloc, n, first) {
+        Ok(shards) => Ok(shards),
+        Err(_) => Err(RsFault::Memory),
+    }
+}
+
+/// The value whose frame the first k shards, put together, are; the empty value where they are no frame.
+pub fn value_of(alloc: Global, k: u8, shards: &[Bytes]) -> Result<Bytes, AllocError>
+    requires { k ≤ length shards.now }
+    ensures { IfOk result (λ value. value ≡ framed_value k shards.now) }
+{
+    let mut data = Vec::new(alloc);
+    for shard in &shards[..k as usize] {
+        data.extend_from_slice(shard.as_slice())?;
+    }
+    Bytes::copy(alloc, value_in_frame(k, &data))
+}
+
+/// The frame of a value: its length in four bytes, the highest first, the value, and the fewest zero bytes
+/// that make it a multiple of k bytes.
+fn framed(alloc: Global, k: u8, value: &[u8]) -> Result<Vec<u8>, AllocError>
+    requires some { 1 ≤ k }
+    requires short { length value.now ≤ LONGEST_VALUE }
+    ensures { IfOk result (λ bytes. bytes.items ≡ frame k value.now) }
+{
+    let k = k as usize;
+    let len = 4 + value.len();
+    let mut frame = Vec::with_capacity(alloc, len + k)?;
+    frame.extend_from_slice(&(value.len() as u32).to_be_bytes())?;
+    frame.extend_from_slice(value)?;
+    for _ in 0..(k - len % k) % k {
+        frame.push(0)?;
+    }
+    Ok(frame)
+}
+
+/// The value in a frame, or the empty value where the frame is false.
+fn value_in_frame(k: u8, frame: &[u8]) -> &[u8]
+    ensures { result.now ≡ value_in k frame.now }
+{
+    if is_frame(k, frame) {
+        let end = 4 + stated_length(frame);
+        &frame[4..end]
+    } else {
+        &[]
+    }
+}
+
+/// Whether these bytes are the frame of a value for k data shards.
+fn is_frame(k: u8, bytes: &[u8]) -> bool
+    ensures value { result ≡ is_frame k bytes.now }
+    ensures inside { IsTrue result → 4 + stated_length bytes.now ≤ length bytes.now }
+{
+    if bytes.len() < 4 {
+        return false;
+    }
+    let len = stated_length(bytes);
+    if len > LONGEST_VALUE {
+        return false;
+    }
+    if bytes.len() < 4 + len {
+        return false;
+    }
+    let rest = &bytes[4 + len..];
+    if rest.len() >= k as usize {
+        return false;
+    }
+    are_zero(rest)
+}
+
+/// Whether each byte is zero.
+fn are_zero(bytes: &[u8]) -> bool
+    ensures { result ≡ list_all (λ b. b == 0) bytes.now }
+{
+    bytes.iter().all(|byte| *byte == 0)
+}
+
+/// The length that the first four bytes state.
+fn stated_length(bytes: &[u8]) -> usize
+    requires { 4 ≤ length bytes.now }
+    ensures value { result ≡ stated_length bytes.now }
+    ensures bound { result < 2 ^ 32 }
+{
+    u32::from_be_bytes([bytes[0], bytes[1], bytes[2], bytes[3]]) as usize
+}
+
+/// The length of the first shard, and the first length that differs from it, if one does.
+// Where none does, each byte was read, and so is known to be one.
+fn unequal_lengths(shards: &[(u8, Bytes)]) -> Option<(u32, u32)>
+    requires some { 0 < length shards.now }
+    requires short { All (λ x. length x.1 < 2 ^ 32) shards.now }
+    ensures { MatchOption result ((other_length shards.now ≡ None) × AreEven shards.now) (λ two. (two.0 ≡ slice_index (lengths shards.now) 0) × (other_length shards.now ≡ Some two.1)) }
+{
+    let a = shards[0].1.as_slice().len();
+    for shard in shards {
+        let bytes = shard.1.as_slice();
+        if bytes.len() != a {
+            return Some((a as u32, bytes.len() as u32));
+        }
+    }
+    None
+}
+
+#[cfg(test)]
+mod tests;
