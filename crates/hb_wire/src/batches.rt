@@ -1,0 +1,147 @@
+//! Batches of transactions as bytes.
+
+ghost use Rattle.std.specs.Prelude.{◌≡◌, ℕ, ◌++◌, ◌∷◌, ◌≤◌, ◌<◌, ◌^◌, List, [], length, drop, take, slice_index_or, IfOk, OnOk, IfSome};
+ghost use Rattle.std.specs.List.{flat_map};
+ghost use Rattle.std.specs.Int.{w16, to_be_bytes};
+ghost use Rattle.hb_wire.specs.Reading.{Shows};
+ghost use Rattle.hb_wire.specs.Batches.{IsBatch, batch_bytes, transaction_bytes, short_at, transaction_at, transactions_at, after_transactions, count_at, batch_of};
+
+use crate::scanning::block_of;
+use hb_base::Bytes;
+use std::alloc::{AllocError, Global};
+
+/// The most transactions of a batch.
+pub const MAX_BATCH: u16 = 64;
+
+/// The longest transaction, in bytes.
+pub const MAX_TRANSACTION: u16 = 256;
+
+// A number of 2 bytes, and the bytes after it.
+fn short_of(bytes: &[u8]) -> Option<(u16, &[u8])>
+    ensures { Shows (λ x. (x.0, x.1.now)) result (short_at bytes.now) }
+{
+    if bytes.len() < 2 {
+        return None;
+    }
+    let (front, rest) = bytes.split_at(2);
+    Some((u16::from_be_bytes([front[0], front[1]]), rest))
+}
+
+// A transaction, and the bytes after it.
+#[tactic(auto, unfolding(crate::specs::Batches::transaction_at))]
+fn transaction_of(bytes: &[u8]) -> Option<(&[u8], &[u8])>
+    ensures { Shows (λ x. (x.0.now, x.1.now)) result (transaction_at bytes.now) }
+{
+    let (len, rest) = short_of(bytes)?;
+    if len < 1 || MAX_TRANSACTION < len {
+        return None;
+    }
+    block_of(len as usize, rest)
+}
+
+// The bytes behind so many transactions.
+#[tactic(auto, using(crate::proofs::BatchLemmas::transactions_stop, crate::proofs::BatchLemmas::transactions_end))]
+fn after_transactions_of(count: u16, bytes: &[u8]) -> Option<&[u8]>
+    ensures { Shows (λ rest. rest.now) result (after_transactions count bytes.now) }
+{
+    let mut rest = bytes;
+    'transactions: for _ in 0..count {
+        let (_, after) = transaction_of(rest)?;
+        rest = after;
+    }
+    Some(rest)
+}
+
+// How many transactions the batch has, if the bytes are one.
+#[tactic(auto, unfolding(crate::specs::Batches::count_at))]
+fn count_of(bytes: &[u8]) -> Option<u16>
+    ensures shows { Shows (λ count. count) result (count_at bytes.now) }
+    ensures few { IfSome result (λ count. count ≤ 64) }
+{
+    let (count, rest) = short_of(bytes)?;
+    if MAX_BATCH < count {
+        return None;
+    }
+    let rest = after_transactions_of(count, rest)?;
+    if rest.is_empty() { Some(count) } else { None }
+}
+
+/// The length of the list that `read_batch` gives.
+pub fn batch_len(bytes: &[u8]) -> u8
+    ensures exact { result ≡ length (batch_of bytes.now) }
+
+    // Bytes from which a transaction is read are the spelling of all that are read.
+    ensures spelled { 0 < result → IsBatch (batch_of bytes.now) × (bytes.now ≡ batch_bytes (batch_of bytes.now)) }
+{
+    match count_of(bytes) {
+        Some(count) => count as u8,
+        None => 0,
+    }
+}
+
+/// Transaction t of the batch.
+pub fn batch_at(bytes: &[u8], t: u8) -> &[u8]
+    requires { t < length (batch_of bytes.now) }
+    ensures { (d : List ℕ) → slice_index_or (batch_of bytes.now) t d ≡ result.now }
+{
+    let left = &bytes[2..];
+    let Some(left) = after_transactions_of(t as u16, left) else {
+        return left;
+    };
+    match transaction_of(left) {
+        Some((transaction, _)) => transaction,
+        None => left,
+    }
+}
+
+// A copy of each of so many transactions, which stand there.
+fn transactions_of(alloc: Global, count: u8, bytes: &[u8]) -> Result<Vec<Bytes>, AllocError>
+    ensures { (x : List (List ℕ) × List ℕ) → transactions_at count bytes.now ≡ Some x → IfOk result (λ batch. batch.items ≡ x.0) }
+{
+    let mut batch = Vec::with_capacity(alloc, count as usize)?;
+    let mut left = bytes;
+    'transactions: for _ in 0..count {
+        let Some((transaction, after)) = transaction_of(left) else {
+            return Ok(batch);
+        };
+        batch.push(Bytes::copy(alloc, transaction)?)?;
+        left = after;
+    }
+    Ok(batch)
+}
+
+/// The transactions of the batch that the bytes are: none where they are no batch.
+pub fn read_batch(alloc: Global, bytes: &[u8]) -> Result<Vec<Bytes>, AllocError>
+    ensures { IfOk result (λ batch. batch.items ≡ batch_of bytes.now) }
+{
+    match batch_len(bytes) {
+        0 => Ok(Vec::new(alloc)),
+        count => transactions_of(alloc, count, &bytes[2..]),
+    }
+}
+
+/// The bytes of a batch, from which the same transactions are read.
+pub fn write_batch(alloc: Global, batch: &[Bytes]) -> Result<Bytes, AllocError>
+    requires { IsBatch batch.now }
+    ensures spelled { IfOk result (λ bytes. bytes ≡ batch_bytes batch.now) }
+    ensures read_back { IfOk result (λ bytes. batch_of bytes ≡ batch.now) }
+{
+    let mut size: usize = 2;
+    for transaction in batch {
+        size = size
+            .saturating_add(2)
+            .saturating_add(transaction.as_slice().len());
+    }
+    let mut out = Vec::with_capacity(alloc, size)?;
+    out.extend_from_slice(&(batch.len() as u16).to_be_bytes())?;
+    'transactions: for transaction in batch {
+        out.extend_from_slice(&(transaction.as_slice().len() as u16).to_be_bytes())?;
+        out.extend_from_slice(transaction.as_slice())?;
+    }
+    Ok(Bytes::from(out))
+}
+
+/// A batch is read from its spelling.
+pub fn one_batch()
+    ensures { (batch : List (List ℕ)) → IsBatch batch → batch_of (batch_bytes batch) ≡ batch }
+{}

@@ -1,0 +1,54 @@
+//! What can be seen of a vote's bytes without a copy.
+
+ghost use Rattle.std.specs.Prelude.{◌≡◌, ℕ, ◌∷◌, ◌≤◌, ◌<◌, List, length, slice_index_or, IfSome, IfNone, IsSomeAnd};
+ghost use Rattle.hb_wire.specs.declared.items.Item.{Item};
+ghost use Rattle.hb_wire.specs.declared.vote.Vote.{Vote};
+ghost use Rattle.hb_wire.specs.declared.vote.Vote.TheVariants.{Closed};
+ghost use Rattle.hb_wire.specs.Votes.{Spells, kind_of, epoch_of};
+ghost use Rattle.hb_wire.specs.Glances.{IsGlance, HasItemAt, IsClosedRest};
+ghost use Rattle.hb_wire.specs.Lending.{item as item_of, IsList, listed};
+
+use crate::glimpse::Glance;
+use crate::reading::front_item;
+use crate::scanning::scan;
+
+/// What stands at the front of the bytes, if they spell a vote among n nodes under this version.
+pub fn glance<'a>(n: u8, version: u8, bytes: &'a [u8]) -> Option<Glance<'a>>
+    requires some { 1 ≤ n }
+    requires few { n ≤ 16 }
+    ensures found { IfSome result (λ g. (vote : Vote) × Spells n version bytes.now vote × IsGlance bytes.now vote g.kind g.epoch g.rest.now) }
+
+    // Each vote that is spelled is seen.
+    ensures only { (vote : Vote) → Spells n version bytes.now vote → IsSomeAnd result (λ g. IsGlance bytes.now vote g.kind g.epoch g.rest.now) }
+{
+    match scan(n, version, bytes) {
+        None => None,
+        Some(_) => Some(Glance {
+            kind: bytes[0],
+            epoch: bytes[1],
+            rest: &bytes[2..],
+        }),
+    }
+}
+
+// Item j of a list, with the count in front.
+fn nth_item(list: &[u8], j: u8) -> (u8, &[u8])
+    requires whole { IsList list.now }
+    requires inside { j < slice_index_or list.now 0 0 }
+    ensures { (d : Item) → slice_index_or (listed list.now) j d ≡ item_of result.0 result.1.now }
+{
+    let mut left = &list[1..];
+    'items: for _ in 0..j {
+        left = front_item(left).1;
+    }
+    front_item(left).0
+}
+
+/// The node and the value of item j of a closed vote, of which `rest` is what stands behind the
+/// first two bytes.
+pub fn item(rest: &[u8], j: u8) -> (u8, &[u8])
+    requires { HasItemAt rest.now j }
+    ensures { (items : List Item) → IsClosedRest rest.now items → (d : Item) → slice_index_or items j d ≡ item_of result.0 result.1.now }
+{
+    nth_item(rest, j)
+}

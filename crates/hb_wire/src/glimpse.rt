@@ -1,0 +1,9 @@
+//! The type of what a glance gives.
+
+/// The kind and the epoch of a vote, and the bytes behind them.
+#[derive(Clone, Copy, Debug)]
+pub struct Glance<'a> {
+    pub kind: u8,
+    pub epoch: u8,
+    pub rest: &'a [u8],
+}

@@ -1,0 +1,56 @@
+//! Posts of a history, and whom they reach.
+
+ghost use Rattle.std.specs.Prelude.{◌≡◌};
+ghost use Rattle.hb_wire.specs.Addresses.{reaches};
+
+use crate::vote::To;
+use hb_base::Bytes;
+use std::alloc::AllocError;
+
+/// One entry of a history: what an actor of a node has posted, and where it goes. Lanes are the
+/// actors below n, the desk is actor n. The book puts the sender's name; a liar chooses the rest.
+#[derive(Debug, PartialEq, Eq, Drop)]
+pub struct Post {
+    pub from: u8,
+    pub actor: u8,
+    pub to: To,
+    pub bytes: Bytes,
+}
+
+impl Clone for Post {
+    ghost is_clone = { λ post copy. copy ≡ post };
+
+    fn clone(&self) -> Result<Post, AllocError> {
+        Ok(Post {
+            from: self.from,
+            actor: self.actor,
+            to: self.to,
+            bytes: self.bytes.clone()?,
+        })
+    }
+}
+
+/// What a liar posts under its node's name.
+#[derive(Debug, PartialEq, Eq, Drop)]
+pub struct Lie {
+    pub node: u8,
+    pub actor: u8,
+    pub to: To,
+    pub bytes: Bytes,
+}
+
+/// Whether a post reaches this actor of this node, among n nodes.
+pub fn reaches(n: u8, post: &Post, node: u8, actor: u8) -> bool
+    ensures { result ≡ reaches n post.now node actor }
+{
+    match post.to {
+        To::Book => false,
+        To::Home => {
+            let to_desk = post.actor < n && actor == n;
+            let to_lane = post.actor == n && actor < n;
+            node == post.from && (to_desk || to_lane)
+        }
+        To::All => actor == post.actor,
+        To::Node(target) => actor == post.actor && node == target,
+    }
+}

@@ -1,0 +1,177 @@
+//! Trees that keep all their digests.
+
+ghost use Rattle.std.specs.Prelude.{◌≡◌, ℕ, ◌+◌, ◌-◌, ◌*◌, ◌^◌, ◌<◌, ◌≤◌, List, [], ◌∷◌, ◌++◌, length, take, drop, replicate, slice_index_or, OnOk, IfOk, IsTrue, ◌↔◌};
+ghost use Rattle.merkle_branch.specs.Digests.{no_digest, leaf_digest, leaf_digests, root_of, tree_root, height as height_of, sibling, siblings_from};
+ghost use Rattle.merkle_branch.specs.Branches.{IsBranch, IsPadded, branch_of};
+ghost use Rattle.merkle_branch.specs.Shapes.{IsPaddedTo16, HasAllLevels, HasParents};
+
+use crate::{Branch, MAX_HEIGHT, MAX_LEAVES, hash_inner, hash_leaf, height};
+use std::alloc::{AllocError, Global};
+use std::marker::Model;
+
+/// The digests of up to 16 leaves. A contract sees the list of them.
+#[derive(Drop)]
+pub struct Leaves {
+    count: u8,
+    digests: [[u8; 32]; MAX_LEAVES],
+}
+
+impl Model for Leaves {
+    ghost use Rattle.std.specs.Prelude.{ℕ, List, take};
+    ghost use Rattle.merkle_branch.specs.Shapes.{IsPaddedTo16};
+
+    ghost Value = { List (List ℕ) };
+
+    ghost view = { λ l. take l.count l.digests };
+
+    ghost invariant = { λ l. IsPaddedTo16 l.count l.digests };
+}
+
+impl Leaves {
+    /// No leaf.
+    pub fn new() -> Leaves
+        ensures { result ≡ [] }
+    {
+        Leaves {
+            count: 0,
+            digests: [[0; 32]; MAX_LEAVES],
+        }
+    }
+
+    /// How many leaves were added.
+    pub fn len(&self) -> u8
+        ensures exact { result ≡ length self.now }
+        ensures few { result ≤ 16 }
+    {
+        self.count
+    }
+
+    /// Whether no leaf was added.
+    pub fn is_empty(&self) -> bool
+        ensures { IsTrue result ↔ (self.now ≡ []) }
+    {
+        self.count == 0
+    }
+
+    /// Adds the next leaf.
+    pub fn add(&mut self, leaf: &[u8])
+        requires { length self.old < 16 }
+        ensures digest { self.new ≡ self.old ++ leaf_digest (length self.old) leaf.now ∷ [] }
+
+        // What holds the digests of these leaves holds those of these and the new one.
+        ensures leaves { (leaves : List (List ℕ)) → self.old ≡ leaf_digests leaves → self.new ≡ leaf_digests (leaves ++ leaf.now ∷ []) }
+    {
+        self.digests[self.count as usize] = hash_leaf(self.count, leaf);
+        self.count += 1;
+    }
+}
+
+/// A tree with all its digests. A contract sees the list of its leaves' digests.
+#[derive(Drop)]
+pub struct Tree {
+    count: u8,
+    height: u8,
+
+    // The digests level by level, the leaves' first, each level behind the one below it.
+    nodes: Vec<[u8; 32]>,
+}
+
+impl Model for Tree {
+    ghost use Rattle.std.specs.Prelude.{ℕ, List, take};
+    ghost use Rattle.merkle_branch.specs.Shapes.{HasAllLevels};
+
+    ghost Value = { List (List ℕ) };
+
+    ghost view = { λ t. take t.count t.nodes.items };
+
+    ghost invariant = { λ t. HasAllLevels t.count t.height t.nodes.items };
+}
+
+// The number of positions for leaves in a tree of this height.
+fn width_of(height: u8) -> usize
+    requires { height ≤ 4 }
+    ensures exact { result ≡ 2 ^ height }
+    ensures some { 1 ≤ result }
+    ensures small { result ≤ 16 }
+{
+    1 << height
+}
+
+// The other child of the same parent.
+fn sibling_of(position: usize) -> usize
+    requires { position < 16 }
+    ensures { result ≡ sibling position }
+{
+    if position % 2 == 0 {
+        position + 1
+    } else {
+        position - 1
+    }
+}
+
+// Puts the levels above the leaves behind them: the parent of each two neighbours, in order.
+fn push_parents(nodes: &mut Vec<[u8; 32]>) -> Result<(), AllocError>
+    requires some { 1 ≤ length nodes.old.items }
+    requires few { length nodes.old.items ≤ 16 }
+    ensures size { OnOk result (length nodes.new.items + 1 ≡ 2 * length nodes.old.items) }
+    ensures leaves { OnOk result (take (length nodes.old.items) nodes.new.items ≡ nodes.old.items) }
+    ensures parents { OnOk result (HasParents (length nodes.old.items) nodes.new.items) }
+{
+    let width = nodes.len();
+    for i in 0..width - 1 {
+        let parent = hash_inner(&nodes[2 * i], &nodes[2 * i + 1]);
+        nodes.push(parent)?;
+    }
+    Ok(())
+}
+
+impl Tree {
+    /// The tree over the leaves.
+    pub fn build(alloc: Global, leaves: &Leaves) -> Result<Tree, AllocError>
+        requires { 0 < length leaves.now }
+        ensures { IfOk result (λ tree. tree ≡ leaves.now) }
+    {
+        let height = height(leaves.count);
+        let width = width_of(height);
+        let mut nodes = Vec::with_capacity(alloc, 2 * width - 1)?;
+        nodes.extend_from_slice(&leaves.digests[..width])?;
+        push_parents(&mut nodes)?;
+        Ok(Tree {
+            count: leaves.count,
+            height,
+            nodes,
+        })
+    }
+
+    /// The digest at the top.
+    pub fn root(&self) -> [u8; 32]
+        ensures { result ≡ root_of self.now }
+    {
+        self.nodes[self.nodes.len() - 1]
+    }
+
+    /// The siblings on the way from leaf m to the root.
+    pub fn branch(&self, m: u8) -> Branch
+        requires { m < length self.now }
+        ensures exact { result ≡ branch_of self.now m }
+        ensures padded { IsPadded result }
+
+        // It leads from leaf m of the tree's leaves to its root.
+        ensures valid { (leaves : List (List ℕ)) → self.now ≡ leaf_digests leaves → IsBranch (tree_root leaves) (length leaves) m (slice_index_or leaves m []) result }
+    {
+        let mut digests = [[0; 32]; MAX_HEIGHT];
+        let mut position = m as usize;
+        let mut width = width_of(self.height);
+        let mut start = 0;
+        for level in 0..self.height as usize {
+            digests[level] = self.nodes[start + sibling_of(position)];
+            start += width;
+            width /= 2;
+            position /= 2;
+        }
+        Branch {
+            len: self.height,
+            digests,
+        }
+    }
+}
