@@ -1,0 +1,8 @@
+pub mod Image
+pub mod Disk
+pub mod Cause
+pub mod Supply
+pub mod Area
+pub mod Halves
+pub mod Memory
+pub mod Laws

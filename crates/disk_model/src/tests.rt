@@ -1,0 +1,102 @@
+ghost use Rattle.std.specs.Prelude.{◌≡◌, IfOk};
+
+use crate::{Disk, DiskFault, Half, Leave, MemoryDisk, Plan, Power, Stop};
+use std::alloc::Global;
+use std::test::Fail;
+
+fn planned(alloc: Global, stops: &[Stop], faults: &[u32]) -> Result<Plan, Fail>
+    ensures { IfOk result (λ plan. plan.stops.items ≡ stops.now) }
+{
+    Ok(Plan {
+        stops: stops.to_vec(alloc)?,
+        faults: faults.to_vec(alloc)?,
+    })
+}
+
+// A write, and the power goes off at the sync after it.
+#[test]
+fn a_stop_leaves_old_new_or_torn(rt: HostRuntime) -> Result<(), Fail> {
+    let alloc = rt.alloc();
+    for (leave, want) in [
+        (Leave::Old, [9, 9, 9]),
+        (Leave::New, [1, 2, 3]),
+        (Leave::Torn, [1, 0x5A, 3]),
+    ] {
+        let mut disk = MemoryDisk::new(alloc, planned(alloc, &[Stop { call: 2, leave }], &[])?);
+        assert_eq!(rt; disk.note().calls(), 0);
+        disk.write_at(Half::A, 0, &[1, 2, 3])?;
+        assert_eq!(rt; disk.stops_left(), 1);
+        assert_eq!(rt; disk.sync(), Err(DiskFault::Failed));
+        assert_eq!(rt; disk.stops_left(), 0);
+        assert_eq!(rt; disk.read(Half::A, 0, &mut [0; 3]), Err(DiskFault::Failed));
+        assert_eq!(rt; disk.note().calls(), 2);
+        assert!(rt; disk.is_off());
+        disk.switch_on()?;
+        let mut bytes = [9; 3];
+        disk.read(Half::A, 0, &mut bytes)?;
+        assert_eq!(rt; bytes, want);
+        assert_eq!(rt; disk.note().calls(), 3);
+    }
+    Ok(())
+}
+
+// Calls 1 and 3 fail; what was written before the sync that failed is torn by the stop at call 4.
+#[test]
+fn a_fault_changes_nothing(rt: HostRuntime) -> Result<(), Fail> {
+    let alloc = rt.alloc();
+    let stop = Stop {
+        call: 4,
+        leave: Leave::Torn,
+    };
+    let mut disk = MemoryDisk::new(alloc, planned(alloc, &[stop], &[1, 3, 4])?);
+    assert_eq!(rt; disk.write_at(Half::B, 0, &[5]), Err(DiskFault::Failed));
+    assert!(rt; !disk.is_off());
+    disk.write_at(Half::B, 0, &[1, 2, 3, 4])?;
+    assert_eq!(rt; disk.sync(), Err(DiskFault::Failed));
+    assert!(rt; !disk.is_off());
+    assert_eq!(rt; disk.sync(), Err(DiskFault::Failed));
+    assert!(rt; disk.is_off());
+    disk.switch_on()?;
+    let mut bytes = [9; 6];
+    assert_eq!(rt; disk.read(Half::B, 0, &mut bytes)?, 4);
+    assert_eq!(rt; bytes, [1, 0x5A, 3, 0x5A, 9, 9]);
+    assert_eq!(rt; disk.read(Half::A, 0, &mut bytes)?, 0);
+    Ok(())
+}
+
+// Three bytes are synced, one is cut off and two are written; the stop is at the next call.
+#[test]
+fn a_cut_comes_back(rt: HostRuntime) -> Result<(), Fail> {
+    let alloc = rt.alloc();
+    for (leave, want) in [
+        (Leave::Old, [1, 2, 3, 9]),
+        (Leave::New, [1, 2, 6, 7]),
+        (Leave::Torn, [1, 2, 6, 0x5A]),
+    ] {
+        let mut disk = MemoryDisk::new(alloc, planned(alloc, &[Stop { call: 5, leave }], &[])?);
+        disk.write_at(Half::A, 0, &[1, 2, 3])?;
+        disk.sync()?;
+        disk.cut(Half::A, 2)?;
+        disk.write_at(Half::A, 2, &[6, 7])?;
+        assert_eq!(rt; disk.sync(), Err(DiskFault::Failed));
+        assert!(rt; disk.is_off());
+        disk.switch_on()?;
+        let mut bytes = [9; 4];
+        disk.read(Half::A, 0, &mut bytes)?;
+        assert_eq!(rt; bytes, want);
+        disk.sync()?;
+    }
+    Ok(())
+}
+
+fn crosses_threads<T: Send + Sync>(_value: &T) {}
+
+#[test]
+fn a_disk_may_go_to_another_thread(rt: HostRuntime) {
+    let alloc = rt.alloc();
+    let plan = Plan {
+        stops: Vec::new(alloc),
+        faults: Vec::new(alloc),
+    };
+    crosses_threads(&MemoryDisk::new(alloc, plan));
+}

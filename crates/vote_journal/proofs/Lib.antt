@@ -1,0 +1,11 @@
+pub mod Moments
+pub mod Blocks
+pub mod Images
+pub mod Tears
+pub mod Gains
+pub mod Says
+pub mod Walk
+pub mod Spelled
+pub mod Starts
+pub mod Arranges
+pub mod Folds

@@ -1,0 +1,26 @@
+use Rattle.std.proofs.Common.{ap, length, arith, List, ℕ}
+use Rattle.std.specs.List.{concat}
+use Rattle.vote_journal.specs.Text.{blocks}
+use Rattle.vote_journal.proofs.Arranges.{opens, arranged_text}
+use Rattle.vote_journal.proofs.journal.Journal.recover.Goals as goal
+
+pub returns-in-Ok-clause-same : goal.returns-in-Ok-clause-same
+returns-in-Ok-clause-same g c = λ sound.
+    (opens c.in-Ok.opened.live (g.D.Disk.seen c.args.disk) (g.D.Disk.seen c.open.new.disk) c.in-Ok.ensures.live (c.in-Ok.ensures.arranged sound)).same
+
+pub returns-in-Ok-clause-text : goal.returns-in-Ok-clause-text
+returns-in-Ok-clause-text g c = λ sound. arranged_text (g.D.Disk.seen c.args.disk) (g.D.Disk.seen c.open.new.disk) sound (c.in-Ok.ensures.arranged sound)
+
+pub returns-in-Ok-clause-usable : goal.returns-in-Ok-clause-usable
+returns-in-Ok-clause-usable g c = λ sound.
+    let o = opens c.in-Ok.opened.live (g.D.Disk.seen c.args.disk) (g.D.Disk.seen c.open.new.disk) c.in-Ok.ensures.live (c.in-Ok.ensures.arranged sound) in
+    let found = c.in-Ok.ensures.found in
+    record {
+      live = o.live;
+      spare = o.spare;
+      durable = c.in-Ok.ensures.durable;
+      gate = omega (arith, found.0, ap (λ (es : List (List ℕ)). length (blocks es)) o.same);
+      small = found.2;
+      count = omega (arith, c.min.ensures, c.len.ensures, ap length c.in-Ok.ensures.entries, ap length o.same);
+      bytes = omega (arith, found.1, ap (λ (es : List (List ℕ)). length (concat es)) o.same);
+    }

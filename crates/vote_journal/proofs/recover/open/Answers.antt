@@ -1,0 +1,38 @@
+use Rattle.std.proofs.Common.{◌∙◌, ap, subst}
+use Rattle.disk_model.specs.declared.disk.Half.{Half}
+use Rattle.disk_model.specs.Image.{Image, other}
+use Rattle.vote_journal.specs.Text.{text_of, SaysOnly}
+use Rattle.vote_journal.specs.Steps.{MayArrange, arranged}
+use Rattle.vote_journal.proofs.Moments.{more_calls}
+use Rattle.vote_journal.proofs.Arranges.{arrange_says, arranged_spells, live_found, both_found, sound_says}
+use Rattle.vote_journal.proofs.recover.open.Goals as goal
+
+pub returns-clause-arranged : goal.returns-clause-arranged
+returns-clause-arranged g c = λ sound.
+    let old = g.D.Disk.seen c.args.disk.now in
+    let a = c.in_ok-found.ensures.a in
+    let b = c.in_ok-found.ensures.b in
+    let live = c.live_of-live.ensures ∙ live_found old c.deref.result.now c.deref-2.result.now (c.deref.ensures.value ∙ a.is) (c.deref-2.ensures.value ∙ b.is) in
+    let both = c.have_both-both.ensures ∙ both_found old c.deref-3.result.now c.deref-4.result.now (c.deref-3.ensures.value ∙ a.is) (c.deref-4.ensures.value ∙ b.is) in
+    arranged_spells c.have_both-both.result old (g.D.Disk.seen c.arrange.new.disk) a.are_bytes b.are_bytes sound both
+    (c.in_ok-arrange.ensures.made ∙ ap (arranged c.have_both-both.result c.other.result) c.survey.ensures.seen ∙ ap (λ (h : Half). arranged c.have_both-both.result h old) (c.other.ensures ∙ ap other live))
+
+pub returns-in_err-arrange-clause-runs : goal.returns-in_err-arrange-clause-runs
+returns-in_err-arrange-clause-runs g c = λ only sound.
+    let old = g.D.Disk.seen c.args.disk.now in
+    let a = c.in_ok-found.ensures.a in
+    let b = c.in_ok-found.ensures.b in
+    let both = c.have_both-both.ensures ∙ both_found old c.deref-3.result.now c.deref-4.result.now (c.deref-3.ensures.value ∙ a.is) (c.deref-4.ensures.value ∙ b.is) in
+    more_calls g.D.Disk.moment g.D.Disk.left_since g.D.Disk.faults g.D.Disk.supply c.args.disk.now c.survey.new.disk c.arrange.new.disk _ _ (SaysOnly (text_of old)) c.survey.ensures.runs c.arrange.ensures.runs
+    (λ image left. sound_says old image sound (only image left))
+    (λ image may. arrange_says c.have_both-both.result c.other.result old image a.are_bytes b.are_bytes sound both (subst (λ (i : Image). MayArrange c.have_both-both.result c.other.result i image) c.survey.ensures.seen may))
+
+pub returns-clause-runs : goal.returns-clause-runs
+returns-clause-runs g c = λ only sound.
+    let old = g.D.Disk.seen c.args.disk.now in
+    let a = c.in_ok-found.ensures.a in
+    let b = c.in_ok-found.ensures.b in
+    let both = c.have_both-both.ensures ∙ both_found old c.deref-3.result.now c.deref-4.result.now (c.deref-3.ensures.value ∙ a.is) (c.deref-4.ensures.value ∙ b.is) in
+    more_calls g.D.Disk.moment g.D.Disk.left_since g.D.Disk.faults g.D.Disk.supply c.args.disk.now c.survey.new.disk c.arrange.new.disk _ _ (SaysOnly (text_of old)) c.survey.ensures.runs c.arrange.ensures.runs
+    (λ image left. sound_says old image sound (only image left))
+    (λ image may. arrange_says c.have_both-both.result c.other.result old image a.are_bytes b.are_bytes sound both (subst (λ (i : Image). MayArrange c.have_both-both.result c.other.result i image) c.survey.ensures.seen may))

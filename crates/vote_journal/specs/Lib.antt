@@ -1,0 +1,5 @@
+pub mod Text
+pub mod Faults
+pub mod Runs
+pub mod Steps
+pub mod Usable

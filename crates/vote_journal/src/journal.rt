@@ -1,0 +1,161 @@
+// A journal in two halves: entries behind gates, folded into one in the other half when they are many.
+ghost use Rattle.std.specs.Prelude.{◌≡◌, ◌^◌, ◌<◌, ◌≤◌, [], ◌∷◌, ◌++◌, length, ◌||◌, true, false, IfOk, OnOk, IfErr, MatchResult};
+ghost use Rattle.std.specs.List.{concat};
+ghost use Rattle.disk_model.specs.Disk.{Only};
+ghost use Rattle.disk_model.specs.Supply.{Draws};
+ghost use Rattle.vote_journal.specs.Runs.{Runs, HasReason};
+ghost use Rattle.vote_journal.specs.Text.{text_of, live_entries, is_foreign, IsSound, SaysOnly, SaysMaybe};
+
+use crate::JournalFault;
+use crate::fold::fold_disk;
+use crate::parse::Found;
+use crate::recover::{Opened, open, other};
+use crate::steps::{FIRST_GATE, add_entry, frame};
+use disk_model::{Disk, Half};
+use hb_base::Bytes;
+use std::alloc::Global;
+
+/// A journal on a disk. Its entries stand in the live half; the other half has none.
+#[derive(Drop)]
+pub struct Journal<D: Disk> {
+    disk: D,
+    alloc: Global,
+    live: Half,
+    gate: u64,
+    entries: u32,
+    bytes: u64,
+}
+
+impl<D: Disk> Journal<D> {
+    ghost use Rattle.vote_journal.specs.Usable.{IsUsable, disk_of, entries_in_journal, count_of, bytes_of};
+
+    /// Opens the journal of a disk, and gives its entries in order. An empty disk is begun, and what an interrupted fold
+    /// left is put right. On refusal the disk is handed back: `NotAJournal` comes exactly where a half holds more than
+    /// 9 bytes and doesn't begin with the magic.
+    pub fn recover(alloc: Global, disk: D) -> Result<(Journal<D>, Vec<Bytes>), (D, JournalFault)>
+        ensures entries { IfOk result (λ opened. opened.1.items ≡ live_entries (D.seen disk)) }
+        ensures usable { IfOk result (λ opened. IsSound (D.seen disk) → IsUsable D.seen D.may_leave opened.0) }
+        ensures same { IfOk result (λ opened. IsSound (D.seen disk) → entries_in_journal D.seen opened.0 ≡ live_entries (D.seen disk)) }
+        ensures text { IfOk result (λ opened. IsSound (D.seen disk) → text_of (D.seen (disk_of opened.0)) ≡ text_of (D.seen disk)) }
+        ensures ours { OnOk result ((is_foreign (D.seen disk).a || is_foreign (D.seen disk).b) ≡ false) }
+        ensures foreign { IfErr result (λ refused. refused.1 ≡ JournalFault.NotAJournal → (is_foreign (D.seen disk).a || is_foreign (D.seen disk).b) ≡ true) }
+
+        // Where nothing was pending, a crash at any moment of the call leaves a sound image of the same text.
+        ensures runs { Only (D.seen disk) (D.may_leave disk) → IsSound (D.seen disk)
+            → MatchResult result (λ opened. Runs D.moment D.left_since D.faults D.supply disk (disk_of opened.0) (SaysOnly (text_of (D.seen disk))))
+            (λ refused. Runs D.moment D.left_since D.faults D.supply disk refused.0 (SaysOnly (text_of (D.seen disk)))) }
+        ensures supply { MatchResult result (λ opened. Draws (D.supply disk) (D.supply (disk_of opened.0))) (λ refused. Draws (D.supply disk) (D.supply refused.0)) }
+        ensures failed { IfErr result (λ refused. HasReason D.faults D.explains disk refused.0 refused.1) }
+    {
+        let mut disk = disk;
+        match open(alloc, &mut disk) {
+            Ok(opened) => {
+                let Opened { live, found } = opened;
+                let Found {
+                    entries,
+                    gate,
+                    bytes,
+                } = found;
+                let journal = Journal {
+                    disk,
+                    alloc,
+                    live,
+                    gate: FIRST_GATE + gate as u64,
+                    entries: entries.len().min(u32::MAX as usize) as u32,
+                    bytes: bytes as u64,
+                };
+                Ok((journal, entries))
+            }
+            Err(fault) => Err((disk, fault)),
+        }
+    }
+
+    /// Adds an entry behind the others. At `Ok` it is acknowledged: from then on each crash leaves it. After an `Err`
+    /// the journal isn't usable, and a crash leaves the entry or not. `NotAJournal` doesn't come.
+    pub fn append(&mut self, entry: &[u8]) -> Result<(), JournalFault>
+        requires usable { IsUsable D.seen D.may_leave self.old }
+        requires short { length entry.now < 2 ^ 32 }
+        ensures usable { OnOk result (IsUsable D.seen D.may_leave self.new) }
+        ensures added { OnOk result (entries_in_journal D.seen self.new ≡ entries_in_journal D.seen self.old ++ entry.now ∷ []) }
+        ensures text { OnOk result (text_of (D.seen (disk_of self.new)) ≡ text_of (D.seen (disk_of self.old)) ++ entry.now) }
+        ensures runs { Runs D.moment D.left_since D.faults D.supply (disk_of self.old) (disk_of self.new)
+            (SaysMaybe (text_of (D.seen (disk_of self.old))) entry.now) }
+        ensures failed { IfErr result (HasReason D.faults D.explains (disk_of self.old) (disk_of self.new)) }
+        ensures no_other { IfErr result (λ e. e ≡ JournalFault.NotAJournal → ⊥) }
+    {
+        let framed = frame(self.alloc, entry)?;
+        add_entry(&mut self.disk, self.live, self.gate, entry, &framed)?;
+        self.gate += framed.len() as u64;
+        self.entries = self.entries.saturating_add(1);
+        self.bytes = self.bytes.saturating_add(entry.len() as u64);
+        Ok(())
+    }
+
+    /// Folds the entries into one of all their payloads, in the other half, and gives up the old ones. After an `Err` the
+    /// journal isn't usable; a crash leaves the same text. `NotAJournal` doesn't come.
+    pub fn fold(&mut self) -> Result<(), JournalFault>
+        requires usable { IsUsable D.seen D.may_leave self.old }
+        requires some { 1 ≤ count_of self.old }
+        requires small { bytes_of self.old < 2 ^ 32 }
+        ensures usable { OnOk result (IsUsable D.seen D.may_leave self.new) }
+        ensures one { OnOk result (entries_in_journal D.seen self.new ≡ concat (entries_in_journal D.seen self.old) ∷ []) }
+        ensures text { OnOk result (text_of (D.seen (disk_of self.new)) ≡ text_of (D.seen (disk_of self.old))) }
+        ensures runs { Runs D.moment D.left_since D.faults D.supply (disk_of self.old) (disk_of self.new) (SaysOnly (text_of (D.seen (disk_of self.old)))) }
+        ensures failed { IfErr result (HasReason D.faults D.explains (disk_of self.old) (disk_of self.new)) }
+        ensures no_other { IfErr result (λ e. e ≡ JournalFault.NotAJournal → ⊥) }
+    {
+        let mut half = vec![in self.alloc; 0; self.gate as usize + 1]?;
+        let mut text = Vec::with_capacity(self.alloc, self.bytes as usize)?;
+        let mut framed = Vec::with_capacity(self.alloc, self.bytes as usize + 5)?;
+        let spare = other(self.live);
+        fold_disk(
+            &mut self.disk,
+            self.live,
+            spare,
+            &mut half,
+            &mut text,
+            &mut framed,
+        )?;
+        self.live = spare;
+        self.gate = FIRST_GATE + framed.len() as u64;
+        self.entries = 1;
+        self.bytes = text.len() as u64;
+        Ok(())
+    }
+
+    /// How many entries there are, up to the greatest u32.
+    pub fn entries(&self) -> u32
+        ensures { result ≡ count_of self.now }
+    {
+        self.entries
+    }
+
+    /// How many bytes of payload the entries have together, up to the greatest u64.
+    pub fn bytes(&self) -> u64
+        ensures { result ≡ bytes_of self.now }
+    {
+        self.bytes
+    }
+
+    /// The disk, lent.
+    pub fn disk(&self) -> &D
+        ensures { result.now ≡ disk_of self.now }
+    {
+        &self.disk
+    }
+
+    /// The disk, handed back.
+    pub fn into_disk(self) -> D
+        ensures { result ≡ disk_of self }
+    {
+        let Journal {
+            disk,
+            alloc: _,
+            live: _,
+            gate: _,
+            entries: _,
+            bytes: _,
+        } = self;
+        disk
+    }
+}

@@ -1,0 +1,15 @@
+//! A journal of votes in two halves of a disk: what was acknowledged is found again after a crash at any moment.
+#![tactic(auto)]
+
+mod device;
+mod fault;
+mod fold;
+mod journal;
+mod parse;
+mod recover;
+mod steps;
+#[cfg(test)]
+mod tests;
+
+pub use fault::JournalFault;
+pub use journal::Journal;

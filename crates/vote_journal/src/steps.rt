@@ -1,0 +1,136 @@
+// The steps that a journal is made of: an entry behind a gate, and a half that is given up.
+ghost use Rattle.std.specs.Prelude.{◌≡◌, ◌≤◌, ◌<◌, ◌+◌, ◌^◌, [], ◌∷◌, ◌++◌, length, take, nat_le, IfOk, OnOk, IfErr};
+ghost use Rattle.disk_model.specs.Image.{half_of, other, with_half};
+ghost use Rattle.disk_model.specs.Disk.{Only, overwritten};
+ghost use Rattle.vote_journal.specs.Runs.{Runs, HasReason};
+ghost use Rattle.vote_journal.specs.Text.{entries_of, size_bytes, blocks, Spells};
+ghost use Rattle.vote_journal.specs.Steps.{MayGain, MayShut, BothTorn, MayBegin, begun, begun_half};
+
+use crate::JournalFault;
+use crate::device::{cut_through, write_through};
+use disk_model::{Disk, Half};
+use std::alloc::{AllocError, Global};
+
+/// An open gate. Any other byte is a closed one.
+pub(crate) const OPEN: u8 = 0x5A;
+
+/// The gate that is written where one is closed.
+pub(crate) const CLOSED: u8 = 0;
+
+/// Where the first gate of a half stands: behind the magic.
+pub(crate) const FIRST_GATE: u64 = 8;
+
+/// The four bytes of a length.
+pub(crate) fn size_of(len: usize) -> [u8; 4]
+    requires { len < 2 ^ 32 }
+    ensures { result ≡ size_bytes len }
+{
+    [
+        (len / 256 / 256 / 256) as u8,
+        (len / 256 / 256 % 256) as u8,
+        (len / 256 % 256) as u8,
+        (len % 256) as u8,
+    ]
+}
+
+/// Puts what stands behind a gate into room that was made before: a length, the payload, and a closed gate.
+pub(crate) fn frame_into(payload: &[u8], framed: &mut Vec<u8>) -> Result<(), AllocError>
+    requires room { framed.old.items ≡ [] }
+    requires short { length payload.now < 2 ^ 32 }
+    ensures { OnOk result (framed.new.items ≡ size_bytes (length payload.now) ++ (payload.now ++ 0 ∷ [])) }
+{
+    framed.extend_from_slice(&size_of(payload.len()))?;
+    framed.extend_from_slice(payload)?;
+    framed.push(CLOSED)?;
+    Ok(())
+}
+
+/// The same, in room of its own.
+pub(crate) fn frame(alloc: Global, payload: &[u8]) -> Result<Vec<u8>, AllocError>
+    requires { length payload.now < 2 ^ 32 }
+    ensures { IfOk result (λ framed. framed.items ≡ size_bytes (length payload.now) ++ (payload.now ++ 0 ∷ [])) }
+{
+    let mut framed = Vec::with_capacity(alloc, payload.len() + 5)?;
+    frame_into(payload, &mut framed)?;
+    Ok(framed)
+}
+
+/// Puts an entry behind the closed gate of a half, makes it durable, and only then opens the gate.
+pub(crate) fn add_entry<D: Disk>(
+    disk: &mut D,
+    half: Half,
+    gate: u64,
+    payload: &[u8],
+    framed: &[u8],
+) -> Result<(), JournalFault>
+    requires spells { Spells (half_of half (D.seen disk.old)) (entries_of (half_of half (D.seen disk.old))) }
+    requires durable { Only (D.seen disk.old) (D.may_leave disk.old) }
+    requires gate { gate ≡ 8 + length (blocks (entries_of (half_of half (D.seen disk.old)))) }
+    requires small { gate < 2 ^ 63 }
+    requires framed { framed.now ≡ size_bytes (length payload.now) ++ (payload.now ++ 0 ∷ []) }
+    requires short { length payload.now < 2 ^ 32 }
+    ensures added { OnOk result (Spells (half_of half (D.seen disk.new)) (entries_of (half_of half (D.seen disk.old)) ++ payload.now ∷ [])) }
+    ensures there { OnOk result (half_of (other half) (D.seen disk.new) ≡ half_of (other half) (D.seen disk.old)) }
+    ensures durable { OnOk result (Only (D.seen disk.new) (D.may_leave disk.new)) }
+    ensures small { OnOk result (gate + length framed.now < 2 ^ 63) }
+    ensures runs { Runs D.moment D.left_since D.faults D.supply disk.old disk.new
+        (MayGain half (entries_of (half_of half (D.seen disk.old))) payload.now (half_of (other half) (D.seen disk.old))) }
+    ensures failed { IfErr result (HasReason D.faults D.explains disk.old disk.new) }
+    ensures no_other { IfErr result (λ e. e ≡ JournalFault.NotAJournal → ⊥) }
+{
+    write_through(disk, half, gate + 1, framed)?;
+    write_through(disk, half, gate, &[OPEN])?;
+    Ok(())
+}
+
+/// Gives up the entries of a half: closes its first gate, makes that durable, and only then cuts them off.
+pub(crate) fn retire<D: Disk>(disk: &mut D, half: Half) -> Result<(), JournalFault>
+    requires long { 9 ≤ length (half_of half (D.seen disk.old)) }
+    requires durable { Only (D.seen disk.old) (D.may_leave disk.old) }
+    ensures shut { OnOk result (D.seen disk.new ≡ with_half half (take 9 (overwritten 8 (0 ∷ []) (half_of half (D.seen disk.old)))) (D.seen disk.old)) }
+    ensures durable { OnOk result (Only (D.seen disk.new) (D.may_leave disk.new)) }
+    ensures runs { Runs D.moment D.left_since D.faults D.supply disk.old disk.new (MayShut half (D.seen disk.old)) }
+    ensures failed { IfErr result (HasReason D.faults D.explains disk.old disk.new) }
+    ensures no_other { IfErr result (λ e. e ≡ JournalFault.NotAJournal → ⊥) }
+{
+    write_through(disk, half, FIRST_GATE, &[CLOSED])?;
+    cut_through(disk, half, FIRST_GATE + 1)?;
+    Ok(())
+}
+
+/// What a half begins with, and a closed gate.
+pub(crate) const START: [u8; 9] = *b"HBVJ0002\0";
+
+/// Begins both halves, and makes that durable.
+pub(crate) fn begin_both<D: Disk>(disk: &mut D) -> Result<(), JournalFault>
+    requires durable { Only (D.seen disk.old) (D.may_leave disk.old) }
+    ensures made { OnOk result (D.seen disk.new ≡ record { a = overwritten 0 begun (D.seen disk.old).a; b = overwritten 0 begun (D.seen disk.old).b }) }
+    ensures durable { OnOk result (Only (D.seen disk.new) (D.may_leave disk.new)) }
+    ensures runs { Runs D.moment D.left_since D.faults D.supply disk.old disk.new (BothTorn (D.seen disk.old)) }
+    ensures failed { IfErr result (HasReason D.faults D.explains disk.old disk.new) }
+    ensures no_other { IfErr result (λ e. e ≡ JournalFault.NotAJournal → ⊥) }
+{
+    disk.write_at(Half::A, 0, &START)?;
+    disk.write_at(Half::B, 0, &START)?;
+    disk.sync()?;
+    Ok(())
+}
+
+/// Begins each half that is short, and makes that durable where there is one.
+pub(crate) fn begin<D: Disk>(disk: &mut D, a: bool, b: bool) -> Result<(), JournalFault>
+    requires durable { Only (D.seen disk.old) (D.may_leave disk.old) }
+    requires a { a ≡ nat_le (length (D.seen disk.old).a) 9 }
+    requires b { b ≡ nat_le (length (D.seen disk.old).b) 9 }
+    ensures made { OnOk result (D.seen disk.new ≡ record { a = begun_half (D.seen disk.old).a; b = begun_half (D.seen disk.old).b }) }
+    ensures durable { OnOk result (Only (D.seen disk.new) (D.may_leave disk.new)) }
+    ensures runs { Runs D.moment D.left_since D.faults D.supply disk.old disk.new (MayBegin (D.seen disk.old)) }
+    ensures failed { IfErr result (HasReason D.faults D.explains disk.old disk.new) }
+    ensures no_other { IfErr result (λ e. e ≡ JournalFault.NotAJournal → ⊥) }
+{
+    match (a, b) {
+        (true, true) => begin_both(disk),
+        (true, false) => write_through(disk, Half::A, 0, &START),
+        (false, true) => write_through(disk, Half::B, 0, &START),
+        (false, false) => Ok(()),
+    }
+}
