@@ -1,0 +1,6 @@
+pub mod Pigeons
+pub mod Lists
+pub mod Views
+pub mod Turning
+pub mod Seating
+pub mod Showing

@@ -1,0 +1,5 @@
+use Rattle.turn_book.proofs.book.TurnBook.split.Given as goal
+
+-- the number of the new seat
+abbrev pub ghosts-split_as : goal.ghosts-split_as
+ghosts-split_as g a = record { number = a.number }

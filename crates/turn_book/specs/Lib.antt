@@ -1,0 +1,4 @@
+pub mod Entries
+pub mod SeatView
+pub mod Kept
+pub mod Told

@@ -1,0 +1,56 @@
+//! What a seat knows, and the rule that all seats of a book keep.
+use crate::history::History;
+use atomic_table::{Seat, Shared, Table, TableRule};
+use std::alloc::Global;
+use std::collections::LinkedList;
+
+// Word 0 is the next ticket to be drawn, and word 1 the ticket that is served.
+pub(crate) const TICKET: usize = 0;
+
+pub(crate) const SERVING: usize = 1;
+
+// The other words are bells. A thread that waits sleeps on the bell of its ticket, so that up to 64 threads are woken one by one.
+pub(crate) const FIRST_BELL: usize = 2;
+
+pub(crate) const BELLS: usize = 64;
+
+pub(crate) const WORDS: usize = 66;
+
+// The one slot, which holds the value outside of turns.
+pub(crate) const VALUE: usize = 0;
+
+/// What a seat knows. No value of it is made.
+pub struct View<E> {
+    /// A beginning of the history.
+    pub seen: LinkedList<E>,
+    /// Another one, which a seat that was taken in had seen.
+    pub beside: LinkedList<E>,
+    /// The seat's number, which no other seat has. A seat that is made to be taken in at once has none.
+    pub number: Option<u32>,
+    /// The ticket that is out, which counts on without end.
+    pub ticket: Option<u64>,
+    /// Whether the seat has the value.
+    pub in_turn: bool,
+    /// The numbers that were given to other seats. The first seat alone knows them.
+    pub given: LinkedList<u32>,
+    /// The numbers of the seats that were taken in, with the entries of each. The first seat alone knows them.
+    pub ended: LinkedList<(u32, LinkedList<E>)>,
+}
+
+/// The rule of a book's table.
+pub struct Turns;
+
+impl<S: History> TableRule<Option<S>, View<S::Entry>, ()> for Turns {
+    ghost use Rattle.turn_book.specs.Kept.{Kept};
+    ghost use Rattle.turn_book.specs.Told.{first_view};
+
+    ghost holds = { λ _. Kept S.entries S.names };
+
+    ghost first = { λ _. first_view };
+}
+
+pub(crate) type Turntable<S> = Table<Option<S>, View<<S as History>::Entry>, (), Turns, Global>;
+
+pub(crate) type Top<S> = Shared<Option<S>, View<<S as History>::Entry>, (), Turns>;
+
+pub(crate) type Place<S> = Seat<Option<S>, View<<S as History>::Entry>>;
