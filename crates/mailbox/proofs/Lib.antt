@@ -1,0 +1,4 @@
+mod Logs
+pub mod Parts
+mod Places
+pub mod Moves

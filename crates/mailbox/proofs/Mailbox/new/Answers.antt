@@ -1,0 +1,10 @@
+use Rattle.std.proofs.Common.{ap}
+use Rattle.mailbox.specs.declared.rule.View.{View}
+use Rattle.mailbox.proofs.Moves.{begins, forks_sides}
+use Rattle.mailbox.proofs.Mailbox.new.Goals as goal
+
+pub with_rule-requires : goal.with_rule-requires
+with_rule-requires c = begins
+
+pub another-second-requires-clause-rule : goal.another-second-requires-clause-rule
+another-second-requires-clause-rule c = forks_sides _ _ (ap (λ (v : View). v.takes) c.in_ok-line.ensures.2)

@@ -1,0 +1,5 @@
+use Rattle.mailbox.proofs.Moves.{puts}
+use Rattle.mailbox.proofs.Mailbox.push.Goals as goal
+
+pub push_as-requires-clause-rule : goal.push_as-requires-clause-rule
+push_as-requires-clause-rule g c = λ n. puts n _ _ _ _ c.requires.1.1

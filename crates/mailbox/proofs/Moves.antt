@@ -1,0 +1,275 @@
+-- Each call keeps the rule of a mailbox.
+use Rattle.std.proofs.Common.{◌≡◌, ◌≢◌, ℕ, suc, cond, ◌+◌, ◌^◌, ◌≤◌, true, false, true≢false, List, [], ◌∷◌, ◌++◌, map, length, set, get_or, sym, refl, ap, ◌∙◌, subst, append_assoc, eq-eqb, ne_eqb, arith}
+use mathlib.Core.Option.{some, some-injective, some-ne-none}
+use mathlib.Core.Logic.{dite}
+use native.Mathlib.Decide.{dec_le, ℕ_discrete}
+use lib.ListN.{get_elem?}
+use Rattle.std.proofs.Math.ListN.{length-set, length-append}
+use Rattle.crossbeam_queue.specs.Fifo.{Pushes, Pops, Forks, Merges, Learns}
+use Rattle.crossbeam_queue.proofs.Lists.{set_else}
+use Rattle.mailbox.specs.declared.rule.View.{View}
+use Rattle.mailbox.specs.Interleaving.{IsInterleaving}
+use Rattle.mailbox.specs.Shares.{AreAtMost, parts_of, IsWhole}
+use Rattle.mailbox.specs.Ordered.{putter, opener, spent, halved, half_of, put_side, take_side, after_put, after_take, joined_with, pass_number, joined_place, Put, sent_by, total, Fits, IsOrdered}
+use Rattle.mailbox.proofs.Places.{within, stands, get_or-length, get_or-snoc_here, get_or-snoc_else, EachView, EachView-set, EachView-snoc, total-set, total-snoc, others_none}
+use Rattle.mailbox.proofs.Parts.{AreAtMost-finer, AreAtMost-halved, AreAtMost-append, parts_of-append, parts_of-finer, parts_of-halved, whole-finer, no_shares, whole_parts}
+use Rattle.mailbox.proofs.Logs.{all_of-snoc, sent_by-same, sent_by-other, renamed, all_of-renamed, sent_by-renamed, interleaved}
+
+pub begins : IsOrdered [] (opener ∷ [])
+begins = record {
+  taker_number = 0;
+  taken = [];
+  log = [];
+  finest = 0;
+  in_order = refl;
+  whole = refl;
+  none_beyond = λ _ _. refl;
+  fits = EachView-snoc (Fits 0 [] [] 0) [] opener (λ _ v e. absurd (some-ne-none v (sym e)))
+      record {
+        sent_is = refl;
+        coarse = (omega arith, tt);
+        idle = λ _. refl;
+        takes = λ _. record { one = refl; taken_is = refl; silent = refl; known = λ _. refl };
+      };
+}
+
+-- what a put pass leaves to the others
+other_put : (taker_number : ℕ) (taken : List ℕ) (log : List Put) (finest by x : ℕ) (number : ℕ) (v : View) → number ≢ by → Fits taker_number taken log finest number v
+    → Fits taker_number taken (log ++ record { sender = pass_number by; number = x } ∷ []) finest number v
+other_put taker_number taken log finest by x number v apart old = let put : Put = record { sender = pass_number by; number = x } in record {
+  sent_is = sent_by-other (pass_number number) log put (ne_eqb by number (λ e. apart (sym e))) ∙ old.sent_is;
+  coarse = old.coarse;
+  idle = old.idle;
+  takes = λ t. let o = old.takes t in record {
+    one = o.one;
+    taken_is = o.taken_is;
+    silent = o.silent;
+    known = λ k. sent_by-other (joined_place k) log put refl ∙ o.known k;
+  };
+}
+
+pub puts : (n port : ℕ) (v : View) (x splits : ℕ) → v ≡ putter splits v.sent → Pushes IsOrdered n port v x (λ w. w ≡ after_put v x)
+puts n port v x splits is items views _ b at =
+    let w : View = after_put v x in
+    let put : Put = record { sender = pass_number port; number = x } in
+    let log : List Put = b.log ++ put ∷ [] in
+    let old = b.fits port v at in
+    let here = within views port v at in (
+      w,
+      record {
+        taker_number = b.taker_number;
+        taken = b.taken;
+        log = log;
+        finest = b.finest;
+        in_order = all_of-snoc b.log put ∙ ap (λ l. l ++ x ∷ []) b.in_order ∙ append_assoc b.taken items (x ∷ []);
+        whole = let s = total-set (λ u. parts_of b.finest u.splits) views port v w at in let t = b.whole in omega arith;
+        none_beyond = λ number far. let far' : length views ≤ number = subst (λ k. k ≤ number) (length-set views port w) far in
+            sent_by-other (pass_number number) b.log put (ne_eqb port number (λ e. absurd (omega arith))) ∙ b.none_beyond number far';
+        fits = EachView-set (Fits b.taker_number b.taken log b.finest) views port w
+            record {
+              sent_is = sent_by-same (pass_number port) b.log put (eq-eqb port port refl) ∙ ap (λ l. l ++ x ∷ []) old.sent_is;
+              coarse = old.coarse;
+              idle = λ e. let f : splits ∷ [] ≡ [] = sym (ap (λ (u : View). u.splits) is) ∙ e in absurd cc;
+              takes = λ t. absurd (true≢false (sym t ∙ ap (λ (u : View). u.takes) is));
+            }
+            (λ j u apart e. other_put b.taker_number b.taken b.log b.finest port x j u apart (b.fits j u e));
+      },
+      refl,
+    )
+
+pub takes : (port : ℕ) (v : View) → v.takes ≡ true → Pops IsOrdered port v (λ x w. w ≡ after_take v x)
+takes port v may x items views b at =
+    let w : View = after_take v x in
+    let taken : List ℕ = b.taken ++ x ∷ [] in
+    let old = b.fits port v at in
+    let mine = old.takes may in (
+      w,
+      record {
+        taker_number = b.taker_number;
+        taken = taken;
+        log = b.log;
+        finest = b.finest;
+        in_order = b.in_order ∙ sym (append_assoc b.taken (x ∷ []) items);
+        whole = let s = total-set (λ u. parts_of b.finest u.splits) views port v w at in let t = b.whole in omega arith;
+        none_beyond = λ number far. b.none_beyond number (subst (λ k. k ≤ number) (length-set views port w) far);
+        fits = EachView-set (Fits b.taker_number taken b.log b.finest) views port w
+            record {
+              sent_is = old.sent_is;
+              coarse = old.coarse;
+              idle = old.idle;
+              takes = λ _. record { one = mine.one; taken_is = ap (λ l. l ++ x ∷ []) mine.taken_is; silent = mine.silent; known = mine.known };
+            }
+            (λ j u apart e. let o = b.fits j u e in record { sent_is = o.sent_is; coarse = o.coarse; idle = o.idle; takes = λ t. absurd (apart ((o.takes t).one ∙ sym mine.one)) });
+      },
+      refl,
+    )
+
+-- once one pass has the whole right to put, the others have put nothing that it doesn't know
+others_silent : (items : List ℕ) (views : List View) (b : IsOrdered items views) (port : ℕ) (v : View) → get_elem? views port ≡ some v → v.sent ≡ [] → parts_of b.finest v.splits ≡ 2 ^ b.finest
+    → (j : ℕ) → sent_by (pass_number j) b.log ≡ []
+others_silent items views b port v at silent full j = dite (dec_le (length views) j) (b.none_beyond j) (λ near.
+    let found = stands views j (omega arith) in
+    let u : View = found.0 in
+    let there : get_elem? views j ≡ some u = found.1 in
+    let fit = b.fits j u there in
+    fit.sent_is ∙ dite (ℕ_discrete j port)
+    (λ e. ap (λ (y : View). y.sent) (some-injective u v (sym there ∙ ap (get_elem? views) e ∙ at)) ∙ silent)
+    (λ apart. fit.idle (no_shares b.finest u.splits
+    (others_none (λ y. parts_of b.finest y.splits) views port v spent at refl (b.whole ∙ sym full) j u apart there))))
+
+pub learns : (port : ℕ) (v : View) → Learns IsOrdered port v (λ items. v.takes ≡ true → IsWhole v.splits → IsInterleaving v.joined (v.taken ++ items))
+learns port v items views b at may whole =
+    let old = b.fits port v at in
+    let mine = old.takes may in
+    let full = whole_parts b.finest v.splits old.coarse whole in
+    interleaved b.log v.joined (v.taken ++ items) (others_silent items views b port v at mine.silent full) (b.in_order ∙ ap (λ l. l ++ items) (sym mine.taken_is)) mine.known
+
+length-snoc : (l : List View) (v : View) → length (l ++ v ∷ []) ≡ length l + 1
+length-snoc l v = length-append l (v ∷ [])
+
+pub forks_sides : (port : ℕ) (v : View) → v.takes ≡ true → Forks IsOrdered port v (put_side v) (take_side v)
+forks_sides port v may items views b at =
+    let left : View = put_side v in
+    let right : View = take_side v in
+    let vs : List View = set views port left in
+    let old = b.fits port v at in
+    let mine = old.takes may in
+    let f : View → ℕ = λ u. parts_of b.finest u.splits in
+    let same : length vs ≡ length views = length-set views port left in
+    record {
+      taker_number = length vs;
+      taken = b.taken;
+      log = b.log;
+      finest = b.finest;
+      in_order = b.in_order;
+      whole = let s = total-set f views port v left at in let t = total-snoc f vs right in let u = b.whole in omega arith;
+      none_beyond = λ number far. b.none_beyond number (let l = length-snoc vs right in omega arith);
+      fits = EachView-snoc (Fits (length vs) b.taken b.log b.finest) vs right
+          (EachView-set (Fits (length vs) b.taken b.log b.finest) views port left
+          record { sent_is = old.sent_is; coarse = old.coarse; idle = old.idle; takes = λ t. absurd (true≢false (sym t)) }
+          (λ j u apart e. let o = b.fits j u e in record { sent_is = o.sent_is; coarse = o.coarse; idle = o.idle; takes = λ t. absurd (apart ((o.takes t).one ∙ sym mine.one)) }))
+          record {
+            sent_is = b.none_beyond (length vs) (omega arith);
+            coarse = tt;
+            idle = λ _. refl;
+            takes = λ _. record { one = refl; taken_is = mine.taken_is; silent = refl; known = mine.known };
+          };
+    }
+
+total-finer : (finest : ℕ) (views : List View) → ((number : ℕ) (v : View) → get_elem? views number ≡ some v → AreAtMost finest v.splits)
+    → total (λ v. parts_of (finest + 1) v.splits) views ≡ total (λ v. parts_of finest v.splits) views + total (λ v. parts_of finest v.splits) views
+total-finer finest [] coarse = refl
+total-finer finest (v ∷ vs) coarse =
+    let s = total-finer finest vs (λ number u e. coarse (suc number) u e) in
+    let t = parts_of-finer finest v.splits (coarse 0 v refl) in
+    omega arith
+
+map-nil : (ns : List ℕ) → map (λ n. n + 1) ns ≡ [] → ns ≡ []
+map-nil [] e = refl
+map-nil (n ∷ ns) e = cc
+
+pub forks_halves : (port : ℕ) (v : View) → v.takes ≡ false → Forks IsOrdered port v (halved v) (half_of v)
+forks_halves port v puts_only items views b at =
+    let left : View = halved v in
+    let right : View = half_of v in
+    let vs : List View = set views port left in
+    let old = b.fits port v at in
+    let finest : ℕ = b.finest + 1 in
+    let f : View → ℕ = λ u. parts_of finest u.splits in
+    let same : length vs ≡ length views = length-set views port left in
+    record {
+      taker_number = b.taker_number;
+      taken = b.taken;
+      log = b.log;
+      finest = finest;
+      in_order = b.in_order;
+      whole =
+          let s = total-set f views port v left at in
+          let t = total-snoc f vs right in
+          let u = total-finer b.finest views (λ number w e. (b.fits number w e).coarse) in
+          let h = parts_of-halved b.finest v.splits in
+          let d = parts_of-finer b.finest v.splits old.coarse in
+          let w = whole-finer b.finest in
+          let k = b.whole in
+          omega arith;
+      none_beyond = λ number far. b.none_beyond number (let l = length-snoc vs right in omega arith);
+      fits = EachView-snoc (Fits b.taker_number b.taken b.log finest) vs right
+          (EachView-set (Fits b.taker_number b.taken b.log finest) views port left
+          record { sent_is = old.sent_is; coarse = AreAtMost-halved b.finest v.splits old.coarse; idle = λ e. old.idle (map-nil v.splits e); takes = λ t. absurd (true≢false (sym t ∙ puts_only)) }
+          (λ j u apart e. let o = b.fits j u e in record { sent_is = o.sent_is; coarse = AreAtMost-finer b.finest u.splits o.coarse; idle = o.idle; takes = o.takes }))
+          record {
+            sent_is = b.none_beyond (length vs) (omega arith);
+            coarse = AreAtMost-halved b.finest v.splits old.coarse;
+            idle = λ _. refl;
+            takes = λ t. absurd (true≢false (sym t));
+          };
+    }
+
+-- what the passes other than these two see of a renaming
+pass_apart : (log : List Put) (j k number : ℕ) → number ≢ j → sent_by (pass_number number) (map (renamed j k) log) ≡ sent_by (pass_number number) log
+pass_apart log j k number apart = sent_by-renamed j k (pass_number number) log ∙ ap (λ b. sent_by (cond b (joined_place k) (pass_number number)) log) (ne_eqb number j apart)
+
+place_apart : (log : List Put) (j k place : ℕ) → place ≢ k → sent_by (joined_place place) (map (renamed j k) log) ≡ sent_by (joined_place place) log
+place_apart log j k place apart = sent_by-renamed j k (joined_place place) log ∙ ap (λ b. sent_by (cond b (pass_number j) (joined_place place)) log) (ne_eqb place k apart)
+
+pass_here : (log : List Put) (j k : ℕ) → sent_by (pass_number j) (map (renamed j k) log) ≡ sent_by (joined_place k) log
+pass_here log j k = sent_by-renamed j k (pass_number j) log ∙ ap (λ b. sent_by (cond b (joined_place k) (pass_number j)) log) (eq-eqb j j refl)
+
+place_here : (log : List Put) (j k : ℕ) → sent_by (joined_place k) (map (renamed j k) log) ≡ sent_by (pass_number j) log
+place_here log j k = sent_by-renamed j k (joined_place k) log ∙ ap (λ b. sent_by (cond b (pass_number j) (joined_place k)) log) (eq-eqb k k refl)
+
+-- the lists of the places once one more pass was taken in
+known_more : (log : List Put) (joined : List (List ℕ)) (j : ℕ) (sent : List ℕ) → ((k : ℕ) → sent_by (joined_place k) log ≡ get_or joined k []) → sent_by (pass_number j) log ≡ sent
+    → (k : ℕ) → sent_by (joined_place k) (map (renamed j (length joined)) log) ≡ get_or (joined ++ sent ∷ []) k []
+known_more log joined j sent known is k = dite (ℕ_discrete k (length joined))
+    (λ e. let P : ℕ → Type 0 = λ n. sent_by (joined_place n) (map (renamed j (length joined)) log) ≡ get_or (joined ++ sent ∷ []) n [] in
+    subst P (sym e) (place_here log j (length joined) ∙ is ∙ sym (get_or-snoc_here joined sent [])))
+    (λ apart. place_apart log j (length joined) k apart ∙ known k ∙ sym (get_or-snoc_else joined sent [] k apart))
+
+pub merges : (port : ℕ) (v : View) (other : ℕ) (w : View) → v.takes ≡ true → w.takes ≡ false → Merges IsOrdered port v other w (joined_with v w) spent
+merges port v other w may puts_only items views b at two at' =
+    let both : View = joined_with v w in
+    let vs : List View = set views port both in
+    let ws : List View = set vs other spent in
+    let old = b.fits port v at in
+    let mine = old.takes may in
+    let was : get_elem? views other ≡ some w = sym (set_else views port other both two) ∙ at' in
+    let theirs = b.fits other w was in
+    let place : ℕ = length v.joined in
+    let log : List Put = map (renamed other place) b.log in
+    let f : View → ℕ = λ u. parts_of b.finest u.splits in
+    let F : ℕ → View → Type 0 = Fits b.taker_number b.taken log b.finest in
+    let l₁ : length vs ≡ length views = length-set views port both in
+    let l₂ : length ws ≡ length vs = length-set vs other spent in
+    let near = within views other w was in
+    let Now : ℕ → View → Type 0 = λ j u. j ≢ other → F j u in
+    let now : EachView Now vs = EachView-set Now views port both
+    (λ apart. record {
+      sent_is = pass_apart b.log other place port apart ∙ old.sent_is;
+      coarse = AreAtMost-append b.finest v.splits w.splits old.coarse theirs.coarse;
+      idle = λ _. mine.silent;
+      takes = λ _. record { one = mine.one; taken_is = mine.taken_is; silent = mine.silent; known = known_more b.log v.joined other w.sent mine.known theirs.sent_is };
+    })
+    (λ j u not_port e apart. let o = b.fits j u e in record {
+      sent_is = pass_apart b.log other place j apart ∙ o.sent_is;
+      coarse = o.coarse;
+      idle = o.idle;
+      takes = λ t. absurd (not_port ((o.takes t).one ∙ sym mine.one));
+    }) in
+    record {
+      taker_number = b.taker_number;
+      taken = b.taken;
+      log = log;
+      finest = b.finest;
+      in_order = all_of-renamed other place b.log ∙ b.in_order;
+      whole =
+          let s = total-set f views port v both at in
+          let t = total-set f vs other w spent at' in
+          let a = parts_of-append b.finest v.splits w.splits in
+          let k = b.whole in
+          omega arith;
+      none_beyond = λ number far. pass_apart b.log other place number (λ e. absurd (omega arith)) ∙ b.none_beyond number (omega arith);
+      fits = EachView-set F vs other spent
+          record { sent_is = pass_here b.log other place ∙ mine.known place ∙ get_or-length v.joined []; coarse = tt; idle = λ _. refl; takes = λ t. absurd (true≢false (sym t)) }
+          (λ j u apart e. now j u e apart);
+    }

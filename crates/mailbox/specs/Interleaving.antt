@@ -1,0 +1,16 @@
+-- One list that several lists were put into, each in its own order.
+use Rattle.std.specs.Prelude.{◌≡◌, ℕ, List, [], ◌∷◌, if◌then◌else◌, ◌==◌, slice_index_or}
+
+-- numbers, each beside the place of the list that it comes from: the numbers alone, in order
+abbrev pub numbers : List (ℕ × ℕ) → List ℕ
+numbers [] = []
+numbers (p ∷ places) = p.1 ∷ numbers places
+
+-- the numbers that come from the list at the place k, in order
+abbrev pub numbers_at : ℕ → List (ℕ × ℕ) → List ℕ
+numbers_at k [] = []
+numbers_at k (p ∷ places) = if p.0 == k then p.1 ∷ numbers_at k places else numbers_at k places
+
+-- `whole` has each number of each list once and no other, and the numbers of one list stand in their order
+abbrev pub IsInterleaving : List (List ℕ) → List ℕ → Type 0
+IsInterleaving lists whole = (places : List (ℕ × ℕ)) × (numbers places ≡ whole) × ((k : ℕ) → numbers_at k places ≡ slice_index_or lists k [])

@@ -1,0 +1,4 @@
+pub mod Interleaving
+pub mod Ordered
+pub mod Passes
+pub mod Shares

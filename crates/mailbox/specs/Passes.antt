@@ -1,0 +1,57 @@
+-- What a contract sees of a pass.
+use Rattle.std.specs.Prelude.{◌≡◌, ℕ, ◌%◌, ◌==◌, nat_le, Bool, true, false, ◌&&◌, ◌||◌, List, [], Option, None, slice_index}
+use Rattle.std.specs.Global.{Global}
+use Rattle.atomic_blocks.specs.Laid.{WebId}
+use Rattle.atomic_blocks.specs.declared.web.Seat.{Seat}
+use Rattle.crossbeam_queue.specs.declared.seg_queue.Going.{Going}
+use Rattle.crossbeam_queue.specs.declared.seg_queue.Stage.{Stage}
+use Rattle.crossbeam_queue.specs.declared.seg_queue.Stage.TheVariants.{SawTail}
+use Rattle.mailbox.specs.declared.rule.View.{View}
+use Rattle.mailbox.specs.Ordered.{putter, taker}
+
+-- the mailbox that it belongs to, how many splits it comes from, what it put, in order, and whether the last that it
+-- saw of the queue is a place which needs a new block of memory, or the end of the queue's 2 ^ 62 places
+pub record PutPassView : Type 0 where
+  pub at : WebId
+  pub splits : ℕ
+  pub put : List ℕ
+  pub needs_block : Bool
+
+-- the mailbox that it belongs to, and what it took, in order
+pub record TakePassView : Type 0 where
+  pub at : WebId
+  pub taken : List ℕ
+
+abbrev pub QueueSeat : Type 0
+QueueSeat = Seat (Option ℕ) (Going ℕ View) Global
+
+abbrev pub known_to : QueueSeat → View
+known_to seat = seat.me.view.client
+
+-- no block of the queue is out with it
+abbrev pub IsFree : QueueSeat → Type 0
+IsFree seat = (seat.me.hand ≡ None) × (seat.me.spare ≡ None)
+
+abbrev pub saw_tail : Stage → Bool
+saw_tail SawTail = true
+saw_tail _ = false
+
+-- blocks have 32 places, and whoever takes the place 30 lays the next block
+abbrev pub saw_no_room : Stage → ℕ → Bool
+saw_no_room stage place = saw_tail stage && (place % 32 == 30 || nat_le 4611686018427387776 place)
+
+abbrev pub put_pass_view : QueueSeat → PutPassView
+put_pass_view seat = record { at = seat.web; splits = slice_index (known_to seat).splits 0; put = (known_to seat).sent; needs_block = saw_no_room seat.me.view.stage seat.me.view.at }
+
+abbrev pub IsPutSeat : QueueSeat → Type 0
+IsPutSeat seat = IsFree seat × (known_to seat ≡ putter (slice_index (known_to seat).splits 0) (known_to seat).sent)
+
+abbrev pub take_pass_view : QueueSeat → TakePassView
+take_pass_view seat = record { at = seat.web; taken = (known_to seat).taken }
+
+abbrev pub IsTakeSeat : QueueSeat → Type 0
+IsTakeSeat seat = IsFree seat × (known_to seat ≡ taker [] (known_to seat).taken [])
+
+-- the seat of the take pass of a mailbox, with what it knows
+abbrev pub IsTaker : WebId → View → QueueSeat → Type 0
+IsTaker at v seat = (seat.web ≡ at) × IsFree seat × (known_to seat ≡ v)

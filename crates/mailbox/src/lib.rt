@@ -1,0 +1,207 @@
+//! A mailbox for numbers that threads share: any number of senders, each with a put pass, and one receiver with
+//! the take pass. Each number that is put comes out once, and the numbers of one put pass in their order.
+#![tactic(auto)]
+
+ghost use Rattle.std.specs.Prelude.{◌≡◌, ℕ, ◌+◌, true, List, [], ◌∷◌, ◌++◌, map, length, All, IfNone, IfOk, MatchOption, MatchResult};
+ghost use Rattle.mailbox.specs.Interleaving.{IsInterleaving};
+ghost use Rattle.mailbox.specs.Shares.{IsWhole};
+ghost use Rattle.mailbox.specs.Ordered.{taker, after_put, after_take};
+
+use crossbeam_queue::{RuledSegQueue, SegPass};
+use rule::{Halves, InOrder, Joins, Puts, Sides, Takes, View};
+use std::alloc::{AllocError, Global};
+use std::marker::Model;
+use std::sync::Wait;
+
+mod rule;
+#[cfg(test)]
+mod tests;
+
+type Line = RuledSegQueue<u32, View, InOrder>;
+
+type LinePass = SegPass<u32, View>;
+
+/// A queue of numbers with no bound, shared by reference. A contract sees its name, which its passes have too.
+pub struct Mailbox {
+    line: Line,
+}
+
+impl Model for Mailbox {
+    ghost use Rattle.atomic_blocks.specs.Laid.{WebId};
+
+    ghost Value = { WebId };
+
+    ghost view = { λ m. m.line.web };
+}
+
+impl Drop for Mailbox {
+    fn drop(self) {
+        let Mailbox { line } = self;
+        line.destroy();
+    }
+}
+
+/// The right of one sender to put numbers into one mailbox. It has no bytes. A contract sees the mailbox's name,
+/// how many splits the pass comes from, the list of what was put through it, and whether the last place that it saw
+/// needs a new block of memory.
+#[derive(Drop)]
+pub struct PutPass {
+    seat: LinePass,
+}
+
+impl Model for PutPass {
+    ghost use Rattle.mailbox.specs.Passes.{PutPassView, put_pass_view, IsPutSeat};
+
+    ghost Value = { PutPassView };
+
+    ghost view = { λ p. put_pass_view p.seat };
+
+    ghost invariant = { λ p. IsPutSeat p.seat };
+}
+
+/// The right of the one receiver to take numbers from one mailbox. It has no bytes. A contract sees the mailbox's
+/// name and the list of what was taken.
+#[derive(Drop)]
+pub struct TakePass {
+    seat: LinePass,
+}
+
+impl Model for TakePass {
+    ghost use Rattle.mailbox.specs.Passes.{TakePassView, take_pass_view, IsTakeSeat};
+
+    ghost Value = { TakePassView };
+
+    ghost view = { λ p. take_pass_view p.seat };
+
+    ghost invariant = { λ p. IsTakeSeat p.seat };
+}
+
+/// A law of the condition of `close`: the first pass alone is the whole right to put, and a split, of whichever
+/// pass, keeps it whole.
+pub fn split_keeps_whole()
+    ensures first { IsWhole (0 ∷ []) }
+    ensures split { (before after : List ℕ) (splits : ℕ) → IsWhole (before ++ splits ∷ after) → IsWhole ((before ++ (splits + 1) ∷ after) ++ (splits + 1) ∷ []) }
+{}
+
+impl Mailbox {
+    ghost use Rattle.mailbox.specs.Passes.{IsFree, IsPutSeat, IsTaker, known_to, saw_no_room};
+
+    /// An empty mailbox with its first put pass, which has the whole right to put, and its take pass. The error is
+    /// want of memory.
+    pub fn new(alloc: Global) -> Result<(Mailbox, PutPass, TakePass), AllocError>
+        ensures put { IfOk result (λ r. (r.1.at ≡ r.0) × (r.1.splits ≡ 0) × (r.1.put ≡ [])) }
+        ensures take { IfOk result (λ r. (r.2.at ≡ r.0) × (r.2.taken ≡ [])) }
+    {
+        let (line, mut first) = Line::with_rule(alloc)?;
+        let second = line.another::<Sides>(&mut first);
+        Ok((
+            Mailbox { line },
+            PutPass { seat: first },
+            TakePass { seat: second },
+        ))
+    }
+
+    /// A new put pass, which has put nothing. Each of the two has half of the share that `pass` had. It takes no memory.
+    #[tactic(auto, using(crate::proofs::Moves::forks_halves))]
+    pub fn split(&self, pass: &mut PutPass) -> PutPass
+        requires { pass.old.at ≡ self.now }
+        ensures same { (pass.new.at ≡ pass.old.at) × (pass.new.splits ≡ pass.old.splits + 1) × (pass.new.put ≡ pass.old.put) }
+        ensures new { (result.at ≡ self.now) × (result.splits ≡ pass.old.splits + 1) × (result.put ≡ []) }
+    {
+        let seat = self.line.another::<Halves>(&mut pass.seat);
+        PutPass { seat }
+    }
+
+    /// Puts `number` behind all that is in the mailbox. The error hands the number back, and comes only at a place that
+    /// needs a new block, for which there was no memory, or after 2^62 puts.
+    pub fn put<R: Wait>(&self, rt: &R, pass: &mut PutPass, number: u32) -> Result<(), u32>
+        requires { pass.old.at ≡ self.now }
+        ensures same { (pass.new.at ≡ pass.old.at) × (pass.new.splits ≡ pass.old.splits) }
+        ensures put { MatchResult result (λ _. pass.new.put ≡ pass.old.put ++ number ∷ []) (λ back. (back ≡ number) × (pass.new.put ≡ pass.old.put) × (pass.new.needs_block ≡ true)) }
+    {
+        self.push(rt, &mut pass.seat, number)
+    }
+
+    /// Takes the oldest number. `None` comes only where the mailbox was empty at a step of this call, which no clause
+    /// can say, since others may put at once.
+    pub fn take<R: Wait>(&self, rt: &R, pass: &mut TakePass) -> Option<u32>
+        requires { pass.old.at ≡ self.now }
+        ensures same { pass.new.at ≡ pass.old.at }
+        ensures taken { MatchOption result (pass.new.taken ≡ pass.old.taken) (λ number. pass.new.taken ≡ pass.old.taken ++ number ∷ []) }
+    {
+        self.pop(rt, &mut pass.seat)
+    }
+
+    /// Ends the mailbox and gives what was not taken, in order. It asks for all passes: the shares of the put passes
+    /// are the whole right to put. What was taken and then the rest is an interleaving of what the put passes put.
+    /// The error is want of memory, and drops the rest.
+    pub fn close<R: Wait>(
+        self,
+        rt: &R,
+        alloc: Global,
+        puts: Vec<PutPass>,
+        take: TakePass,
+    ) -> Result<Vec<u32>, AllocError>
+        requires same { (take.at ≡ self) × All (λ p. p.at ≡ self) puts.items }
+        requires all { IsWhole (map (λ p. p.splits) puts.items) }
+        ensures { IfOk result (λ rest. IsInterleaving (map (λ p. p.put) puts.items) (take.taken ++ rest.items)) }
+    {
+        let TakePass { mut seat } = take;
+        self.join_all(&mut seat, puts);
+        self.drain(rt, alloc, &mut seat)
+    }
+
+    // One step of a put pass: the number goes to the back of the queue.
+    fn push<R: Wait>(&self, rt: &R, seat: &mut LinePass, number: u32) -> Result<(), u32>
+        requires { (seat.old.web ≡ self.now) × IsPutSeat seat.old }
+        ensures seat { (seat.new.web ≡ self.now) × IsFree seat.new }
+        ensures put { MatchResult result (λ _. known_to seat.new ≡ after_put (known_to seat.old) number) (λ back. (back ≡ number) × (known_to seat.new ≡ known_to seat.old) × (saw_no_room seat.new.me.view.stage seat.new.me.view.at ≡ true)) }
+    {
+        self.line.push_as::<Puts, R>(rt, seat, number)
+    }
+
+    // One step of the take pass: the number at the front of the queue, if any. Where there is none, a pass that has
+    // taken in the whole right to put knows that it has taken all.
+    fn pop<R: Wait>(&self, rt: &R, seat: &mut LinePass) -> Option<u32>
+        requires { IsTaker self.now (taker (known_to seat.old).splits (known_to seat.old).taken (known_to seat.old).joined) seat.old }
+        ensures seat { (seat.new.web ≡ self.now) × IsFree seat.new }
+        ensures taken { MatchOption result (known_to seat.new ≡ known_to seat.old) (λ number. known_to seat.new ≡ after_take (known_to seat.old) number) }
+        ensures all { IfNone result (IsWhole (known_to seat.old).splits → IsInterleaving (known_to seat.old).joined ((known_to seat.old).taken ++ [])) }
+    {
+        self.line.pop_as::<Takes, R>(rt, seat)
+    }
+
+    // The take pass takes in the put passes, in their order.
+    fn join_all(&self, seat: &mut LinePass, puts: Vec<PutPass>)
+        requires same { All (λ p. p.at ≡ self.now) puts.items }
+        requires taker { IsTaker self.now (taker [] (known_to seat.old).taken []) seat.old }
+        ensures { IsTaker self.now (taker (map (λ p. p.splits) puts.items) (known_to seat.old).taken (map (λ p. p.put) puts.items)) seat.new }
+    {
+        for put in puts {
+            let PutPass { seat: other } = put;
+            self.line.absorb::<Joins>(seat, other);
+        }
+    }
+
+    // Takes until the queue is empty. Room is reserved first, so that no number is lost for want of memory.
+    fn drain<R: Wait>(
+        &self,
+        rt: &R,
+        alloc: Global,
+        seat: &mut LinePass,
+    ) -> Result<Vec<u32>, AllocError>
+        requires whole { IsWhole (known_to seat.old).splits }
+        requires taker { IsTaker self.now (taker (known_to seat.old).splits (known_to seat.old).taken (known_to seat.old).joined) seat.old }
+        ensures { IfOk result (λ rest. IsInterleaving (known_to seat.old).joined ((known_to seat.old).taken ++ rest.items)) }
+    {
+        let mut rest = Vec::new(alloc);
+        for _ in rt.forever() {
+            rest.reserve(1)?;
+            match self.pop(rt, seat) {
+                Some(number) => rest.push_reserved(number),
+                None => return Ok(rest),
+            }
+        }
+        unreachable!()
+    }
+}

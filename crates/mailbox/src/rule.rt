@@ -1,0 +1,80 @@
+// What the passes of a mailbox know of its queue, and the rule that each call keeps.
+ghost use Rattle.std.specs.Prelude.{◌≡◌, ◌++◌, true};
+ghost use Rattle.mailbox.specs.Interleaving.{IsInterleaving};
+ghost use Rattle.mailbox.specs.Shares.{IsWhole};
+
+use crossbeam_queue::protocol::{Join, Lesson, Outcome, Protocol, Split};
+use std::collections::LinkedList;
+
+// What one pass knows. In a clause a `LinkedList` is a list. No value of it is made.
+pub struct View {
+    pub takes: bool,
+    pub splits: LinkedList<u64>,
+    pub sent: LinkedList<u32>,
+    pub taken: LinkedList<u32>,
+    pub joined: LinkedList<LinkedList<u32>>,
+}
+
+pub struct InOrder;
+
+impl Protocol<u32, View> for InOrder {
+    ghost use Rattle.mailbox.specs.Ordered.{IsOrdered, opener};
+
+    ghost holds = { IsOrdered };
+
+    ghost first = { opener };
+}
+
+// The first pass becomes a put pass and the take pass.
+pub struct Sides;
+
+impl Split<View> for Sides {
+    ghost use Rattle.mailbox.specs.Ordered.{put_side, take_side};
+
+    ghost left = { put_side };
+
+    ghost right = { take_side };
+}
+
+// A put pass becomes two, each with half of its share.
+pub struct Halves;
+
+impl Split<View> for Halves {
+    ghost use Rattle.mailbox.specs.Ordered.{halved, half_of};
+
+    ghost left = { halved };
+
+    ghost right = { half_of };
+}
+
+pub struct Puts;
+
+impl Outcome<u32, View> for Puts {
+    ghost use Rattle.mailbox.specs.Ordered.{after_put};
+
+    ghost then = { λ v x w. w ≡ after_put v x };
+}
+
+pub struct Takes;
+
+impl Outcome<u32, View> for Takes {
+    ghost use Rattle.mailbox.specs.Ordered.{after_take};
+
+    ghost then = { λ v x w. w ≡ after_take v x };
+}
+
+// Once the take pass has taken in the whole right to put, it knows all that was ever put.
+impl Lesson<u32, View> for Takes {
+    ghost fact = { λ v items. v.takes ≡ true → IsWhole v.splits → IsInterleaving v.joined (v.taken ++ items) };
+}
+
+// The take pass takes in a put pass.
+pub struct Joins;
+
+impl Join<View> for Joins {
+    ghost use Rattle.mailbox.specs.Ordered.{joined_with, spent};
+
+    ghost both = { joined_with };
+
+    ghost spent = { spent };
+}
