@@ -51,6 +51,11 @@ abbrev pub Tells : Option (List ℕ) → Option (List ℕ) → ℕ → ℕ → L
 Tells err err_after tells tells_after line wanted status =
     ((status ≡ wanted) × Appends err err_after line) ⊎ ((status ≡ 7) × Rose tells tells_after × AppendsFront err err_after line)
 
+-- a line was told, or the telling failed and a front of it was told
+abbrev pub Told : Option (List ℕ) → Option (List ℕ) → ℕ → ℕ → List ℕ → Type 0
+Told err err_after tells tells_after line =
+    Appends err err_after line ⊎ (Rose tells tells_after × AppendsFront err err_after line)
+
 -- what bytes that were read come to: whether they say a scenario, its run, and its text
 abbrev pub ComesOf : List ℕ → Option (List ℕ) → Option (List ℕ) → ℕ → ℕ → Report → Report → Outcome → Type 0
 ComesOf input out out_after writes writes_after report report_after Refused =
@@ -81,12 +86,12 @@ pub record RunAnswers (before after : Scene) (err err_after : Option (List ℕ))
   pub refused : status ≡ 3 → Refuses before.left × Appends err err_after refused_line × IsUntouched before after
   pub read_failed : status ≡ 6 → Rose before.reads after.reads × Appends err err_after read_line × IsUntouched before after
   pub write_failed : status ≡ 7
-      → (HasRun before after × Rose before.writes after.writes × AppendsFront before.out after.out (run_text after.report) × AppendsFront err err_after write_line)
+      → (HasRun before after × Rose before.writes after.writes × AppendsFront before.out after.out (run_text after.report) × Told err err_after tells tells_after write_line)
       ⊎ (Rose tells tells_after × IsUntouched before after
       × ((Refuses before.left × AppendsFront err err_after refused_line) ⊎ (Rose before.reads after.reads × AppendsFront err err_after read_line)))
   pub memory : status ≡ 9
-      → (HasRun before after × (after.report.status ≡ 9) × Appends before.out after.out (run_text after.report) × AppendsFront err err_after memory_line)
-      ⊎ (IsUntouched before after × AppendsFront err err_after memory_line)
+      → (HasRun before after × (after.report.status ≡ 9) × Appends before.out after.out (run_text after.report) × Told err err_after tells tells_after memory_line)
+      ⊎ (IsUntouched before after × Told err err_after tells tells_after memory_line)
   pub no_other : (status ≡ 0) ⊎ (status ≡ 3) ⊎ (status ≡ 4) ⊎ (status ≡ 6) ⊎ (status ≡ 7) ⊎ (status ≡ 9)
   pub take_failed : after.reads ≢ before.reads → (status ≡ 6) ⊎ ((status ≡ 7) × Rose tells tells_after)
   pub put_failed : after.writes ≢ before.writes → status ≡ 7

@@ -1,11 +1,10 @@
 ghost use Rattle.std.specs.Prelude.{◌≡◌, ◌≤◌, length, IfSome, option_map};
 ghost use Rattle.std.specs.List.{flat_map};
-ghost use Rattle.hb_rules.specs.Report.{runs};
 ghost use Rattle.hb_app.specs.Text.{Prints, AreShort, run_line, running_line, ended_line, memory_end_line, full_end_line, delivered_line, status_line, fate_text, end_text, state_text, delivered_by, delivered_at, value_text, node_text, nodes_text, run_text};
 
 use crate::line::Line;
 use hb_base::{Config, Failed, Sink};
-use hb_rules::{End, Fate, Post, Report, Vote};
+use hb_rules::{End, Fate, Post, Report, Vote, runs};
 
 /// What `hb_ledger` says of words that it doesn't know.
 pub const USAGE: &[u8; 55] = b"usage: hb_ledger run|soak N|trace|audit|observe|accuse\n";
@@ -49,7 +48,7 @@ fn put_node<O: Sink>(report: &Report, node: u8, out: &mut O) -> Result<(), Faile
     requires { AreShort report.now.history.items }
     ensures { Prints (O.held out.old) (O.held out.new) (O.faults out.old) (O.faults out.new) result (node_text report.now node) }
 {
-    put_state(&report.ends, node, out)?;
+    put_state(report.ends.as_slice(), node, out)?;
     put_value(delivered_at(&report.history, node), out)
 }
 
@@ -90,8 +89,8 @@ fn put_value<O: Sink>(value: Option<&[u8]>, out: &mut O) -> Result<(), Failed>
 }
 
 #[tactic(auto, using(crate::proofs::Prints::prints_then, crate::proofs::Prints::prints_front), unfolding(crate::specs::Text::state_text))]
-fn put_state<O: Sink>(ends: &Vec<End>, node: u8, out: &mut O) -> Result<(), Failed>
-    ensures { Prints (O.held out.old) (O.held out.new) (O.faults out.old) (O.faults out.new) result (state_text node ends.now.items) }
+fn put_state<O: Sink>(ends: &[End], node: u8, out: &mut O) -> Result<(), Failed>
+    ensures { Prints (O.held out.old) (O.held out.new) (O.faults out.old) (O.faults out.new) result (state_text node ends.now) }
 {
     if runs(ends, node) {
         put_running(node, out)
@@ -101,16 +100,9 @@ fn put_state<O: Sink>(ends: &Vec<End>, node: u8, out: &mut O) -> Result<(), Fail
     }
 }
 
-fn runs(ends: &Vec<End>, node: u8) -> bool
-    ensures { result ≡ runs ends.now.items node }
-{
-    ends.iter()
-        .all(|end| end.node != node || end.fate == Fate::Running)
-}
-
 #[tactic(auto, using(crate::proofs::Prints::prints_nothing, crate::proofs::Prints::prints_step, crate::proofs::Prints::prints_stop))]
-fn put_ends<O: Sink>(ends: &Vec<End>, node: u8, out: &mut O) -> Result<(), Failed>
-    ensures { Prints (O.held out.old) (O.held out.new) (O.faults out.old) (O.faults out.new) result (flat_map (end_text node) ends.now.items) }
+fn put_ends<O: Sink>(ends: &[End], node: u8, out: &mut O) -> Result<(), Failed>
+    ensures { Prints (O.held out.old) (O.held out.new) (O.faults out.old) (O.faults out.new) result (flat_map (end_text node) ends.now) }
 {
     for end in ends {
         put_end(end, node, out)?;

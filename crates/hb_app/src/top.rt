@@ -1,10 +1,9 @@
 ghost use Rattle.std.specs.Prelude.{◌≡◌, ◌≢◌, ◌↔◌, ℕ, List, Some, IsTrue, codes, string_bytes};
 ghost use Rattle.std.specs.Io.KnownBytes.{Keeps};
-ghost use Rattle.hb_base.specs.Outside.{AppendsFront};
 ghost use Rattle.hb_app.specs.Scenario.{scenario_of};
 ghost use Rattle.hb_app.specs.Text.{usage_line, memory_line};
 ghost use Rattle.hb_app.specs.Run.{IsPlain};
-ghost use Rattle.hb_app.specs.Top.{AsksRun, Tells, ComesOf, Comes, RunAnswers};
+ghost use Rattle.hb_app.specs.Top.{AsksRun, Tells, Told, ComesOf, Comes, RunAnswers};
 
 use crate::driver::run;
 use crate::input::{Input, read_input};
@@ -149,7 +148,7 @@ fn run_scenario<O: Sink>(
 fn answer<E: Sink>(status: u8, err: &mut E) -> u8
     ensures status { result ≡ status }
     ensures quiet { status ≢ 9 → Keeps (E.held err.old) (E.held err.new) }
-    ensures line { status ≡ 9 → AppendsFront (E.held err.old) (E.held err.new) memory_line }
+    ensures line { status ≡ 9 → Told (E.held err.old) (E.held err.new) (E.faults err.old) (E.faults err.new) memory_line }
 {
     if status == 9 {
         hint(NO_MEMORY, 9, err)
@@ -170,10 +169,10 @@ fn tell<E: Sink>(line: &[u8], status: u8, err: &mut E) -> u8
 }
 
 // Tells a line if that works, and answers a status.
-#[tactic(auto, using(crate::proofs::Answers::puts_front))]
+#[tactic(auto, using(crate::proofs::Answers::puts_told))]
 fn hint<E: Sink>(line: &[u8], status: u8, err: &mut E) -> u8
     ensures status { result ≡ status }
-    ensures line { AppendsFront (E.held err.old) (E.held err.new) line.now }
+    ensures line { Told (E.held err.old) (E.held err.new) (E.faults err.old) (E.faults err.new) line.now }
 {
     let _told = err.put(line);
     status

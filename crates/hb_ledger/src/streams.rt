@@ -1,12 +1,12 @@
-ghost use Rattle.std.specs.Prelude.{◌<◌, length, None};
-ghost use Rattle.std.specs.Io.{ReadsAtMost};
-ghost use Rattle.std.specs.Io.KnownBytes.{ReadConsumes};
+ghost use Rattle.std.specs.Prelude.{◌≡◌, ℕ, ◌<◌, ◌≤◌, length, take, IfOk, OnOk, MatchResult};
+ghost use Rattle.std.specs.Io.{ReadsAtMost, WritesAtMost};
+ghost use Rattle.std.specs.Io.KnownBytes.{Keeps, ReadConsumes, WriteAppends};
 ghost use Rattle.hb_base.specs.Outside.{HasCause, Puts};
 
 use hb_base::{Failed, Sink, Source};
-use std::io::{Read, Write};
+use std::io::{ErrorKind, Read, Write};
 
-/// A reader as a source. It counts the reads that failed.
+/// A reader as a source. It counts the takes that failed.
 #[derive(Drop)]
 pub struct Reading<R> {
     reader: R,
@@ -14,8 +14,10 @@ pub struct Reading<R> {
 }
 
 impl<R> Reading<R> {
-    /// A source over a reader of which no read has failed.
-    pub fn new(reader: R) -> Reading<R> {
+    /// A source over a reader of which no take has failed.
+    pub fn new(reader: R) -> Reading<R>
+        ensures { result ≡ record { reader = reader; faults = 0 } }
+    {
         Reading { reader, faults: 0 }
     }
 }
@@ -26,14 +28,28 @@ impl<R: Read> Source for Reading<R> {
     ghost faults = { λ s. s.faults };
 
     fn take(&mut self, buf: &mut [u8]) -> Result<usize, Failed> {
-        match self.reader.read(buf) {
-            Ok(count) => Ok(count),
-            Err(_) => {
-                self.faults = self.faults.saturating_add(1);
-                Err(Failed)
-            }
+        let taken = read_some(&mut self.reader, buf);
+        if taken.is_err() {
+            self.faults = self.faults.saturating_add(1);
+        }
+        taken
+    }
+}
+
+// Reads some bytes, again after each interruption.
+#[tactic(auto, using(crate::proofs::KnownBytes::keeps_itself, crate::proofs::KnownBytes::keeps_then_keeps, crate::proofs::KnownBytes::keeps_then_read))]
+fn read_some<R: Read>(reader: &mut R, buf: &mut [u8]) -> Result<usize, Failed>
+    ensures bound { ReadsAtMost result buf.new }
+    ensures bytes { ReadConsumes (R.remaining reader.old) (R.remaining reader.new) result buf.new }
+{
+    for _ in 0..u64::MAX {
+        match reader.read(buf) {
+            Ok(count) => return Ok(count),
+            Err(error) if error.kind() == ErrorKind::Interrupted => {}
+            Err(_) => return Err(Failed),
         }
     }
+    Err(Failed)
 }
 
 /// A writer as a sink. It counts the puts that failed.
@@ -45,21 +61,59 @@ pub struct Writing<W> {
 
 impl<W> Writing<W> {
     /// A sink over a writer of which no put has failed.
-    pub fn new(writer: W) -> Writing<W> {
+    pub fn new(writer: W) -> Writing<W>
+        ensures { result ≡ record { writer = writer; faults = 0 } }
+    {
         Writing { writer, faults: 0 }
     }
 }
 
 impl<W: Write> Sink for Writing<W> {
-    ghost held = { λ _. None };
+    ghost held = { λ s. W.contents s.writer };
 
     ghost faults = { λ s. s.faults };
 
     fn put(&mut self, bytes: &[u8]) -> Result<(), Failed> {
-        if self.writer.write_all(bytes).is_ok() && self.writer.flush().is_ok() {
+        let written = write_through(&mut self.writer, bytes);
+        if written.is_err() {
+            self.faults = self.faults.saturating_add(1);
+        }
+        written
+    }
+}
+
+// Writes all the bytes, and then flushes the writer.
+fn write_through<W: Write>(writer: &mut W, bytes: &[u8]) -> Result<(), Failed>
+    ensures { Puts (W.contents writer.old) (W.contents writer.new) result bytes.now }
+{
+    write_whole(writer, bytes)?;
+    writer.flush().map_err(|_| Failed)
+}
+
+// Writes all the bytes. std's `write_all` does not tell what was written where it fails.
+#[tactic(auto, using(crate::proofs::KnownBytes::keeps_itself, crate::proofs::KnownBytes::appends_nothing, crate::proofs::KnownBytes::front_grows, crate::proofs::KnownBytes::front_stays))]
+fn write_whole<W: Write>(writer: &mut W, bytes: &[u8]) -> Result<(), Failed>
+    ensures { Puts (W.contents writer.old) (W.contents writer.new) result bytes.now }
+{
+    let mut at = 0;
+    for _ in 0..u64::MAX {
+        if at == bytes.len() {
             return Ok(());
         }
-        self.faults = self.faults.saturating_add(1);
-        Err(Failed)
+        at += write_some(writer, &bytes[at..])?;
+    }
+    Err(Failed)
+}
+
+// Writes some of the bytes, or none after an interruption.
+fn write_some<W: Write>(writer: &mut W, bytes: &[u8]) -> Result<usize, Failed>
+    ensures bound { IfOk result (λ count. count ≤ length bytes.now) }
+    ensures bytes { WriteAppends (W.contents writer.old) (W.contents writer.new) result bytes.now }
+{
+    match writer.write(bytes) {
+        Ok(0) => Err(Failed),
+        Ok(count) => Ok(count),
+        Err(error) if error.kind() == ErrorKind::Interrupted => Ok(0),
+        Err(_) => Err(Failed),
     }
 }

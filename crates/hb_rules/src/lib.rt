@@ -17,5 +17,5 @@ pub use due::Due;
 pub use plain_book::PlainBook;
 pub use plain_seat::PlainSeat;
 pub use post::{Post, hears, reaches};
-pub use report::{End, Fate, Report, Submit, running};
+pub use report::{End, Fate, Report, Submit, running, runs};
 pub use vote::{To, Vote};

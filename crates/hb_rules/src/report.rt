@@ -67,8 +67,8 @@ pub fn running(report: &Report, node: u8) -> bool
         && runs(report.ends.as_slice(), node)
 }
 
-// Whether no actor of a node has ended.
-fn runs(ends: &[End], node: u8) -> bool
+/// Whether no actor of a node has ended, by the ends of a run.
+pub fn runs(ends: &[End], node: u8) -> bool
     ensures { result ≡ runs ends.now node }
 {
     ends.iter()

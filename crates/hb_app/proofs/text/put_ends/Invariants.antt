@@ -7,4 +7,4 @@ use Rattle.hb_app.proofs.text.put_ends.Given as goal
 abbrev pub invariant-loop-end : goal.invariant-loop-end
 invariant-loop-end g l =
     Prints {T = Unit {0}} {E = Failed} (g.O.Sink.held l.fn.out) (g.O.Sink.held l.out) (g.O.Sink.faults l.fn.out) (g.O.Sink.faults l.out) (Ok tt)
-    (flat_map (end_text l.node) (take l.end-index l.ends.items))
+    (flat_map (end_text l.node) (take l.end-index l.ends))
