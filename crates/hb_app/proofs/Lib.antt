@@ -3,7 +3,9 @@ pub mod Casts
 pub mod Deliveries
 pub mod Prints
 pub mod Quiet
+pub mod Reports
 pub mod Runs
 pub mod Scenarios
 pub mod Taking
 pub mod Teams
+pub mod Totality

@@ -18,16 +18,15 @@ use Rattle.rbc_core.specs.Broadcast.{Place, slots_at}
 use Rattle.hb_rules.specs.Hearing.{Hearing, own_in}
 use Rattle.hb_rules.specs.History.{IsLegal}
 use Rattle.hb_rules.specs.Owing.{Slot, IsIdle, each, val_slots, echo_slot, ready_slot, delivery_slot, broadcast_slots, lane_slots, desk_slots}
-use Rattle.hb_rules.specs.Report.{heard_of, IsReceived, IsSettled, IsQuiet, slots_of, status_of, submitted_at}
+use Rattle.hb_rules.specs.Report.{heard_of, IsReceived, IsSettled, IsQuiet, slots_of, submitted_at}
 use Rattle.hb_rules.proofs.Sayings.{said, list_any-from}
 use Rattle.hb_rules.proofs.Validity.{broadcast_validity, delivery_in_lane, is_value_if}
 use Rattle.hb_app.specs.declared.member.Core.{Core}
 use Rattle.hb_app.specs.declared.member.Core.TheVariants.{Lane, Desk}
 use Rattle.hb_app.specs.declared.member.Member.{Member}
-use Rattle.hb_app.specs.declared.scenario.Scenario.{Scenario}
 use Rattle.hb_app.specs.Member.{IsReady, end_of}
 use Rattle.hb_app.specs.Team.{IsRun, HasProposed}
-use Rattle.hb_app.specs.Run.{IsPlain, Agree, IsRunOf}
+use Rattle.hb_app.specs.Run.{Agree}
 
 -- the ends of actors are at their places
 map-end_of : (team : List Member) → map {B = ℕ × ℕ} (λ (e : End). (e.node, e.actor)) (map end_of team) ≡ map {B = ℕ × ℕ} (λ (m : Member). (m.node, m.actor)) team
@@ -52,7 +51,7 @@ ended : (team : List Member) (end : End) → Contains (map end_of team) end → 
 ended team end stands = ended_at team end stands.0 (slice_get-get_or (map end_of team) stands.0 end stands.1 ∙ ap (λ (e : End). Some e) stands.2)
 
 -- the slots of a lane in one epoch
-one_epoch : (c : Numbers) (i x : ℕ) (k : ℕ) → k ≡ 1 →
+pub one_epoch : (c : Numbers) (i x : ℕ) (k : ℕ) → k ≡ 1 →
     each k (val_slots c i x) ++ (each k (λ e. echo_slot i x e ∷ []) ++ (each k (λ e. ready_slot c e ∷ []) ++ each k (λ e. delivery_slot c e ∷ []))) ≡ broadcast_slots c i x 0
 one_epoch c i x k one = rw one refl
 
@@ -73,7 +72,7 @@ idle c submits i x own heard Desk one ready =
     (desk_idle own heard (submitted_at i submits) ready.1)
 
 -- no node lies
-none_lies : (k i : ℕ) → is_in (replicate k false) i ≡ false
+pub none_lies : (k i : ℕ) → is_in (replicate k false) i ≡ false
 none_lies zero i = refl
 none_lies (suc k) zero = refl
 none_lies (suc k) (suc i) = none_lies k i
@@ -82,7 +81,7 @@ is_delivery-self : (e : ℕ) (v : List ℕ) → is_delivery e v (Delivered e v) 
 is_delivery-self e v = rw (eq-eqb e e refl) ((bytes_eq-Decides v v).1 refl)
 
 -- what the desks have proposed is the value
-proposed_value : (c : Numbers) (value : List ℕ) (posts : List Post) (x e : ℕ) (v : List ℕ) → HasProposed c value posts → ((i : ℕ) → i ≢ 0 → own_in i c.n posts ≡ [])
+pub proposed_value : (c : Numbers) (value : List ℕ) (posts : List Post) (x e : ℕ) (v : List ℕ) → HasProposed c value posts → ((i : ℕ) → i ≢ 0 → own_in i c.n posts ≡ [])
     → said (is_proposal e v) x c.n posts ≡ true → v ≡ value
 proposed_value c value posts x e v proposed silent h = elim (cases_Bool (x == 0)) [
   | inl same ↦ elim proposed [
@@ -99,7 +98,7 @@ proposed_value c value posts x e v proposed silent h = elim (cases_Bool (x == 0)
 ]
 
 -- every delivered value is the one that was submitted
-agree : (c : Numbers) (value : List ℕ) (posts : List Post) → AreSound c → c.liars ≡ replicate 16 false → IsLegal c posts → HasProposed c value posts
+pub agree : (c : Numbers) (value : List ℕ) (posts : List Post) → AreSound c → c.liars ≡ replicate 16 false → IsLegal c posts → HasProposed c value posts
     → ((i : ℕ) → i ≢ 0 → own_in i c.n posts ≡ []) → Agree value posts
 agree c value posts sound none legal proposed silent = record {
   on = λ i x e v stands.
@@ -110,7 +109,7 @@ agree c value posts sound none legal proposed silent = record {
 }
 
 -- nothing is left to do
-quiet : (report : Report) (value : List ℕ) (team : List Member) → report.config.epochs ≡ 1 → IsRun report.config value report.history.items team (length report.history.items)
+pub quiet : (report : Report) (value : List ℕ) (team : List Member) → report.config.epochs ≡ 1 → IsRun report.config value report.history.items team (length report.history.items)
     → report.ends.items ≡ map end_of team → IsQuiet report
 quiet report value team one run ends = record {
   ends = ap (λ (es : List End). map {B = ℕ × ℕ} (λ (e : End). (e.node, e.actor)) es) ends ∙ map-end_of team ∙ run.places;
@@ -129,24 +128,3 @@ quiet report value team one run ends = record {
             ((run.is_team.members here.place here.member here.stands).ready running);
       });
 }
-
--- the report of a run
-pub IsRunOf-run : (s : Scenario) (report : Report) (config : Numbers) (posts : List Post) (team : List Member) → IsPlain s → AreSound s.config → config ≡ s.config → IsLegal config posts
-    → IsRun config s.submit.tx posts team (length posts) → report.config ≡ s.config → report.submit.items ≡ s.submit ∷ [] → report.history.items ≡ posts → report.ends.items ≡ map end_of team
-    → report.status ≡ status_of report.ends.items → IsRunOf s report
-IsRunOf-run s report config posts team plain sound same legal0 run0 config_is submit_is history_is ends_is status_is =
-    let to_config : config ≡ report.config = same ∙ sym config_is in
-    let legal : IsLegal report.config report.history.items =
-    subst (λ (ps : List Post). IsLegal report.config ps) (sym history_is) (subst (λ (c : Numbers). IsLegal c posts) to_config legal0) in
-    let run : IsRun report.config s.submit.tx report.history.items team (length report.history.items) =
-    subst (λ (ps : List Post). IsRun report.config s.submit.tx ps team (length ps)) (sym history_is)
-    (subst (λ (c : Numbers). IsRun c s.submit.tx posts team (length posts)) to_config run0) in
-    record {
-      config = config_is;
-      submit = submit_is;
-      legal = legal;
-      once = run.once;
-      quiet = quiet report s.submit.tx team (ap (λ (c : Numbers). c.epochs) config_is ∙ plain.epochs) run ends_is;
-      agreed = agree report.config s.submit.tx report.history.items (subst AreSound (sym config_is) sound) (ap (λ (c : Numbers). c.liars) config_is ∙ plain.liars) legal run.proposed run.silent;
-      status = status_is;
-    }

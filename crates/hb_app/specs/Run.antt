@@ -1,11 +1,13 @@
 -- What a run of one broadcast comes to.
-use Rattle.std.specs.Prelude.{◌≡◌, ℕ, ◌≤◌, false, List, [], ◌∷◌, length, replicate, Contains}
+use Rattle.std.specs.Prelude.{◌≡◌, ℕ, ◌-◌, ◌<◌, ◌≤◌, true, false, Some, List, [], ◌∷◌, length, replicate, Contains}
+use Rattle.hb_base.specs.Counting.{count_nodes}
 use Rattle.hb_rules.specs.declared.vote.Vote.TheVariants.{Delivered}
 use Rattle.hb_rules.specs.declared.post.Post.{Post}
 use Rattle.hb_rules.specs.declared.report.Report.{Report}
 use Rattle.hb_rules.specs.Hearing.{own_in}
 use Rattle.hb_rules.specs.History.{IsLegal}
-use Rattle.hb_rules.specs.Report.{NoVoteTwice, IsQuiet, status_of}
+use Rattle.hb_rules.specs.Report.{NoVoteTwice, IsQuiet, is_running, status_of}
+use Rattle.hb_app.specs.Text.{delivered_at}
 use Rattle.hb_app.specs.declared.scenario.Scenario.{Scenario}
 
 -- a scenario of one broadcast among correct nodes
@@ -19,8 +21,15 @@ pub record IsPlain (s : Scenario) : Type 0 where
 pub record Agree (value : List ℕ) (history : List Post) : Type 0 where
   pub on : (i x e : ℕ) (v : List ℕ) → Contains (own_in i x history) (Delivered e v) → v ≡ value
 
+-- Where the sender and at least n - f nodes are running, each running node has delivered the value; and where the status
+-- is 0, each node has.
+pub record AllDeliver (value : List ℕ) (report : Report) : Type 0 where
+  pub running : is_running report 0 ≡ true → report.config.n - report.config.f ≤ count_nodes report.config.n (is_running report)
+      → (i : ℕ) → is_running report i ≡ true → delivered_at i report.history.items ≡ Some value
+  pub ok : report.status ≡ 0 → (i : ℕ) → i < report.config.n → delivered_at i report.history.items ≡ Some value
+
 -- The report of a run of a scenario: its history is legal, no vote of an actor stands in it twice, nothing is left to do,
--- and every delivered value is the one that was submitted.
+-- every delivered value is the one that was submitted, and the running nodes have delivered it.
 pub record IsRunOf (s : Scenario) (report : Report) : Type 0 where
   pub config : report.config ≡ s.config
   pub submit : report.submit.items ≡ s.submit ∷ []
@@ -28,4 +37,5 @@ pub record IsRunOf (s : Scenario) (report : Report) : Type 0 where
   pub once : NoVoteTwice report.history.items
   pub quiet : IsQuiet report
   pub agreed : Agree s.submit.tx report.history.items
+  pub complete : AllDeliver s.submit.tx report
   pub status : report.status ≡ status_of report.ends.items
