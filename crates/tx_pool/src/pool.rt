@@ -54,8 +54,8 @@ impl Pool {
 
     /// Pools a transaction of 1 to 256 bytes behind the others, unless the same bytes are pooled or settled.
     ///
-    /// It takes one look-up, and where the bytes are new one insertion, both in time logarithmic in the number of
-    /// transactions that the pool was told of, and two copies of the bytes.
+    /// It takes one look-up, in time logarithmic in the number of transactions that the pool was told of. Where the bytes
+    /// are new it takes one insertion besides, and copies them twice. The list doubles where it is full.
     pub fn submit(&mut self, tx: &[u8]) -> Result<Submitted, AllocError>
         requires { IsTransaction tx.now }
         ensures answer { IfOk result (λ answer. answer ≡ (if is_known self.old tx.now then Submitted.Known else Submitted.Added)) }
@@ -100,8 +100,8 @@ impl Pool {
         Ok(())
     }
 
-    /// The pooled transactions, lent, in the order in which they came. Each stands once, has 1 to
-    /// 256 bytes, and is not settled.
+    /// The pooled transactions, lent, in the order in which they came. Each stands once, has 1 to 256 bytes, and is not
+    /// settled.
     pub fn pooled(&self) -> &[Bytes]
         ensures items { result.now ≡ self.now.pooled }
         ensures once { IsDistinct bytes_eq self.now.pooled }
