@@ -1,0 +1,4 @@
+pub mod Pool
+pub mod Keyed
+pub mod Standings
+pub mod Calls

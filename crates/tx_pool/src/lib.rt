@@ -1,0 +1,10 @@
+//! The transaction pool of a node (CCS paper, section 4.2: the buffer of transactions that wait): what was submitted and
+//! is not settled, in the order in which it came.
+#![tactic(auto)]
+
+mod pool;
+mod standings;
+#[cfg(test)]
+mod tests;
+
+pub use pool::{Pool, Submitted};
