@@ -1,5 +1,5 @@
 // A journal in two halves: entries behind gates, folded into one in the other half when they are many.
-ghost use Rattle.std.specs.Prelude.{◌≡◌, ◌^◌, ◌<◌, ◌≤◌, [], ◌∷◌, ◌++◌, length, ◌||◌, true, false, IfOk, OnOk, IfErr, MatchResult};
+ghost use Rattle.std.specs.Prelude.{◌≡◌, ◌+◌, ◌-◌, ◌^◌, ◌<◌, ◌≤◌, min, [], ◌∷◌, ◌++◌, length, ◌||◌, true, false, IfOk, OnOk, IfErr, MatchResult};
 ghost use Rattle.std.specs.List.{concat};
 ghost use Rattle.disk_model.specs.Disk.{Only};
 ghost use Rattle.disk_model.specs.Supply.{Draws};
@@ -92,7 +92,7 @@ impl<D: Disk> Journal<D> {
         add_entry(&mut self.disk, self.live, self.gate, entry, &framed)?;
         self.gate += framed.len() as u64;
         self.entries = self.entries.saturating_add(1);
-        self.bytes = self.bytes.saturating_add(entry.len() as u64);
+        self.bytes = bytes_with(self.bytes, entry);
         Ok(())
     }
 
@@ -163,4 +163,11 @@ impl<D: Disk> Journal<D> {
         } = self;
         disk
     }
+}
+
+// How many bytes of payload there are with an entry more, up to the greatest u64.
+fn bytes_with(bytes: u64, entry: &[u8]) -> u64
+    ensures { result ≡ min (bytes + length entry.now) (2 ^ 64 - 1) }
+{
+    bytes.saturating_add(entry.len() as u64)
 }
