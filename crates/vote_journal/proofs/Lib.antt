@@ -9,3 +9,4 @@ pub mod Spelled
 pub mod Starts
 pub mod Arranges
 pub mod Folds
+pub mod Always

@@ -3,3 +3,4 @@ pub mod Faults
 pub mod Runs
 pub mod Steps
 pub mod Usable
+pub mod Calls

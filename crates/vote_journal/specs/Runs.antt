@@ -1,9 +1,10 @@
 -- What is said of a disk over several of its calls.
-use Rattle.std.specs.Prelude.{◌≡◌, ℕ, ◌≤◌}
+use Rattle.std.specs.Prelude.{◌≡◌, ◌⊎◌, ℕ, ◌≤◌, List}
 use Rattle.disk_model.specs.Image.{Image}
 use Rattle.disk_model.specs.Disk.{LeavesOnly}
 use Rattle.disk_model.specs.Cause.{Rose}
 use Rattle.disk_model.specs.Supply.{Supply, Draws}
+use Rattle.vote_journal.specs.Text.{SaysOnly}
 use Rattle.vote_journal.specs.declared.fault.JournalFault.{JournalFault}
 use Rattle.vote_journal.specs.declared.fault.JournalFault.TheVariants.{Failed}
 
@@ -17,3 +18,7 @@ pub record Runs {D : Type 0} (moment : D → ℕ) (left_since : D → ℕ → Im
 pub record HasReason {D : Type 0} (faults : D → ℕ) (explains : D → Type 0) (old new : D) (fault : JournalFault) : Type 0 where
   pub rose : fault ≡ Failed → Rose (faults old) (faults new)
   pub explained : fault ≡ Failed → explains new
+
+-- what might have been left before, or a sound image of this text
+abbrev pub LeftOrSays : (Image → Type 0) → List ℕ → Image → Type 0
+LeftOrSays may_leave text c = may_leave c ⊎ SaysOnly text c

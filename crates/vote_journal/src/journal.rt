@@ -1,9 +1,9 @@
 // A journal in two halves: entries behind gates, folded into one in the other half when they are many.
-ghost use Rattle.std.specs.Prelude.{◌≡◌, ◌^◌, ◌<◌, ◌≤◌, [], ◌∷◌, ◌++◌, length, ◌||◌, true, false, IfOk, OnOk, IfErr, MatchResult};
+ghost use Rattle.std.specs.Prelude.{◌≡◌, ◌+◌, ◌-◌, ◌^◌, ◌<◌, ◌≤◌, min, [], ◌∷◌, ◌++◌, length, ◌||◌, true, false, IfOk, OnOk, IfErr, MatchResult};
 ghost use Rattle.std.specs.List.{concat};
 ghost use Rattle.disk_model.specs.Disk.{Only};
 ghost use Rattle.disk_model.specs.Supply.{Draws};
-ghost use Rattle.vote_journal.specs.Runs.{Runs, HasReason};
+ghost use Rattle.vote_journal.specs.Runs.{Runs, HasReason, LeftOrSays};
 ghost use Rattle.vote_journal.specs.Text.{text_of, live_entries, is_foreign, IsSound, SaysOnly, SaysMaybe};
 
 use crate::JournalFault;
@@ -44,6 +44,11 @@ impl<D: Disk> Journal<D> {
         ensures runs { Only (D.seen disk) (D.may_leave disk) → IsSound (D.seen disk)
             → MatchResult result (λ opened. Runs D.moment D.left_since D.faults D.supply disk (disk_of opened.0) (SaysOnly (text_of (D.seen disk))))
             (λ refused. Runs D.moment D.left_since D.faults D.supply disk refused.0 (SaysOnly (text_of (D.seen disk)))) }
+
+        // Whatever was pending, it leaves what one before the call may have left, or a sound image of the same text.
+        ensures pending { IsSound (D.seen disk)
+            → MatchResult result (λ opened. Runs D.moment D.left_since D.faults D.supply disk (disk_of opened.0) (LeftOrSays (D.may_leave disk) (text_of (D.seen disk))))
+            (λ refused. Runs D.moment D.left_since D.faults D.supply disk refused.0 (LeftOrSays (D.may_leave disk) (text_of (D.seen disk)))) }
         ensures supply { MatchResult result (λ opened. Draws (D.supply disk) (D.supply (disk_of opened.0))) (λ refused. Draws (D.supply disk) (D.supply refused.0)) }
         ensures failed { IfErr result (λ refused. HasReason D.faults D.explains disk refused.0 refused.1) }
     {
@@ -87,7 +92,7 @@ impl<D: Disk> Journal<D> {
         add_entry(&mut self.disk, self.live, self.gate, entry, &framed)?;
         self.gate += framed.len() as u64;
         self.entries = self.entries.saturating_add(1);
-        self.bytes = self.bytes.saturating_add(entry.len() as u64);
+        self.bytes = bytes_with(self.bytes, entry);
         Ok(())
     }
 
@@ -158,4 +163,11 @@ impl<D: Disk> Journal<D> {
         } = self;
         disk
     }
+}
+
+// How many bytes of payload there are with an entry more, up to the greatest u64.
+fn bytes_with(bytes: u64, entry: &[u8]) -> u64
+    ensures { result ≡ min (bytes + length entry.now) (2 ^ 64 - 1) }
+{
+    bytes.saturating_add(entry.len() as u64)
 }

@@ -5,6 +5,7 @@ mod device;
 mod fault;
 mod fold;
 mod journal;
+mod laws;
 mod parse;
 mod recover;
 mod steps;
@@ -13,3 +14,4 @@ mod tests;
 
 pub use fault::JournalFault;
 pub use journal::Journal;
+pub use laws::always_sound;

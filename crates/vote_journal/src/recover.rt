@@ -4,7 +4,7 @@ ghost use Rattle.std.specs.List.{concat};
 ghost use Rattle.disk_model.specs.Image.{half_of, other};
 ghost use Rattle.disk_model.specs.Disk.{Only};
 ghost use Rattle.disk_model.specs.Supply.{Draws};
-ghost use Rattle.vote_journal.specs.Runs.{Runs, HasReason};
+ghost use Rattle.vote_journal.specs.Runs.{Runs, HasReason, LeftOrSays};
 ghost use Rattle.vote_journal.specs.Text.{AreBytes, entries_of, is_foreign, blocks, live_half, live_by, live_entries, text_of, is_some_entry, IsSound, SaysOnly};
 ghost use Rattle.vote_journal.specs.Steps.{IsFoundIn, MayArrange, Arranged, arranged};
 
@@ -132,6 +132,7 @@ pub(crate) fn open<D: Disk>(alloc: Global, disk: &mut D) -> Result<Opened, Journ
     ensures durable { OnOk result (Only (D.seen disk.new) (D.may_leave disk.new)) }
     ensures runs { Only (D.seen disk.old) (D.may_leave disk.old) → IsSound (D.seen disk.old)
         → Runs D.moment D.left_since D.faults D.supply disk.old disk.new (SaysOnly (text_of (D.seen disk.old))) }
+    ensures pending { IsSound (D.seen disk.old) → Runs D.moment D.left_since D.faults D.supply disk.old disk.new (LeftOrSays (D.may_leave disk.old) (text_of (D.seen disk.old))) }
     ensures supply { Draws (D.supply disk.old) (D.supply disk.new) }
     ensures failed { IfErr result (HasReason D.faults D.explains disk.old disk.new) }
 {

@@ -1,7 +1,7 @@
 // The steps that a journal is made of: an entry behind a gate, and a half that is given up.
 ghost use Rattle.std.specs.Prelude.{◌≡◌, ◌≤◌, ◌<◌, ◌+◌, ◌^◌, [], ◌∷◌, ◌++◌, length, take, nat_le, IfOk, OnOk, IfErr};
 ghost use Rattle.disk_model.specs.Image.{half_of, other, with_half};
-ghost use Rattle.disk_model.specs.Disk.{Only, overwritten};
+ghost use Rattle.disk_model.specs.Disk.{Only, overwritten, Torn, OnHalf};
 ghost use Rattle.vote_journal.specs.Runs.{Runs, HasReason};
 ghost use Rattle.vote_journal.specs.Text.{entries_of, size_bytes, blocks, Spells};
 ghost use Rattle.vote_journal.specs.Steps.{MayGain, MayShut, BothTorn, MayBegin, begun, begun_half};
@@ -55,6 +55,47 @@ pub(crate) fn frame(alloc: Global, payload: &[u8]) -> Result<Vec<u8>, AllocError
     Ok(framed)
 }
 
+/// Writes what stands behind a closed gate, and makes it durable. No image has the gate opened by it.
+fn stage<D: Disk>(disk: &mut D, half: Half, gate: u64, framed: &[u8]) -> Result<(), JournalFault>
+    requires fits { gate + 1 ≤ length (half_of half (D.seen disk.old)) }
+    requires durable { Only (D.seen disk.old) (D.may_leave disk.old) }
+    requires small { gate < 2 ^ 63 }
+    ensures written { OnOk result (D.seen disk.new ≡ with_half half (overwritten (gate + 1) framed.now (half_of half (D.seen disk.old))) (D.seen disk.old)) }
+    ensures small { OnOk result (gate + 1 + length framed.now < 2 ^ 63) }
+    ensures durable { OnOk result (Only (D.seen disk.new) (D.may_leave disk.new)) }
+    ensures runs { Runs D.moment D.left_since D.faults D.supply disk.old disk.new (OnHalf half (Torn (gate + 1) (length framed.now)) (D.seen disk.old)) }
+    ensures failed { IfErr result (HasReason D.faults D.explains disk.old disk.new) }
+    ensures no_other { IfErr result (λ e. e ≡ JournalFault.NotAJournal → ⊥) }
+{
+    write_through(disk, half, gate + 1, framed)
+}
+
+/// Opens a gate, and makes that durable.
+fn open_gate<D: Disk>(disk: &mut D, half: Half, gate: u64) -> Result<(), JournalFault>
+    requires fits { gate ≤ length (half_of half (D.seen disk.old)) }
+    requires durable { Only (D.seen disk.old) (D.may_leave disk.old) }
+    ensures written { OnOk result (D.seen disk.new ≡ with_half half (overwritten gate (0x5A ∷ []) (half_of half (D.seen disk.old))) (D.seen disk.old)) }
+    ensures durable { OnOk result (Only (D.seen disk.new) (D.may_leave disk.new)) }
+    ensures runs { Runs D.moment D.left_since D.faults D.supply disk.old disk.new (OnHalf half (Torn gate 1) (D.seen disk.old)) }
+    ensures failed { IfErr result (HasReason D.faults D.explains disk.old disk.new) }
+    ensures no_other { IfErr result (λ e. e ≡ JournalFault.NotAJournal → ⊥) }
+{
+    write_through(disk, half, gate, &[OPEN])
+}
+
+/// Closes the first gate of a half, and makes that durable. Nothing else of it changes.
+fn shut_gate<D: Disk>(disk: &mut D, half: Half) -> Result<(), JournalFault>
+    requires fits { 8 ≤ length (half_of half (D.seen disk.old)) }
+    requires durable { Only (D.seen disk.old) (D.may_leave disk.old) }
+    ensures written { OnOk result (D.seen disk.new ≡ with_half half (overwritten 8 (0 ∷ []) (half_of half (D.seen disk.old))) (D.seen disk.old)) }
+    ensures durable { OnOk result (Only (D.seen disk.new) (D.may_leave disk.new)) }
+    ensures runs { Runs D.moment D.left_since D.faults D.supply disk.old disk.new (OnHalf half (Torn 8 1) (D.seen disk.old)) }
+    ensures failed { IfErr result (HasReason D.faults D.explains disk.old disk.new) }
+    ensures no_other { IfErr result (λ e. e ≡ JournalFault.NotAJournal → ⊥) }
+{
+    write_through(disk, half, FIRST_GATE, &[CLOSED])
+}
+
 /// Puts an entry behind the closed gate of a half, makes it durable, and only then opens the gate.
 pub(crate) fn add_entry<D: Disk>(
     disk: &mut D,
@@ -78,8 +119,8 @@ pub(crate) fn add_entry<D: Disk>(
     ensures failed { IfErr result (HasReason D.faults D.explains disk.old disk.new) }
     ensures no_other { IfErr result (λ e. e ≡ JournalFault.NotAJournal → ⊥) }
 {
-    write_through(disk, half, gate + 1, framed)?;
-    write_through(disk, half, gate, &[OPEN])?;
+    stage(disk, half, gate, framed)?;
+    open_gate(disk, half, gate)?;
     Ok(())
 }
 
@@ -93,7 +134,7 @@ pub(crate) fn retire<D: Disk>(disk: &mut D, half: Half) -> Result<(), JournalFau
     ensures failed { IfErr result (HasReason D.faults D.explains disk.old disk.new) }
     ensures no_other { IfErr result (λ e. e ≡ JournalFault.NotAJournal → ⊥) }
 {
-    write_through(disk, half, FIRST_GATE, &[CLOSED])?;
+    shut_gate(disk, half)?;
     cut_through(disk, half, FIRST_GATE + 1)?;
     Ok(())
 }

@@ -1,4 +1,7 @@
 ghost use Rattle.std.specs.Prelude.{◌≡◌, ◌<◌, ◌^◌, [], length, IfOk, OnOk};
+ghost use Rattle.disk_model.specs.Disk.{LeavesOnly};
+ghost use Rattle.vote_journal.specs.Calls.{IsEmpty};
+ghost use Rattle.vote_journal.specs.Text.{IsSound};
 ghost use Rattle.vote_journal.specs.Usable.{IsUsable};
 
 use crate::{Journal, JournalFault};
@@ -13,7 +16,7 @@ const PAYLOAD: [u8; 4] = [7, 0, 3, 1];
 
 fn new_disk(alloc: Global, stops: &[Stop], faults: &[u32]) -> Result<MemoryDisk, AllocError>
     requires { length stops.now < 5 }
-    ensures { IfOk result (λ disk. ⟦<MemoryDisk as Disk>⟧.seen disk ≡ record { a = []; b = [] }) }
+    ensures { IfOk result (λ disk. IsEmpty ⟦<MemoryDisk as Disk>⟧.seen ⟦<MemoryDisk as Disk>⟧.may_leave disk) }
 {
     let plan = Plan {
         stops: Vec::from_slice(alloc, stops)?,
@@ -61,6 +64,24 @@ fn fold(journal: &mut Journal<MemoryDisk>) -> Result<(), JournalFault>
         return Err(JournalFault::NotAJournal);
     }
     journal.fold()
+}
+
+// What a disk that was empty is after a recovery, an append and a second recovery, however they ended.
+fn used<D: Disk>(alloc: Global, disk: D, payload: &[u8]) -> D
+    requires empty { IsEmpty D.seen D.may_leave disk }
+    requires short { length payload.now < 2 ^ 32 }
+    ensures { LeavesOnly D.moment D.left_since disk result IsSound }
+{
+    let journal = match Journal::recover(alloc, disk) {
+        Ok((journal, _)) => journal,
+        Err((disk, _)) => return disk,
+    };
+    let mut journal = journal;
+    let _ = journal.append(payload);
+    match Journal::recover(alloc, journal.into_disk()) {
+        Ok((journal, _)) => journal.into_disk(),
+        Err((disk, _)) => disk,
+    }
 }
 
 // The payloads, put together.
@@ -141,18 +162,21 @@ fn a_fold_that_is_stopped_keeps_the_text(rt: HostRuntime) -> Result<(), Fail> {
     Ok(())
 }
 
-// Each append of 4,000 bytes makes four device calls and adds 4,005 bytes.
+// Each append of 4,000 bytes makes four device calls and adds 4,005 bytes; recovery makes six calls and begins the half
+// with 9 bytes. So both numbers grow linearly.
 #[test]
 fn appends_cost_the_same(rt: HostRuntime) -> Result<(), Fail> {
     let alloc = rt.alloc();
     let payload = vec![in alloc; 7; 4000]?;
     let mut bytes = vec![in alloc; 0; 4_100_000]?;
-    for (count, calls, held) in [(500, 2006, 2_002_509), (1000, 4006, 4_005_009)] {
+    for (count, want_calls, want_held) in [(500, 2006, 2_002_509), (1000, 4006, 4_005_009)] {
         let mut journal = new_journal(alloc, &[], &[])?;
         append_all(&mut journal, count, &payload)?;
         let mut disk = journal.into_disk();
-        assert_eq!(rt; disk.note().calls(), calls);
-        assert_eq!(rt; disk.read(Half::A, 0, &mut bytes)?, held);
+        let calls = disk.note().calls();
+        let held = disk.read(Half::A, 0, &mut bytes)?;
+        println!(rt; "{count} appends of 4,000 bytes: {calls} device calls, {held} bytes held")?;
+        assert_eq!(rt; (calls, held), (want_calls, want_held));
     }
     Ok(())
 }
@@ -215,7 +239,81 @@ fn a_recovery_that_is_stopped_is_taken_up_again(rt: HostRuntime) -> Result<(), F
             };
             assert_eq!(rt; text_after(alloc, disk)?.len(), 0, "at {call}");
         }
+        let Err((disk, JournalFault::Failed)) = Journal::recover(
+            alloc,
+            new_disk(alloc, &[], &[call])?,
+        ) else {
+            return Err("no fault")?;
+        };
+        assert!(rt; !disk.is_off(), "at {call}");
+        assert_eq!(rt; text_after(alloc, disk)?.len(), 0, "at {call}");
     }
+    Ok(())
+}
+
+// A journal of three entries whose fold is stopped where both halves have entries.
+fn folded_halfway(alloc: Global, stops: &[Stop]) -> Result<MemoryDisk, JournalFault>
+    requires { length stops.now < 5 }
+{
+    let mut journal = new_journal(alloc, stops, &[])?;
+    append_all(&mut journal, 3, &PAYLOAD)?;
+    let _ = fold(&mut journal);
+    Ok(journal.into_disk())
+}
+
+// The text of a disk, of which one recovery may still be stopped.
+fn text_in_the_end(alloc: Global, disk: MemoryDisk) -> Result<Vec<u8>, JournalFault> {
+    let mut disk = disk;
+    if disk.is_off() {
+        disk.switch_on()?;
+    }
+    match Journal::recover(alloc, disk) {
+        Ok((_, entries)) => Ok(joined(alloc, &entries)?),
+        Err((disk, _)) => text_after(alloc, disk),
+    }
+}
+
+// The fold is stopped at call 24, and the recovery after it takes the calls 25 to 31: a sync, two reads, and a write, a
+// sync, a cut and a sync that give up a half. It is stopped at each, and the one after it up to seven calls later.
+#[test]
+fn a_recovery_of_two_halves_that_is_stopped_keeps_the_text(rt: HostRuntime) -> Result<(), Fail> {
+    let alloc = rt.alloc();
+    let fold_stops = Stop {
+        call: 24,
+        leave: Leave::Old,
+    };
+    for call in 25..32 {
+        for leave in LEAVES {
+            for later in 1..8 {
+                let next = Stop {
+                    call: call + later,
+                    leave,
+                };
+                let mut disk = folded_halfway(alloc, &[fold_stops, Stop { call, leave }, next])?;
+                assert!(rt; disk.is_off());
+                disk.switch_on()?;
+                let Err((disk, JournalFault::Failed)) = Journal::recover(alloc, disk) else {
+                    return Err("not stopped")?;
+                };
+                assert_eq!(rt;
+                    text_in_the_end(alloc, disk)?,
+                    repeated(alloc, 3)?,
+                    "at {call} and {later} later"
+                );
+            }
+        }
+    }
+    Ok(())
+}
+
+// The law of rows of calls is of calls that can be made. The second recovery takes five: a sync, two reads, and a write
+// and a sync that begin half B again, which has no more than 9 bytes.
+#[test]
+fn a_disk_is_used(rt: HostRuntime) -> Result<(), Fail> {
+    let alloc = rt.alloc();
+    let disk = used(alloc, new_disk(alloc, &[], &[])?, &PAYLOAD);
+    assert_eq!(rt; disk.note().calls(), 6 + 4 + 5);
+    assert_eq!(rt; text_after(alloc, disk)?.as_slice(), PAYLOAD.as_slice());
     Ok(())
 }
 

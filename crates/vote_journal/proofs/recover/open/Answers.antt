@@ -1,9 +1,10 @@
-use Rattle.std.proofs.Common.{◌∙◌, ap, subst}
+use Rattle.std.proofs.Common.{◌∙◌, inl, inr, ap, subst}
 use Rattle.disk_model.specs.declared.disk.Half.{Half}
 use Rattle.disk_model.specs.Image.{Image, other}
 use Rattle.vote_journal.specs.Text.{text_of, SaysOnly}
 use Rattle.vote_journal.specs.Steps.{MayArrange, arranged}
-use Rattle.vote_journal.proofs.Moments.{more_calls}
+use Rattle.vote_journal.specs.Runs.{LeftOrSays}
+use Rattle.vote_journal.proofs.Moments.{weaker, more_calls}
 use Rattle.vote_journal.proofs.Arranges.{arrange_says, arranged_spells, live_found, both_found, sound_says}
 use Rattle.vote_journal.proofs.recover.open.Goals as goal
 
@@ -36,3 +37,28 @@ returns-clause-runs g c = λ only sound.
     more_calls g.D.Disk.moment g.D.Disk.left_since g.D.Disk.faults g.D.Disk.supply c.args.disk.now c.survey.new.disk c.arrange.new.disk _ _ (SaysOnly (text_of old)) c.survey.ensures.runs c.arrange.ensures.runs
     (λ image left. sound_says old image sound (only image left))
     (λ image may. arrange_says c.have_both-both.result c.other.result old image a.are_bytes b.are_bytes sound both (subst (λ (i : Image). MayArrange c.have_both-both.result c.other.result i image) c.survey.ensures.seen may))
+
+pub returns-in_err-found-clause-pending : goal.returns-in_err-found-clause-pending
+returns-in_err-found-clause-pending g c = λ sound.
+    let old = g.D.Disk.seen c.args.disk.now in
+    weaker g.D.Disk.moment g.D.Disk.left_since g.D.Disk.faults g.D.Disk.supply c.args.disk.now c.survey.new.disk _ (LeftOrSays (g.D.Disk.may_leave c.args.disk.now) (text_of old)) c.survey.ensures.runs (λ image left. inl left)
+
+pub returns-in_err-arrange-clause-pending : goal.returns-in_err-arrange-clause-pending
+returns-in_err-arrange-clause-pending g c = λ sound.
+    let old = g.D.Disk.seen c.args.disk.now in
+    let a = c.in_ok-found.ensures.a in
+    let b = c.in_ok-found.ensures.b in
+    let both = c.have_both-both.ensures ∙ both_found old c.deref-3.result.now c.deref-4.result.now (c.deref-3.ensures.value ∙ a.is) (c.deref-4.ensures.value ∙ b.is) in
+    more_calls g.D.Disk.moment g.D.Disk.left_since g.D.Disk.faults g.D.Disk.supply c.args.disk.now c.survey.new.disk c.arrange.new.disk _ _ (LeftOrSays (g.D.Disk.may_leave c.args.disk.now) (text_of old)) c.survey.ensures.runs c.arrange.ensures.runs
+    (λ image left. inl left)
+    (λ image may. inr (arrange_says c.have_both-both.result c.other.result old image a.are_bytes b.are_bytes sound both (subst (λ (i : Image). MayArrange c.have_both-both.result c.other.result i image) c.survey.ensures.seen may)))
+
+pub returns-clause-pending : goal.returns-clause-pending
+returns-clause-pending g c = λ sound.
+    let old = g.D.Disk.seen c.args.disk.now in
+    let a = c.in_ok-found.ensures.a in
+    let b = c.in_ok-found.ensures.b in
+    let both = c.have_both-both.ensures ∙ both_found old c.deref-3.result.now c.deref-4.result.now (c.deref-3.ensures.value ∙ a.is) (c.deref-4.ensures.value ∙ b.is) in
+    more_calls g.D.Disk.moment g.D.Disk.left_since g.D.Disk.faults g.D.Disk.supply c.args.disk.now c.survey.new.disk c.arrange.new.disk _ _ (LeftOrSays (g.D.Disk.may_leave c.args.disk.now) (text_of old)) c.survey.ensures.runs c.arrange.ensures.runs
+    (λ image left. inl left)
+    (λ image may. inr (arrange_says c.have_both-both.result c.other.result old image a.are_bytes b.are_bytes sound both (subst (λ (i : Image). MayArrange c.have_both-both.result c.other.result i image) c.survey.ensures.seen may)))

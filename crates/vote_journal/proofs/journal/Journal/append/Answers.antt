@@ -55,5 +55,5 @@ returns-clause-usable g c =
       gate = gate_more es _ es c.args.entry.now c.in_ok-framed.framed.items has refl j.gate _ 0 u.gate c.in_ok-framed.ensures (omega (arith, c.len.ensures));
       small = omega (arith, c.in_ok-add_entry.ensures.small, c.len.ensures, ap length c.deref.ensures.value);
       count = count_more es _ es c.args.entry.now c.in_ok-framed.framed.items has refl j.entries _ u.count c.saturating_add-self.ensures;
-      bytes = bytes_more es _ es c.args.entry.now c.in_ok-framed.framed.items has refl j.bytes _ u.bytes c.saturating_add-self-2.ensures;
+      bytes = bytes_more es _ es c.args.entry.now c.in_ok-framed.framed.items has refl j.bytes _ u.bytes c.bytes_with-self.ensures;
     }
