@@ -1,9 +1,9 @@
 -- The log of all puts: as it grows, and as a sender gets its place among the passes that were taken in.
-use Rattle.std.proofs.Common.{◌≡◌, ℕ, ◌==◌, cond, Bool, true, false, List, [], ◌∷◌, ◌++◌, map, sym, refl, ap, ◌∙◌, append-nil, eq-eqb, ne_eqb}
+use Rattle.std.proofs.Common.{◌≡◌, ◌≢◌, length, arith, ℕ, ◌==◌, cond, Bool, true, false, List, [], ◌∷◌, ◌++◌, map, sym, refl, ap, ◌∙◌, append-nil, eq-eqb, ne_eqb}
 use mathlib.Core.Logic.{dite}
 use native.Mathlib.Decide.{ℕ_discrete}
 use Rattle.std.specs.Prelude.{slice_index_or}
-use Rattle.mailbox.specs.Interleaving.{numbers, numbers_at, IsInterleaving}
+use Rattle.mailbox.specs.Interleaving.{numbers, numbers_at, IsInterleaving, HasAll}
 use Rattle.mailbox.specs.Ordered.{Sender, pass_number, joined_place, is_same, Put, all_of, sent_by}
 
 pub all_of-snoc : (log : List Put) (p : Put) → all_of (log ++ p ∷ []) ≡ all_of log ++ p.number ∷ []
@@ -79,18 +79,19 @@ pub sent_by-renamed : (j k : ℕ) (s : Sender) (log : List Put) → sent_by s (m
 sent_by-renamed j k s [] = refl
 sent_by-renamed j k s (p ∷ ps) = both_ways _ _ p.number _ _ (is_same-exchanged j k p.sender s) (sent_by-renamed j k s ps)
 
-place_of : Sender → ℕ
-place_of (pass_number j) = 0
-place_of (joined_place k) = k
+-- each number beside the place of its pass, where all passes that were not taken in have one place
+place_of : ℕ → Sender → ℕ
+place_of others (pass_number j) = others
+place_of others (joined_place k) = k
 
-placed : List Put → List (ℕ × ℕ)
-placed [] = []
-placed (p ∷ ps) = (place_of p.sender, p.number) ∷ placed ps
+placed : ℕ → List Put → List (ℕ × ℕ)
+placed others [] = []
+placed others (p ∷ ps) = (place_of others p.sender, p.number) ∷ placed others ps
 
-numbers-placed : (log : List Put) → numbers (placed log) ≡ all_of log
+numbers-placed : (others : ℕ) (log : List Put) → numbers (placed others log) ≡ all_of log
 unfolding placed
-numbers-placed [] = refl
-numbers-placed (p ∷ ps) = ap (λ l. p.number ∷ l) (numbers-placed ps)
+numbers-placed others [] = refl
+numbers-placed others (p ∷ ps) = ap (λ l. p.number ∷ l) (numbers-placed others ps)
 
 -- no pass of the queue put anything that isn't under a place
 abbrev pub NoneElse : List Put → Type 0
@@ -103,13 +104,13 @@ after_one : (s : Sender) (n : ℕ) (ps : List Put) → NoneElse (record { sender
 after_one (pass_number a) n ps none = absurd (put_by_none a n ps (none a))
 after_one (joined_place a) n ps none = none
 
-one_placed : (s : Sender) (n k : ℕ) (ps : List Put) → NoneElse (record { sender = s; number = n } ∷ ps) → numbers_at k (placed ps) ≡ sent_by (joined_place k) ps
-    → cond (place_of s == k) (n ∷ numbers_at k (placed ps)) (numbers_at k (placed ps)) ≡ cond (is_same s (joined_place k)) (n ∷ sent_by (joined_place k) ps) (sent_by (joined_place k) ps)
+one_placed : (s : Sender) (n k : ℕ) (ps : List Put) → NoneElse (record { sender = s; number = n } ∷ ps) → numbers_at k (placed 0 ps) ≡ sent_by (joined_place k) ps
+    → cond (place_of 0 s == k) (n ∷ numbers_at k (placed 0 ps)) (numbers_at k (placed 0 ps)) ≡ cond (is_same s (joined_place k)) (n ∷ sent_by (joined_place k) ps) (sent_by (joined_place k) ps)
 unfolding place_of
 one_placed (pass_number a) n k ps none same = absurd (put_by_none a n ps (none a))
 one_placed (joined_place a) n k ps none same = both_ways (a == k) (a == k) n _ _ refl same
 
-numbers_at-placed : (k : ℕ) (log : List Put) → NoneElse log → numbers_at k (placed log) ≡ sent_by (joined_place k) log
+numbers_at-placed : (k : ℕ) (log : List Put) → NoneElse log → numbers_at k (placed 0 log) ≡ sent_by (joined_place k) log
 unfolding placed
 numbers_at-placed k [] none = refl
 numbers_at-placed k (p ∷ ps) none = one_placed p.sender p.number k ps none (numbers_at-placed k ps (after_one p.sender p.number ps none))
@@ -117,4 +118,23 @@ numbers_at-placed k (p ∷ ps) none = one_placed p.sender p.number k ps none (nu
 -- where every sender has a place, the log is an interleaving
 pub interleaved : (log : List Put) (lists : List (List ℕ)) (whole : List ℕ) → NoneElse log → all_of log ≡ whole → ((k : ℕ) → sent_by (joined_place k) log ≡ slice_index_or lists k [])
     → IsInterleaving lists whole
-interleaved log lists whole none all known = (placed log, numbers-placed log ∙ all, λ k. numbers_at-placed k log none ∙ known k)
+interleaved log lists whole none all known = (placed 0 log, numbers-placed 0 log ∙ all, λ k. numbers_at-placed k log none ∙ known k)
+
+one_apart : (others : ℕ) (s : Sender) (n k : ℕ) (ps : List Put) → others ≢ k → numbers_at k (placed others ps) ≡ sent_by (joined_place k) ps
+    → cond (place_of others s == k) (n ∷ numbers_at k (placed others ps)) (numbers_at k (placed others ps)) ≡ cond (is_same s (joined_place k)) (n ∷ sent_by (joined_place k) ps) (sent_by (joined_place k) ps)
+unfolding place_of
+one_apart others (pass_number a) n k ps apart same = both_ways (others == k) false n _ _ (ne_eqb others k apart) same
+one_apart others (joined_place a) n k ps apart same = both_ways (a == k) (a == k) n _ _ refl same
+
+numbers_at-apart : (others k : ℕ) (log : List Put) → others ≢ k → numbers_at k (placed others log) ≡ sent_by (joined_place k) log
+unfolding placed
+numbers_at-apart others k [] apart = refl
+numbers_at-apart others k (p ∷ ps) apart = one_apart others p.sender p.number k ps apart (numbers_at-apart others k ps apart)
+
+-- whatever others put, the log has all of the passes that were taken in
+pub has_all : (log : List Put) (lists : List (List ℕ)) (whole : List ℕ) → all_of log ≡ whole → ((k : ℕ) → sent_by (joined_place k) log ≡ slice_index_or lists k []) → HasAll lists whole
+has_all log lists whole all known = (
+  placed (length lists) log,
+  numbers-placed (length lists) log ∙ all,
+  λ k below. numbers_at-apart (length lists) k log (λ e. omega (arith, e, below)) ∙ known k,
+)

@@ -1,5 +1,5 @@
 -- Each call keeps the rule of a mailbox.
-use Rattle.std.proofs.Common.{◌≡◌, ◌≢◌, ℕ, suc, cond, ◌+◌, ◌^◌, ◌≤◌, true, false, true≢false, List, [], ◌∷◌, ◌++◌, map, length, set, get_or, sym, refl, ap, ◌∙◌, subst, append_assoc, eq-eqb, ne_eqb, arith}
+use Rattle.std.proofs.Common.{◌≡◌, ◌≢◌, ℕ, suc, cond, ◌+◌, ◌^◌, ◌≤◌, true, false, true≢false, List, [], ◌∷◌, ◌++◌, map, length, set, get_or, sym, refl, ap, ◌∙◌, subst, append_assoc, append-nil, eq-eqb, ne_eqb, arith}
 use mathlib.Core.Option.{some, some-injective, some-ne-none}
 use mathlib.Core.Logic.{dite}
 use native.Mathlib.Decide.{dec_le, ℕ_discrete}
@@ -8,12 +8,12 @@ use Rattle.std.proofs.Math.ListN.{length-set, length-append}
 use Rattle.crossbeam_queue.specs.Fifo.{Pushes, Pops, Forks, Merges, Learns}
 use Rattle.crossbeam_queue.proofs.Lists.{set_else}
 use Rattle.mailbox.specs.declared.rule.View.{View}
-use Rattle.mailbox.specs.Interleaving.{IsInterleaving}
+use Rattle.mailbox.specs.Interleaving.{IsInterleaving, HasAll}
 use Rattle.mailbox.specs.Shares.{AreAtMost, parts_of, IsWhole}
 use Rattle.mailbox.specs.Ordered.{putter, opener, spent, halved, half_of, put_side, take_side, after_put, after_take, joined_with, pass_number, joined_place, Put, sent_by, total, Fits, IsOrdered}
 use Rattle.mailbox.proofs.Places.{within, stands, get_or-length, get_or-snoc_here, get_or-snoc_else, EachView, EachView-set, EachView-snoc, total-set, total-snoc, others_none}
 use Rattle.mailbox.proofs.Parts.{AreAtMost-finer, AreAtMost-halved, AreAtMost-append, parts_of-append, parts_of-finer, parts_of-halved, whole-finer, no_shares, whole_parts}
-use Rattle.mailbox.proofs.Logs.{all_of-snoc, sent_by-same, sent_by-other, renamed, all_of-renamed, sent_by-renamed, interleaved}
+use Rattle.mailbox.proofs.Logs.{all_of-snoc, sent_by-same, sent_by-other, renamed, all_of-renamed, sent_by-renamed, interleaved, has_all}
 
 pub begins : IsOrdered [] (opener ∷ [])
 begins = record {
@@ -117,12 +117,17 @@ others_silent items views b port v at silent full j = dite (dec_le (length views
     (λ apart. fit.idle (no_shares b.finest u.splits
     (others_none (λ y. parts_of b.finest y.splits) views port v spent at refl (b.whole ∙ sym full) j u apart there))))
 
-pub learns : (port : ℕ) (v : View) → Learns IsOrdered port v (λ items. v.takes ≡ true → IsWhole v.splits → IsInterleaving v.joined (v.taken ++ items))
-learns port v items views b at may whole =
+pub learns : (port : ℕ) (v : View) → Learns IsOrdered port v (λ items. v.takes ≡ true → HasAll v.joined (v.taken ++ items) × (IsWhole v.splits → IsInterleaving v.joined (v.taken ++ items)))
+learns port v items views b at may =
     let old = b.fits port v at in
     let mine = old.takes may in
-    let full = whole_parts b.finest v.splits old.coarse whole in
-    interleaved b.log v.joined (v.taken ++ items) (others_silent items views b port v at mine.silent full) (b.in_order ∙ ap (λ l. l ++ items) (sym mine.taken_is)) mine.known
+    let order = b.in_order ∙ ap (λ l. l ++ items) (sym mine.taken_is) in (
+      has_all b.log v.joined (v.taken ++ items) order mine.known,
+      λ whole. interleaved b.log v.joined (v.taken ++ items) (others_silent items views b port v at mine.silent (whole_parts b.finest v.splits old.coarse whole)) order mine.known,
+    )
+
+pub all_taken : (lists : List (List ℕ)) (taken : List ℕ) → HasAll lists (taken ++ []) → HasAll lists taken
+all_taken lists taken all = rw (append-nil taken) at all
 
 length-snoc : (l : List View) (v : View) → length (l ++ v ∷ []) ≡ length l + 1
 length-snoc l v = length-append l (v ∷ [])

@@ -1,5 +1,5 @@
 -- What a contract sees of a pass.
-use Rattle.std.specs.Prelude.{◌≡◌, ℕ, ◌%◌, ◌==◌, nat_le, Bool, true, false, ◌&&◌, ◌||◌, List, [], Option, None, slice_index}
+use Rattle.std.specs.Prelude.{◌≡◌, ℕ, ◌%◌, ◌==◌, nat_le, Bool, true, false, ◌&&◌, ◌||◌, List, Option, None, slice_index}
 use Rattle.std.specs.Global.{Global}
 use Rattle.atomic_blocks.specs.Laid.{WebId}
 use Rattle.atomic_blocks.specs.declared.web.Seat.{Seat}
@@ -17,10 +17,13 @@ pub record PutPassView : Type 0 where
   pub put : List ℕ
   pub needs_block : Bool
 
--- the mailbox that it belongs to, and what it took, in order
+-- the mailbox that it belongs to, what it took, in order, and of the put passes that it took in how many splits each comes
+-- from and what each put, in order
 pub record TakePassView : Type 0 where
   pub at : WebId
   pub taken : List ℕ
+  pub splits : List ℕ
+  pub joined : List (List ℕ)
 
 abbrev pub QueueSeat : Type 0
 QueueSeat = Seat (Option ℕ) (Going ℕ View) Global
@@ -47,10 +50,10 @@ abbrev pub IsPutSeat : QueueSeat → Type 0
 IsPutSeat seat = IsFree seat × (known_to seat ≡ putter (slice_index (known_to seat).splits 0) (known_to seat).sent)
 
 abbrev pub take_pass_view : QueueSeat → TakePassView
-take_pass_view seat = record { at = seat.web; taken = (known_to seat).taken }
+take_pass_view seat = record { at = seat.web; taken = (known_to seat).taken; splits = (known_to seat).splits; joined = (known_to seat).joined }
 
 abbrev pub IsTakeSeat : QueueSeat → Type 0
-IsTakeSeat seat = IsFree seat × (known_to seat ≡ taker [] (known_to seat).taken [])
+IsTakeSeat seat = IsFree seat × (known_to seat ≡ taker (known_to seat).splits (known_to seat).taken (known_to seat).joined)
 
 -- the seat of the take pass of a mailbox, with what it knows
 abbrev pub IsTaker : WebId → View → QueueSeat → Type 0

@@ -3,9 +3,9 @@
 #![tactic(auto)]
 
 ghost use Rattle.std.specs.Prelude.{◌≡◌, ℕ, ◌+◌, true, List, [], ◌∷◌, ◌++◌, map, length, All, IfNone, IfOk, MatchOption, MatchResult};
-ghost use Rattle.mailbox.specs.Interleaving.{IsInterleaving};
+ghost use Rattle.mailbox.specs.Interleaving.{HasAll, IsInterleaving};
 ghost use Rattle.mailbox.specs.Shares.{IsWhole};
-ghost use Rattle.mailbox.specs.Ordered.{taker, after_put, after_take};
+ghost use Rattle.mailbox.specs.Ordered.{putter, taker, after_put, after_take, joined_with};
 
 use crossbeam_queue::{RuledSegQueue, SegPass};
 use rule::{Halves, InOrder, Joins, Puts, Sides, Takes, View};
@@ -60,7 +60,7 @@ impl Model for PutPass {
 }
 
 /// The right of the one receiver to take numbers from one mailbox. It has no bytes. A contract sees the mailbox's
-/// name and the list of what was taken.
+/// name, the list of what was taken, and of the put passes that were handed in the splits and the lists of what was put.
 #[derive(Drop)]
 pub struct TakePass {
     seat: LinePass,
@@ -90,7 +90,7 @@ impl Mailbox {
     /// want of memory.
     pub fn new(alloc: Global) -> Result<(Mailbox, PutPass, TakePass), AllocError>
         ensures put { IfOk result (λ r. (r.1.at ≡ r.0) × (r.1.splits ≡ 0) × (r.1.put ≡ [])) }
-        ensures take { IfOk result (λ r. (r.2.at ≡ r.0) × (r.2.taken ≡ [])) }
+        ensures take { IfOk result (λ r. (r.2.at ≡ r.0) × (r.2.taken ≡ []) × (r.2.splits ≡ []) × (r.2.joined ≡ [])) }
     {
         let (line, mut first) = Line::with_rule(alloc)?;
         let second = line.another::<Sides>(&mut first);
@@ -122,18 +122,30 @@ impl Mailbox {
         self.push(rt, &mut pass.seat, number)
     }
 
-    /// Takes the oldest number. `None` comes only where the mailbox was empty at a step of this call, which no clause
-    /// can say, since others may put at once.
+    /// Takes the oldest number. `None` comes only where the mailbox was empty at a step of this call. So what was
+    /// taken then has all that was put through the passes that were handed in. Of the others no clause can say it, since
+    /// they may put at once.
+    #[tactic(auto, using(crate::proofs::Moves::all_taken))]
     pub fn take<R: Wait>(&self, rt: &R, pass: &mut TakePass) -> Option<u32>
         requires { pass.old.at ≡ self.now }
-        ensures same { pass.new.at ≡ pass.old.at }
+        ensures same { (pass.new.at ≡ pass.old.at) × (pass.new.splits ≡ pass.old.splits) × (pass.new.joined ≡ pass.old.joined) }
+        ensures empty { IfNone result (HasAll pass.old.joined pass.old.taken) }
         ensures taken { MatchOption result (pass.new.taken ≡ pass.old.taken) (λ number. pass.new.taken ≡ pass.old.taken ++ number ∷ []) }
     {
         self.pop(rt, &mut pass.seat)
     }
 
-    /// Ends the mailbox and gives what was not taken, in order. It asks for all passes: the shares of the put passes
-    /// are the whole right to put. What was taken and then the rest is an interleaving of what the put passes put.
+    /// Hands in a put pass, through which nothing more is put. It takes no memory.
+    pub fn join(&self, pass: &mut TakePass, put: PutPass)
+        requires { (pass.old.at ≡ self.now) × (put.at ≡ self.now) }
+        ensures same { (pass.new.at ≡ pass.old.at) × (pass.new.taken ≡ pass.old.taken) }
+        ensures joined { (pass.new.splits ≡ pass.old.splits ++ put.splits ∷ []) × (pass.new.joined ≡ pass.old.joined ++ put.put ∷ []) }
+    {
+        self.take_in(&mut pass.seat, put);
+    }
+
+    /// Ends the mailbox and gives what was not taken, in order. It asks for all passes: the shares of the put passes,
+    /// those handed in before among them, are the whole right to put. What was taken and then the rest is an interleaving of what the put passes put.
     /// The error is want of memory, and drops the rest.
     pub fn close<R: Wait>(
         self,
@@ -143,8 +155,8 @@ impl Mailbox {
         take: TakePass,
     ) -> Result<Vec<u32>, AllocError>
         requires same { (take.at ≡ self) × All (λ p. p.at ≡ self) puts.items }
-        requires all { IsWhole (map (λ p. p.splits) puts.items) }
-        ensures { IfOk result (λ rest. IsInterleaving (map (λ p. p.put) puts.items) (take.taken ++ rest.items)) }
+        requires all { IsWhole (take.splits ++ map (λ p. p.splits) puts.items) }
+        ensures { IfOk result (λ rest. IsInterleaving (take.joined ++ map (λ p. p.put) puts.items) (take.taken ++ rest.items)) }
     {
         let TakePass { mut seat } = take;
         self.join_all(&mut seat, puts);
@@ -160,26 +172,36 @@ impl Mailbox {
         self.line.push_as::<Puts, R>(rt, seat, number)
     }
 
-    // One step of the take pass: the number at the front of the queue, if any. Where there is none, a pass that has
-    // taken in the whole right to put knows that it has taken all.
+    // One step of the take pass: the number at the front of the queue, if any. Where there is none, it has taken all that
+    // was put through the passes which it took in, and nothing else once these are the whole right to put.
     fn pop<R: Wait>(&self, rt: &R, seat: &mut LinePass) -> Option<u32>
         requires { IsTaker self.now (taker (known_to seat.old).splits (known_to seat.old).taken (known_to seat.old).joined) seat.old }
         ensures seat { (seat.new.web ≡ self.now) × IsFree seat.new }
         ensures taken { MatchOption result (known_to seat.new ≡ known_to seat.old) (λ number. known_to seat.new ≡ after_take (known_to seat.old) number) }
+        ensures empty { IfNone result (HasAll (known_to seat.old).joined ((known_to seat.old).taken ++ [])) }
         ensures all { IfNone result (IsWhole (known_to seat.old).splits → IsInterleaving (known_to seat.old).joined ((known_to seat.old).taken ++ [])) }
     {
         self.line.pop_as::<Takes, R>(rt, seat)
     }
 
+    // The take pass takes in a put pass.
+    fn take_in(&self, seat: &mut LinePass, put: PutPass)
+        requires put { put.at ≡ self.now }
+        requires taker { IsTaker self.now (taker (known_to seat.old).splits (known_to seat.old).taken (known_to seat.old).joined) seat.old }
+        ensures { IsTaker self.now (joined_with (known_to seat.old) (putter put.splits put.put)) seat.new }
+    {
+        let PutPass { seat: other } = put;
+        self.line.absorb::<Joins>(seat, other);
+    }
+
     // The take pass takes in the put passes, in their order.
     fn join_all(&self, seat: &mut LinePass, puts: Vec<PutPass>)
         requires same { All (λ p. p.at ≡ self.now) puts.items }
-        requires taker { IsTaker self.now (taker [] (known_to seat.old).taken []) seat.old }
-        ensures { IsTaker self.now (taker (map (λ p. p.splits) puts.items) (known_to seat.old).taken (map (λ p. p.put) puts.items)) seat.new }
+        requires taker { IsTaker self.now (taker (known_to seat.old).splits (known_to seat.old).taken (known_to seat.old).joined) seat.old }
+        ensures { IsTaker self.now (taker ((known_to seat.old).splits ++ map (λ p. p.splits) puts.items) (known_to seat.old).taken ((known_to seat.old).joined ++ map (λ p. p.put) puts.items)) seat.new }
     {
         for put in puts {
-            let PutPass { seat: other } = put;
-            self.line.absorb::<Joins>(seat, other);
+            self.take_in(seat, put);
         }
     }
 

@@ -1,6 +1,6 @@
 // What the passes of a mailbox know of its queue, and the rule that each call keeps.
 ghost use Rattle.std.specs.Prelude.{◌≡◌, ◌++◌, true};
-ghost use Rattle.mailbox.specs.Interleaving.{IsInterleaving};
+ghost use Rattle.mailbox.specs.Interleaving.{HasAll, IsInterleaving};
 ghost use Rattle.mailbox.specs.Shares.{IsWhole};
 
 use crossbeam_queue::protocol::{Join, Lesson, Outcome, Protocol, Split};
@@ -63,9 +63,10 @@ impl Outcome<u32, View> for Takes {
     ghost then = { λ v x w. w ≡ after_take v x };
 }
 
-// Once the take pass has taken in the whole right to put, it knows all that was ever put.
+// What was taken and then what is left has all that the passes which were taken in had put. Once these are the whole right
+// to put, it has nothing else.
 impl Lesson<u32, View> for Takes {
-    ghost fact = { λ v items. v.takes ≡ true → IsWhole v.splits → IsInterleaving v.joined (v.taken ++ items) };
+    ghost fact = { λ v items. v.takes ≡ true → HasAll v.joined (v.taken ++ items) × (IsWhole v.splits → IsInterleaving v.joined (v.taken ++ items)) };
 }
 
 // The take pass takes in a put pass.

@@ -1,5 +1,5 @@
 // One thread by hand, and two and four senders beside a receiver.
-ghost use Rattle.std.specs.Prelude.{◌≡◌, ◌<◌, ◌≤◌, IfOk};
+ghost use Rattle.std.specs.Prelude.{◌≡◌, [], ◌∷◌, ◌<◌, ◌≤◌, IfOk};
 ghost use Rattle.std.specs.Thread.{IsSync};
 
 use super::*;
@@ -19,11 +19,27 @@ fn close_two<R: Wait>(
     take: TakePass,
 ) -> Result<Vec<u32>, AllocError>
     requires same { (puts.0.at ≡ mailbox) × (puts.1.at ≡ mailbox) × (take.at ≡ mailbox) }
-    requires all { (puts.0.splits ≡ 1) × (puts.1.splits ≡ 1) }
+    requires all { (puts.0.splits ≡ 1) × (puts.1.splits ≡ 1) × (take.splits ≡ []) }
 {
     let mut all = Vec::new(alloc);
     all.push(puts.0)?;
     all.push(puts.1)?;
+    mailbox.close(rt, alloc, all, take)
+}
+
+// Closes a mailbox whose first pass was split once, and whose other pass was handed in.
+fn close_one<R: Wait>(
+    rt: &R,
+    alloc: Global,
+    mailbox: Mailbox,
+    put: PutPass,
+    take: TakePass,
+) -> Result<Vec<u32>, AllocError>
+    requires same { (put.at ≡ mailbox) × (take.at ≡ mailbox) }
+    requires all { (put.splits ≡ 1) × (take.splits ≡ 1 ∷ []) }
+{
+    let mut all = Vec::new(alloc);
+    all.push(put)?;
     mailbox.close(rt, alloc, all, take)
 }
 
@@ -56,8 +72,8 @@ fn receive<R: Wait>(
     senders: u64,
     ended: &AtomicU64,
 ) -> Result<(TakePass, Vec<u32>), AllocError>
-    requires { pass.at ≡ mailbox.now }
-    ensures { IfOk result (λ r. r.0.at ≡ mailbox.now) }
+    requires { (pass.at ≡ mailbox.now) × (pass.splits ≡ []) }
+    ensures { IfOk result (λ r. (r.0.at ≡ mailbox.now) × (r.0.splits ≡ [])) }
 {
     let mut got = Vec::new(alloc);
     for _ in rt.forever() {
@@ -145,7 +161,7 @@ fn close_four<R: Wait>(
     pairs: (Pair, Pair),
     take: TakePass,
 ) -> Result<Vec<u32>, AllocError>
-    requires { (pairs.0.left.at ≡ mailbox) × (pairs.1.left.at ≡ mailbox) × (take.at ≡ mailbox) }
+    requires { (pairs.0.left.at ≡ mailbox) × (pairs.1.left.at ≡ mailbox) × (take.at ≡ mailbox) × (take.splits ≡ []) }
 {
     let (Pair { left, right }, pair) = pairs;
     let mut all = Vec::new(alloc);
@@ -186,8 +202,8 @@ fn exchange<R: Threads + Wait + Sync>(
             ensures { (result.0.left.at ≡ shared.entry.now) × (result.1.left.at ≡ shared.entry.now) }
         { send_some(rt, shared, pairs, senders, count) },
         move || -> Result<(TakePass, Vec<u32>), AllocError>
-            requires { IsSync R.row × (take.at ≡ shared.now) }
-            ensures { IfOk result (λ r. r.0.at ≡ shared.entry.now) }
+            requires { IsSync R.row × (take.at ≡ shared.now) × (take.splits ≡ []) }
+            ensures { IfOk result (λ r. (r.0.at ≡ shared.entry.now) × (r.0.splits ≡ [])) }
         { receive(rt, alloc, shared, take, senders as u64, count) },
     );
     let (take, taken) = received?;
@@ -221,6 +237,22 @@ fn one_thread(rt: HostRuntime) -> Result<(), Fail> {
     assert_eq!(rt; mailbox.take(&rt, &mut take), None);
     assert_eq!(rt; mailbox.put(&rt, &mut first, 7), Ok(()));
     let rest = close_two(&rt, rt.alloc(), mailbox, (first, second), take)?;
+    assert_eq!(rt; rest.as_slice(), [7].as_slice());
+    Ok(())
+}
+
+#[test]
+fn a_pass_that_is_handed_in(rt: HostRuntime) -> Result<(), Fail> {
+    let (mailbox, mut first, mut take) = Mailbox::new(rt.alloc())?;
+    let mut second = mailbox.split(&mut first);
+    assert_eq!(rt; mailbox.put(&rt, &mut second, 5), Ok(()));
+    assert_eq!(rt; mailbox.put(&rt, &mut first, 3), Ok(()));
+    mailbox.join(&mut take, second);
+    assert_eq!(rt; mailbox.take(&rt, &mut take), Some(5));
+    assert_eq!(rt; mailbox.take(&rt, &mut take), Some(3));
+    assert_eq!(rt; mailbox.take(&rt, &mut take), None);
+    assert_eq!(rt; mailbox.put(&rt, &mut first, 7), Ok(()));
+    let rest = close_one(&rt, rt.alloc(), mailbox, first, take)?;
     assert_eq!(rt; rest.as_slice(), [7].as_slice());
     Ok(())
 }
