@@ -1,0 +1,2 @@
+//! Dealt coins.
+#![tactic(auto)]
