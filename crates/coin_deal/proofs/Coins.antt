@@ -1,12 +1,11 @@
 -- The coins by their numbers.
-use Rattle.std.proofs.Common.{◌≡◌, ℕ, ◌+◌, ◌*◌, ◌<◌, ◌≤◌, List, [], ◌∷◌, ◌++◌, length, get_or, take, drop, map, refl, ap, ap₂, ◌∙◌, subst, arith, below_more, length-append}
+use Rattle.std.proofs.Common.{◌≡◌, ℕ, ◌+◌, ◌*◌, ◌<◌, ◌≤◌, List, [], ◌∷◌, ◌++◌, length, get_or, take, drop, map, ap, ap₂, ◌∙◌, subst, arith, below_more, length-append}
 use Rattle.std.specs.List.{range_with_len}
 use Rattle.std.proofs.lemmas.List.FromFn.{fill_by_all, length-map-range_with_len, get_or-map-range_with_len}
 use Rattle.std.proofs.lemmas.List.{get_or_push, get_or_append_left}
 use Rattle.rand_chacha.specs.ChaCha.{ChaCha}
 use Rattle.gf_field.specs.Polynomial.{polynomial_at}
 use Rattle.merkle_branch.specs.Digests.{tree_root, leaf_digests}
-use Rattle.merkle_branch.proofs.LeavesLemmas.{length-leaf_digests_from}
 use Rattle.hb_base.specs.Numbers.{Numbers}
 use Rattle.coin_deal.specs.Deal.{coefficients, salt, coin_leaf, coin_leaves, coin_root, coin_words}
 use Rattle.coin_deal.specs.Drawing.{words_from, moved_by, next_bytes, next_fours}
@@ -34,16 +33,6 @@ pub record HoldsCoins (c : Numbers) (count : ℕ) (cs : List ℕ) (salts roots :
   pub are_coefficients : (k : ℕ) → k < count → take (c.f + 1) (drop (k * (c.f + 1)) cs) ≡ coefficients_by c k
   pub are_salts : (k : ℕ) → k < count → take c.n (drop (k * c.n) salts) ≡ salts_by c k
   pub are_roots : (k : ℕ) → k < count → get_or roots k [] ≡ root_by c k
-
-pub holds_none : (c : Numbers) → HoldsCoins c 0 [] [] []
-holds_none c = record {
-  coefficients_fill = omega arith;
-  salts_fill = omega arith;
-  roots_fill = refl;
-  are_coefficients = λ k h. absurd (omega arith);
-  are_salts = λ k h. absurd (omega arith);
-  are_roots = λ k h. absurd (omega arith);
-}
 
 module _ (c : Numbers) (count : ℕ) (cs : List ℕ) (salts roots : List (List ℕ)) (root : List ℕ)
     (held : HoldsCoins c count cs salts roots) (is_root : root ≡ root_by c count) where
@@ -126,10 +115,7 @@ pub drawn_all : (c : Numbers) (k width n : ℕ) (words between after : ChaCha) �
 drawn_all c k width n words between after at same moved count is =
     is ∙ ap₂ (λ (g : ChaCha) n. moved_by g (4 * n)) (moved ∙ ap₂ moved_by at same) count ∙ start_next c k
 
--- as many leaves as salts
-pub length-leaves_with : (cs : List ℕ) (salts : List (List ℕ)) → length (leaf_digests (leaves_with cs salts)) ≡ length salts
-length-leaves_with cs salts = length-leaf_digests_from 0 (leaves_with cs salts) ∙ length-map-range_with_len _ 0 (length salts)
-
+-- as many leaves as nodes
 pub length-coin_leaves : (c : Numbers) (e j r : ℕ) → length (coin_leaves c e j r) ≡ c.n
 length-coin_leaves c e j r = length-map-range_with_len (coin_leaf c e j r) 0 c.n
 

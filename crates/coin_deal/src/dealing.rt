@@ -8,7 +8,7 @@ use crate::words::{draw_bytes, draw_salts, words_of};
 use hb_base::Config;
 use std::alloc::{AllocError, Global};
 
-/// All coins of the run with these numbers, drawn from its seed in one pass.
+/// All coins of the run with these numbers, drawn from its seed in one pass over the words.
 pub fn deal(alloc: Global, config: &Config) -> Result<Deal, AllocError>
     ensures { IfOk result (λ deal. deal ≡ config.now) }
 {

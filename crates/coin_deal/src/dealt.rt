@@ -65,7 +65,8 @@ impl Deal {
         eval(self.coefficients_of(e, j, r), 0) % 2 == 1
     }
 
-    /// The share of node m of the coin of an epoch, a lane and a round. The branch leads from it to the root.
+    /// The share of node m of the coin of an epoch, a lane and a round. The branch leads from it to the root. It
+    /// comes from the coin's tree, which is not kept but built again.
     pub fn share_of(
         &self,
         alloc: Global,

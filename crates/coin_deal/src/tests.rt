@@ -128,7 +128,7 @@ static ROWS: [Row; 7] = [
     },
 ];
 
-/// The first row, whose words are those of the zero key, has the coefficients 76 and A0.
+/// The coins of all rows. That of the first, whose words are those of the zero key, has the coefficients 76 and A0.
 #[test]
 fn rows(rt: HostRuntime) -> Result<(), Fail> {
     for row in &ROWS {
@@ -164,9 +164,31 @@ fn compare(rt: &impl Abort, alloc: Global, row: &Row) -> Result<(), Fail> {
     Ok(())
 }
 
+/// The salts of the nodes 0 and 1 of the first coin under the zero key.
+#[test]
+fn salts(rt: HostRuntime) -> Result<(), Fail> {
+    let config = Config::new(4, 1, 1, 1, 1, 0, 1, NodeSet::new()).expect(&rt, "a config");
+    let run = deal(rt.alloc(), &config)?;
+    for (m, salt) in [
+        (
+            0,
+            b"\x40\x5d\x6a\xe5\x53\x86\xbd\x28\xbd\xd2\x19\xb8\xa0\x8d\xed\x1a",
+        ),
+        (
+            1,
+            b"\xa8\x36\xef\xcc\x8b\x77\x0d\xc7\xda\x41\x59\x7c\x51\x57\x48\x8d",
+        ),
+    ] {
+        assert!(rt; m < config.n());
+        assert_eq!(rt; run.share_of(rt.alloc(), 0, 0, 0, m)?.salt, *salt);
+    }
+    Ok(())
+}
+
 /// Shares of the nodes 0, 3, 6 .., a secret, and the coefficients that Lagrange's formula gave in Python.
-const FITS: [(&[u8], u8, &[u8]); 8] = [
+const FITS: [(&[u8], u8, &[u8]); 9] = [
     (&[0xB5], 0x35, &[0x35, 0x80]),
+    (&[0xD6], 0x76, &[0x76, 0xA0]),
     (&[], 0xFF, &[0xFF]),
     (&[0x11], 0, &[0, 0x11]),
     (&[0x11, 0xF0], 0xFF, &[0xFF, 0x11, 0xFF]),
