@@ -1,6 +1,6 @@
 //! The dealt coins: what a trusted dealer draws before a run, so that each common coin of the run's agreements
-//! (CCS 2016, section 4.4) is a secret shared among the nodes (Shamir, How to Share a Secret, CACM 1979). The
-//! coins come from the key stream of ChaCha20 (RFC 8439), with the seed of the run as its key.
+//! (CCS 2016) is a secret shared among the nodes (Shamir, How to Share a Secret, CACM 1979). The coins come from
+//! the key stream of ChaCha20 (RFC 8439), with the seed of the run as its key.
 #![tactic(auto)]
 
 mod dealing;
