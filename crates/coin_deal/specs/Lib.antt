@@ -1,1 +1,4 @@
 pub mod Deal
+pub mod Drawing
+pub mod Holding
+pub mod Sharing

@@ -1,0 +1,5 @@
+pub mod Moving
+pub mod Blocks
+pub mod Coins
+pub mod Peeling
+pub mod Fitting

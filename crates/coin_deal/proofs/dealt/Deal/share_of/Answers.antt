@@ -1,0 +1,44 @@
+use Rattle.std.proofs.Common.{◌+◌, ◌≡◌, [], ◌∷◌, length, get_or, sym, ap, ap₂, ◌∙◌, subst, arith}
+use Rattle.gf_field.specs.Polynomial.{polynomial_at}
+use Rattle.merkle_branch.specs.Digests.{leaf_digests}
+use Rattle.merkle_branch.specs.Branches.{IsBranch, branch_of}
+use Rattle.merkle_branch.proofs.LeavesLemmas.{length-leaf_digests_from}
+use Rattle.coin_deal.specs.Deal.{coin_leaves, coin_root, share}
+use Rattle.coin_deal.proofs.Coins.{tree_is, length-coin_leaves, leaf_at, salt_at}
+use Rattle.coin_deal.proofs.dealt.Deal.share_of.Goals as goal
+use Rattle.coin_deal.proofs.dealt.Deal.share_of.Goals.{In_ok-tree}
+
+-- the tree is the coin's
+coins : (c : In_ok-tree) → c.in_ok-tree.tree ≡ leaf_digests (coin_leaves c.args.self.now c.args.e c.args.j c.args.r)
+coins c = tree_is c.args.self.now c.args.e c.args.j c.args.r _ _ _ _ c.coefficients_of-coefficients.ensures c.salts_of-salts.ensures.exact c.leaves_of.ensures c.in_ok-tree.ensures
+
+pub branch-tree-requires-2 : goal.branch-tree-requires-2
+branch-tree-requires-2 c =
+    let n = c.args.self.now in
+    let leaves = coin_leaves n c.args.e c.args.j c.args.r in
+    let count : length c.in_ok-tree.tree ≡ n.n =
+    ap length (coins (goal.at.branch-tree-requires-2 c).In_ok-tree) ∙ length-leaf_digests_from 0 leaves ∙ length-coin_leaves n c.args.e c.args.j c.args.r in
+    omega (arith, c.requires.node)
+
+pub returns-clause-salt : goal.returns-clause-salt
+returns-clause-salt c = salt_at c.args.self.now c.args.e c.args.j c.args.r c.args.m _ c.salts_of-salts.ensures.exact c.requires.node
+
+pub returns-clause-branch : goal.returns-clause-branch
+returns-clause-branch c =
+    c.branch-tree-2.ensures.exact ∙ ap (λ tree. branch_of tree c.args.m) (coins (goal.at.returns-clause-branch c).In_ok-tree)
+
+pub returns-clause-good : goal.returns-clause-good
+returns-clause-good c =
+    let n = c.args.self.now in
+    let e = c.args.e in
+    let j = c.args.j in
+    let r = c.args.r in
+    let m = c.args.m in
+    let b = c.branch-tree-2.result in
+    let leaves = coin_leaves n e j r in
+    let shown : c.share_at.result ≡ share n e j r m = c.share_at.ensures ∙ ap (λ cs. polynomial_at cs (m + 1)) c.coefficients_of-coefficients.ensures in
+    let leaf : get_or leaves m [] ≡ c.share_at.result ∷ get_or c.salts_of-salts.result.now m [] =
+    leaf_at n e j r m c.requires.node ∙ sym (ap₂ ◌∷◌ shown (salt_at n e j r m _ c.salts_of-salts.ensures.exact c.requires.node)) in
+    subst (λ bytes. IsBranch (coin_root n e j r) n.n m bytes b) leaf
+    (subst (λ count. IsBranch (coin_root n e j r) count m (get_or leaves m []) b) (length-coin_leaves n e j r)
+    (c.branch-tree-2.ensures.valid leaves (coins (goal.at.returns-clause-good c).In_ok-tree)))

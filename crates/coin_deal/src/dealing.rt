@@ -1,0 +1,33 @@
+//! The drawing of all coins.
+
+ghost use Rattle.std.specs.Prelude.{◌≡◌, IfOk};
+
+use crate::dealt::Deal;
+use crate::leaves::root_over;
+use crate::words::{draw_bytes, draw_salts, words_of};
+use hb_base::Config;
+use std::alloc::{AllocError, Global};
+
+/// All coins of the run with these numbers, drawn from its seed in one pass over the words.
+pub fn deal(alloc: Global, config: &Config) -> Result<Deal, AllocError>
+    ensures { IfOk result (λ deal. deal ≡ config.now) }
+{
+    let n = config.n() as usize;
+    let width = config.f() as usize + 1;
+    let count = config.epochs() as usize * n * config.rounds() as usize;
+    let mut words = words_of(config.seed());
+    let mut coefficients = Vec::with_capacity(alloc, count * width)?;
+    let mut salts = Vec::with_capacity(alloc, count * n)?;
+    let mut roots = Vec::with_capacity(alloc, count)?;
+    for coin in 0..count {
+        draw_bytes(&mut words, width, &mut coefficients)?;
+        draw_salts(&mut words, n, &mut salts)?;
+        roots.push(root_over(alloc, &coefficients[coin * width..], &salts[coin * n..])?)?;
+    }
+    Ok(Deal {
+        config: *config,
+        coefficients,
+        salts,
+        roots,
+    })
+}

@@ -1,0 +1,135 @@
+//! What a deal gives: roots, and the shares of the nodes.
+
+ghost use Rattle.std.specs.Prelude.{◌≡◌, ◌+◌, ◌*◌, ◌<◌, ◌≤◌, IfOk, length};
+ghost use Rattle.hb_base.specs.Numbers.{Numbers};
+ghost use Rattle.merkle_branch.specs.Digests.{leaf_digests};
+ghost use Rattle.merkle_branch.specs.Branches.{branch_of};
+ghost use Rattle.coin_deal.specs.Deal.{coefficients as dealt_coefficients, salt as dealt_salt, share as dealt_share, coin_leaves, coin_root, dealt_coin, IsGoodShare};
+ghost use Rattle.coin_deal.specs.Holding.{coin_number, coin_count, coin_salts};
+
+use crate::leaves::{leaves_of, share_at};
+use gf_field::eval;
+use hb_base::Config;
+use merkle_branch::{Branch, Tree};
+use std::alloc::{AllocError, Global};
+use std::marker::Model;
+
+/// All coins of a run, by epoch, then lane, then round. A contract sees the numbers of the run.
+#[derive(Drop)]
+pub struct Deal {
+    pub(crate) config: Config,
+
+    // The coins lie one behind the other: f + 1 coefficients, n salts and one root each.
+    pub(crate) coefficients: Vec<u8>,
+    pub(crate) salts: Vec<[u8; 16]>,
+    pub(crate) roots: Vec<[u8; 32]>,
+}
+
+impl Model for Deal {
+    ghost use Rattle.hb_base.specs.Numbers.{Numbers};
+    ghost use Rattle.coin_deal.specs.Holding.{HoldsAllCoins};
+
+    ghost Value = { Numbers };
+
+    ghost view = { λ d. d.config };
+
+    ghost invariant = { λ d. HoldsAllCoins d.config d.coefficients.items d.salts.items d.roots.items };
+}
+
+/// The share of a node, and the salt and the branch that prove it against the coin's root.
+#[derive(Clone, Copy, Debug, PartialEq, Eq)]
+pub struct DealtShare {
+    pub share: u8,
+    pub salt: [u8; 16],
+    pub branch: Branch,
+}
+
+impl Deal {
+    /// The root of the tree over the shares of the coin of an epoch, a lane and a round.
+    pub fn root_of(&self, e: u8, j: u8, r: u8) -> [u8; 32]
+        requires epoch { e < self.now.epochs }
+        requires lane { j < self.now.n }
+        requires round { r < self.now.rounds }
+        ensures { result ≡ coin_root self.now e j r }
+    {
+        self.roots[self.number_of(e, j, r)]
+    }
+
+    /// The coin of an epoch, a lane and a round: the lowest bit of the secret.
+    pub fn coin_of(&self, e: u8, j: u8, r: u8) -> bool
+        requires epoch { e < self.now.epochs }
+        requires lane { j < self.now.n }
+        requires round { r < self.now.rounds }
+        ensures { result ≡ dealt_coin self.now e j r }
+    {
+        eval(self.coefficients_of(e, j, r), 0) % 2 == 1
+    }
+
+    /// The share of node m of the coin of an epoch, a lane and a round. The branch leads from it to the root. It
+    /// comes from the coin's tree, which is not kept but built again.
+    pub fn share_of(
+        &self,
+        alloc: Global,
+        e: u8,
+        j: u8,
+        r: u8,
+        m: u8,
+    ) -> Result<DealtShare, AllocError>
+        requires epoch { e < self.now.epochs }
+        requires lane { j < self.now.n }
+        requires round { r < self.now.rounds }
+        requires node { m < self.now.n }
+        ensures share { IfOk result (λ dealt. dealt.share ≡ dealt_share self.now e j r m) }
+        ensures salt { IfOk result (λ dealt. dealt.salt ≡ dealt_salt self.now e j r m) }
+        ensures branch { IfOk result (λ dealt. dealt.branch ≡ branch_of (leaf_digests (coin_leaves self.now e j r)) m) }
+        ensures good { IfOk result (λ dealt. IsGoodShare self.now e j r m dealt.share dealt.salt dealt.branch) }
+    {
+        let coefficients = self.coefficients_of(e, j, r);
+        let salts = self.salts_of(e, j, r);
+        let tree = Tree::build(alloc, &leaves_of(coefficients, salts))?;
+        Ok(DealtShare {
+            share: share_at(coefficients, m),
+            salt: salts[m as usize],
+            branch: tree.branch(m),
+        })
+    }
+
+    // The coefficients of one coin.
+    fn coefficients_of(&self, e: u8, j: u8, r: u8) -> &[u8]
+        requires epoch { e < self.now.epochs }
+        requires lane { j < self.now.n }
+        requires round { r < self.now.rounds }
+        ensures { result.now ≡ dealt_coefficients self.now e j r }
+    {
+        let width = self.config.f() as usize + 1;
+        let start = self.number_of(e, j, r) * width;
+        &self.coefficients[start..start + width]
+    }
+
+    // The salts of one coin.
+    fn salts_of(&self, e: u8, j: u8, r: u8) -> &[[u8; 16]]
+        requires epoch { e < self.now.epochs }
+        requires lane { j < self.now.n }
+        requires round { r < self.now.rounds }
+        ensures exact { result.now ≡ coin_salts self.now e j r }
+        ensures count { length result.now ≡ self.now.n }
+        ensures few { self.now.n ≤ 16 }
+    {
+        let n = self.config.n() as usize;
+        let start = self.number_of(e, j, r) * n;
+        &self.salts[start..start + n]
+    }
+
+    // How many coins stand before this one.
+    fn number_of(&self, e: u8, j: u8, r: u8) -> usize
+        requires epoch { e < self.now.epochs }
+        requires lane { j < self.now.n }
+        requires round { r < self.now.rounds }
+        ensures exact { result ≡ coin_number self.now e j r }
+        ensures within { result < coin_count self.now }
+    {
+        let n = self.config.n() as usize;
+        let rounds = self.config.rounds() as usize;
+        (e as usize * n + j as usize) * rounds + r as usize
+    }
+}
