@@ -44,7 +44,7 @@ pub fn root_over(
 }
 
 /// The leaf of a node: its share, and its salt behind it.
-fn leaf_of(share: u8, salt: &[u8; 16]) -> [u8; 17]
+pub fn leaf_of(share: u8, salt: &[u8; 16]) -> [u8; 17]
     ensures { result ≡ share ∷ salt.now }
 {
     let mut leaf = [share; 17];

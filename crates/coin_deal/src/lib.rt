@@ -13,6 +13,7 @@ mod words;
 pub use dealing::deal;
 pub use dealt::{Deal, DealtShare};
 pub use laws::sharing_laws;
+pub use leaves::leaf_of;
 pub use others::{NodeShare, others_fit};
 
 #[cfg(test)]

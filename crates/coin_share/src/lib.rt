@@ -9,6 +9,7 @@ ghost use Rattle.gf_field.specs.Polynomial.{polynomial_at, AreDistinct, Interpol
 ghost use Rattle.coin_deal.specs.Deal.{coin_of, dealt_coin, IsGoodShare};
 ghost use Rattle.coin_share.specs.Shares.{has_share_of, added_share, with_share, IsGood, AreGood, added_of, points, values, deciding, IsCoinOf, IsOfCoin, Collides};
 
+use coin_deal::leaf_of;
 use gf_field::interpolate_at;
 use merkle_branch::{Branch, MAX_HEIGHT, MAX_LEAVES, is_branch};
 use std::marker::Model;
@@ -173,15 +174,6 @@ fn secret(shares: &[KeptShare]) -> u8
         values[i] = share.share;
     }
     interpolate_at(&points[..shares.len()], &values[..shares.len()], 0)
-}
-
-// The leaf of a node: its share, and the salt that hides it.
-fn leaf_of(share: u8, salt: &[u8; 16]) -> [u8; 17]
-    ensures { result ≡ share ∷ salt.now }
-{
-    let mut leaf = [share; 17];
-    leaf[1..].copy_from_slice(salt);
-    leaf
 }
 
 // What stands where no share was added.
