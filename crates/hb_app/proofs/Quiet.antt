@@ -34,7 +34,7 @@ map-end_of [] = refl
 map-end_of (m ∷ team) = ap (λ (places : List (ℕ × ℕ)). (m.node, m.actor) ∷ places) (map-end_of team)
 
 -- an actor of a team, and its end
-record HasEnded (team : List Member) (end : End) : Type 0 where
+pub record HasEnded (team : List Member) (end : End) : Type 0 where
   pub member : Member
   pub place : ℕ
   pub stands : slice_get team place ≡ Some member
@@ -47,7 +47,7 @@ ended_at (m ∷ team) end (suc k) at =
     let rest : HasEnded team end = ended_at team end k at in
     record { member = rest.member; place = suc rest.place; stands = rest.stands; is = rest.is }
 
-ended : (team : List Member) (end : End) → Contains (map end_of team) end → HasEnded team end
+pub ended : (team : List Member) (end : End) → Contains (map end_of team) end → HasEnded team end
 ended team end stands = ended_at team end stands.0 (slice_get-get_or (map end_of team) stands.0 end stands.1 ∙ ap (λ (e : End). Some e) stands.2)
 
 -- the slots of a lane in one epoch

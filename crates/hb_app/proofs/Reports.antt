@@ -1,5 +1,5 @@
 -- The report of a run.
-use Rattle.std.proofs.Common.{◌≡◌, ℕ, Bool, false, List, [], ◌∷◌, length, map, refl, sym, ap, ◌∙◌, subst}
+use Rattle.std.proofs.Common.{Contains, ◌≡◌, ℕ, Bool, false, List, [], ◌∷◌, length, map, refl, sym, ap, ◌∙◌, subst}
 use Rattle.hb_base.specs.Numbers.{Numbers, AreSound}
 use Rattle.hb_base.specs.NodeSet.{is_in}
 use Rattle.hb_rules.specs.declared.post.Post.{Post}
@@ -11,7 +11,8 @@ use Rattle.hb_app.specs.declared.scenario.Scenario.{Scenario}
 use Rattle.hb_app.specs.Member.{end_of}
 use Rattle.hb_app.specs.Team.{IsRun}
 use Rattle.hb_app.specs.Run.{IsPlain, IsRunOf}
-use Rattle.hb_app.proofs.Quiet.{agree, none_lies, proposed_value, quiet}
+use Rattle.hb_rules.specs.declared.report.End.{End}
+use Rattle.hb_app.proofs.Quiet.{HasEnded, ended, agree, none_lies, proposed_value, quiet}
 use Rattle.hb_app.proofs.Totality.{Premises, all_deliver}
 
 -- the report of a run
@@ -45,4 +46,7 @@ IsRunOf-run s report config posts team plain sound same legal0 run0 config_is su
       agreed = agree report.config s.submit.tx report.history.items (subst AreSound (sym config_is) sound) (ap (λ (c : Numbers). c.liars) config_is ∙ plain.liars) legal run.proposed run.silent;
       status = status_is;
       complete = all_deliver report s.submit.tx alive status_is;
+      full = λ end stands fate.
+          let here : HasEnded team end = ended team end (subst (λ (es : List End). Contains es end) ends_is stands) in
+          (run.is_team.members here.place here.member here.stands).full (sym (ap (λ (e : End). e.fate) here.is) ∙ fate);
     }

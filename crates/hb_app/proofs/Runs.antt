@@ -64,6 +64,8 @@ IsMember-others book book' i x m moved member apart =
           ∙ heard_of-more book.config m.node m.actor book.posts moved.extended.added m.got.items (got_within book.config book.posts m.node m.actor m.got.items member.got) in
           subst (λ (c : Numbers). IsReady c m.node m.actor (own_in m.node m.actor book'.posts) (heard_of c m.node m.actor book'.posts m.got.items) m.core) (sym moved.config)
           (rw (own, heard) (member.ready running));
+      full = λ full. let more : length book'.posts ≡ length book.posts + length moved.extended.added = ap (λ (ps : List Post). length ps) moved.extended.is ∙ length-append book.posts moved.extended.added in
+          omega (arith, more, member.full full);
     }
 
 -- one element of a list set

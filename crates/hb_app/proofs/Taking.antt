@@ -15,7 +15,7 @@ use Rattle.hb_rules.specs.Rules.{MayBroadcast}
 use Rattle.hb_rules.specs.History.{IsLegal}
 use Rattle.hb_rules.specs.Owing.{pass, broadcast_slots}
 use Rattle.hb_rules.specs.Book.{SeatView, BookView, is_by, Extended, Moved, IsSeatOf}
-use Rattle.hb_rules.specs.declared.report.Fate.TheVariants.{Running}
+use Rattle.hb_rules.specs.declared.report.Fate.TheVariants.{Running, Full}
 use Rattle.hb_rules.specs.BookLaws.{own_in-append}
 use Rattle.hb_rules.specs.Report.{heard_of, IsReceived}
 use Rattle.hb_rules.specs.Vote.{epoch_of}
@@ -30,7 +30,7 @@ use Rattle.hb_app.specs.declared.member.Core.{Core}
 use Rattle.hb_app.specs.declared.member.Core.TheVariants.{Lane, Desk}
 use Rattle.hb_app.specs.declared.member.Member.{Member}
 use Rattle.hb_app.specs.Casting.{MayCastInTurn, HasCastFront}
-use Rattle.hb_app.specs.Member.{IsReady, IsPlaced, HearsIn, KnowsNode, IsHeardBy, Listens, IsMember, TakesIn}
+use Rattle.hb_app.specs.Member.{IsFull, IsReady, IsPlaced, HearsIn, KnowsNode, IsHeardBy, Listens, IsMember, TakesIn}
 
 abbrev no_hearing : Option Hearing
 no_hearing = None
@@ -238,12 +238,13 @@ IsReceived-moved book book' i x a y k moved received =
 pub IsMember-after : (k : ℕ) (book book' : BookView) (old new m : Member) → TakesIn k book book' old new → IsMember book.config book.posts old → IsReceived book.config book.posts old.node old.actor k
     → m.node ≡ new.node → m.actor ≡ new.actor → m.seat ≡ new.seat → m.got.items ≡ new.got.items
     → (m.fate ≡ Running → IsReady book'.config new.node new.actor (own_in new.node new.actor book'.posts) (heard_of book'.config new.node new.actor book'.posts new.got.items) m.core)
-    → IsMember book'.config book'.posts m
-IsMember-after k book book' old new m takes member received node actor seat got ready = record {
+    → (m.fate ≡ Full → IsFull book'.posts) → IsMember book'.config book'.posts m
+IsMember-after k book book' old new m takes member received node actor seat got ready full = record {
   seat = subst (λ (s : SeatView). IsSeatOf book' s) (sym seat) takes.is_seat;
   node = ap (λ (s : SeatView). s.node) seat ∙ takes.seat_node ∙ member.node ∙ sym takes.node ∙ sym node;
   actor = ap (λ (s : SeatView). s.actor) seat ∙ takes.seat_actor ∙ member.actor ∙ sym takes.actor ∙ sym actor;
   got = λ j stands. rw (node, actor, takes.node, takes.actor) (IsReceived-moved book book' old.node old.actor old.node old.actor j takes.moved
       (received_after book old.node old.actor old.got.items new.got.items k member.got received takes.got j (rw (sym got) stands)));
   ready = λ running. rw (node, actor, got) (ready running);
+  full = full;
 }

@@ -1,10 +1,10 @@
 -- The actors of a run.
-use Rattle.std.specs.Prelude.{◌≡◌, ◌≢◌, ◌⊎◌, ℕ, ◌<◌, true, List, [], ◌∷◌, ◌++◌, Contains, slice_get, Some}
+use Rattle.std.specs.Prelude.{◌≡◌, ◌≢◌, ◌⊎◌, ℕ, ◌<◌, ◌≤◌, ◌^◌, length, true, List, [], ◌∷◌, ◌++◌, Contains, slice_get, Some}
 use Rattle.std.specs.List.{list_any}
 use Rattle.hb_base.specs.Numbers.{Numbers}
 use Rattle.hb_rules.specs.declared.vote.Vote.{Vote}
 use Rattle.hb_rules.specs.declared.post.Post.{Post}
-use Rattle.hb_rules.specs.declared.report.Fate.TheVariants.{Running}
+use Rattle.hb_rules.specs.declared.report.Fate.TheVariants.{Running, Full}
 use Rattle.hb_rules.specs.declared.report.End.{End}
 use Rattle.hb_rules.specs.Vote.{is_any_proposal}
 use Rattle.hb_rules.specs.Hearing.{Hearing, reaches, own_in, heard_in}
@@ -21,13 +21,19 @@ abbrev pub IsReady : Numbers → ℕ → ℕ → List Vote → List Hearing → 
 IsReady c i x own heard (Lane r) = (x < c.n) × (place_of r ≡ record { config = c; node = i; lane = x; epoch = 0 }) × Stands r own heard
 IsReady c i x own heard Desk = (x ≡ c.n) × (list_any (is_any_proposal 0) own ≡ true)
 
--- an actor with a seat of its own, which received only what reaches it, and is ready for more if it works
+-- no post more may stand
+abbrev pub IsFull : List Post → Type 0
+IsFull posts = 2 ^ 22 ≤ length posts
+
+-- an actor with a seat of its own, which received only what reaches it, and is ready for more if it works; it found the
+-- book full only where it is
 pub record IsMember (c : Numbers) (posts : List Post) (m : Member) : Type 0 where
   pub seat : IsSeatOf (record { config = c; posts = posts }) m.seat
   pub node : m.seat.node ≡ m.node
   pub actor : m.seat.actor ≡ m.actor
   pub got : (k : ℕ) → Contains m.got.items k → IsReceived c posts m.node m.actor k
   pub ready : m.fate ≡ Running → IsReady c m.node m.actor (own_in m.node m.actor posts) (heard_of c m.node m.actor posts m.got.items) m.core
+  pub full : m.fate ≡ Full → IsFull posts
 
 -- all actors of a run, each with a place of its own
 pub record IsTeam (c : Numbers) (posts : List Post) (team : List Member) : Type 0 where

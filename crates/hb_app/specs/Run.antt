@@ -3,10 +3,13 @@ use Rattle.std.specs.Prelude.{◌≡◌, ℕ, ◌-◌, ◌<◌, ◌≤◌, true,
 use Rattle.hb_base.specs.Counting.{count_nodes}
 use Rattle.hb_rules.specs.declared.vote.Vote.TheVariants.{Delivered}
 use Rattle.hb_rules.specs.declared.post.Post.{Post}
+use Rattle.hb_rules.specs.declared.report.Fate.TheVariants.{Full}
+use Rattle.hb_rules.specs.declared.report.End.{End}
 use Rattle.hb_rules.specs.declared.report.Report.{Report}
 use Rattle.hb_rules.specs.Hearing.{own_in}
 use Rattle.hb_rules.specs.History.{IsLegal}
 use Rattle.hb_rules.specs.Report.{NoVoteTwice, IsQuiet, is_running, status_of}
+use Rattle.hb_app.specs.Member.{IsFull}
 use Rattle.hb_app.specs.Text.{delivered_at}
 use Rattle.hb_app.specs.declared.scenario.Scenario.{Scenario}
 
@@ -29,7 +32,8 @@ pub record AllDeliver (value : List ℕ) (report : Report) : Type 0 where
   pub ok : report.status ≡ 0 → (i : ℕ) → i < report.config.n → delivered_at i report.history.items ≡ Some value
 
 -- The report of a run of a scenario: its history is legal, no vote of an actor stands in it twice, nothing is left to do,
--- every delivered value is the one that was submitted, and the running nodes have delivered it.
+-- every delivered value is the one that was submitted, the running nodes have delivered it, and an actor found the book
+-- full only where it is.
 pub record IsRunOf (s : Scenario) (report : Report) : Type 0 where
   pub config : report.config ≡ s.config
   pub submit : report.submit.items ≡ s.submit ∷ []
@@ -38,4 +42,5 @@ pub record IsRunOf (s : Scenario) (report : Report) : Type 0 where
   pub quiet : IsQuiet report
   pub agreed : Agree s.submit.tx report.history.items
   pub complete : AllDeliver s.submit.tx report
+  pub full : (end : End) → Contains report.ends.items end → end.fate ≡ Full → IsFull report.history.items
   pub status : report.status ≡ status_of report.ends.items

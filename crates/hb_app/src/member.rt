@@ -1,4 +1,4 @@
-ghost use Rattle.std.specs.Prelude.{◌≡◌, ℕ, ◌<◌, ◌≤◌, ◌⊎◌, Bool, true, List, [], ◌∷◌, ◌++◌, length, OnOk, OnErr, IfOk, slice_get, Some, Contains, if◌then◌else◌, ◌==◌};
+ghost use Rattle.std.specs.Prelude.{◌≡◌, ℕ, ◌<◌, ◌≤◌, ◌⊎◌, Bool, true, List, [], ◌∷◌, ◌++◌, length, OnOk, OnErr, IfOk, IfErr, Err, slice_get, Some, Contains, if◌then◌else◌, ◌==◌};
 ghost use Rattle.std.specs.List.{list_any};
 ghost use Rattle.hb_base.specs.Numbers.{AreSound};
 ghost use Rattle.hb_rules.specs.declared.vote.Vote.{Vote};
@@ -6,10 +6,10 @@ ghost use Rattle.hb_rules.specs.declared.vote.Vote.TheVariants.{Propose};
 ghost use Rattle.hb_rules.specs.Hearing.{Hearing, own_in, heard_in};
 ghost use Rattle.hb_rules.specs.Rules.{MayCast};
 ghost use Rattle.hb_rules.specs.Book.{IsSeatOf, Moved};
-ghost use Rattle.hb_rules.specs.declared.report.Fate.TheVariants.{Running};
+ghost use Rattle.hb_rules.specs.declared.report.Fate.TheVariants.{Running, Full};
 ghost use Rattle.hb_rules.specs.Report.{NoVoteTwice, IsReceived, heard_of};
 ghost use Rattle.hb_app.specs.Casting.{MayCastAll, HasCastFront};
-ghost use Rattle.hb_app.specs.Member.{IsReady, IsMember, HearsIn, KnowsNode, IsPlaced, Listens, AddsReceived, TakesIn};
+ghost use Rattle.hb_app.specs.Member.{IsFull, IsReady, IsMember, HearsIn, KnowsNode, IsPlaced, Listens, AddsReceived, TakesIn};
 
 use hb_base::{Bytes, Config};
 use hb_rules::{Book, BookFault, Due, Fate, PlainBook, PlainSeat, Post, Vote, hears};
@@ -114,6 +114,7 @@ impl Member {
         ensures ready { OnOk result (IsReady book.new.config self.new.node self.new.actor (own_in self.new.node self.new.actor book.new.posts)
             (heard_of book.new.config self.new.node self.new.actor book.new.posts self.new.got.items) self.new.core) }
         ensures got { OnOk result (self.new.got.items ≡ self.old.got.items ++ k ∷ []) }
+        ensures full { result ≡ Err BookFault.Full → IsFull book.new.posts }
     {
         let due = listen(&mut self.core, alloc, book, self.node, self.actor, k)?;
         note(&mut self.got, k)?;
@@ -132,7 +133,8 @@ fn listen(
 ) -> Result<Due, BookFault>
     requires received { IsReceived book.now.config book.now.posts node actor k }
     requires placed { IsPlaced book.now.config actor core.old }
-    ensures { IfOk result (λ due. Listens book.now.config node actor book.now.posts k due core.old core.new) }
+    ensures ok { IfOk result (λ due. Listens book.now.config node actor book.now.posts k due core.old core.new) }
+    ensures err { IfErr result (λ fault. fault ≡ BookFault.Memory) }
 {
     let config = book.config();
     let n = config.n();
@@ -172,7 +174,7 @@ fn hear(core: &mut Core, alloc: Global, from: u8, vote: &Vote) -> Result<Due, Al
 // Adds the number of a post that was received.
 fn note(got: &mut Vec<u32>, k: u32) -> Result<(), BookFault>
     ensures ok { OnOk result (got.new.items ≡ got.old.items ++ k ∷ []) }
-    ensures err { OnErr result (got.new.items ≡ got.old.items) }
+    ensures err { IfErr result (λ fault. (fault ≡ BookFault.Memory) × (got.new.items ≡ got.old.items)) }
 {
     got.push(k).map_err(|_| BookFault::Memory)
 }
@@ -193,6 +195,7 @@ fn propose(
     ensures once { NoVoteTwice book.old.posts → NoVoteTwice book.new.posts }
     ensures ok { OnOk result (own_in 0 book.old.config.n book.new.posts ≡ Propose 0 value.now ∷ []) }
     ensures err { OnErr result (own_in 0 book.old.config.n book.new.posts ≡ []) }
+    ensures full { result ≡ Err BookFault.Full → IsFull book.new.posts }
 {
     let mut votes = Due::new(alloc);
     let value = value.clone().map_err(|_| BookFault::Memory)?;
@@ -203,7 +206,8 @@ fn propose(
 }
 
 fn fate_of(fault: BookFault) -> Fate
-    ensures { (result ≡ Running) → ⊥ }
+    ensures ended { (result ≡ Running) → ⊥ }
+    ensures full { result ≡ Full → fault ≡ BookFault.Full }
 {
     match fault {
         BookFault::Full => Fate::Full,
@@ -223,6 +227,7 @@ fn cast(book: &mut PlainBook, seat: &mut PlainSeat, votes: &[Vote]) -> Result<()
         ≡ own_in seat.old.node seat.old.actor book.old.posts ++ votes.now) }
     ensures err { OnErr result (HasCastFront (own_in seat.old.node seat.old.actor book.old.posts) votes.now
         (own_in seat.old.node seat.old.actor book.new.posts)) }
+    ensures full { result ≡ Err BookFault.Full → IsFull book.new.posts }
 {
     book.posts(seat);
     for vote in votes {

@@ -12,8 +12,8 @@ stands_at posts read k post received stands same is =
     stands ∙ ap (λ (p : Post). Some p)
     (sym (is ∙ ap (λ (ps : List Post). get_or ps k post) same ∙ get_or_from_slice_get posts k received post stands))
 
-pub returns-then-not-hears : goal.returns-then-not-hears
-returns-then-not-hears c =
+pub returns-then-not-hears-clause-ok : goal.returns-then-not-hears-clause-ok
+returns-then-not-hears-clause-ok c =
     let posts = c.args.book.now.posts in
     let post : Post = c.index-history-k.result in
     let stands : slice_get posts c.args.k ≡ Some post =
@@ -32,8 +32,8 @@ hear-requires c =
     (c.sender_of-from.ensures
     ∙ ap (λ (n : ℕ). if c.args.actor == n then post.actor else post.from) (c.n-n.ensures.value ∙ ap (λ (config : Numbers). config.n) c.config-config.ensures))
 
-pub returns-in-Ok : goal.returns-in-Ok
-returns-in-Ok c =
+pub returns-in-Ok-clause-ok : goal.returns-in-Ok-clause-ok
+returns-in-Ok-clause-ok c =
     let posts = c.args.book.now.posts in
     let post : Post = c.index-history-k.result in
     let stands : slice_get posts c.args.k ≡ Some post =

@@ -13,7 +13,7 @@ cast-requires-clause-allowed c =
     let m = c.args.self.now in
     let book = c.args.book.now in
     let heard : IsHeardBy book.config m.node m.actor (own_in m.node m.actor book.posts) _ (heard_in book.config m.node m.actor book.posts) c.in_ok-due.due c.listen.new.core =
-    c.in_ok-due.ensures (own_in m.node m.actor book.posts) m.got.items (c.requires.member.ready c.requires.working) in
+    c.in_ok-due.ensures.ok (own_in m.node m.actor book.posts) m.got.items (c.requires.member.ready c.requires.working) in
     rw (c.requires.member.node, c.requires.member.actor, c.votes.ensures) (record { in_turn = heard.may })
 
 pub returns-clause-taken : goal.returns-clause-taken
@@ -21,7 +21,7 @@ returns-clause-taken c =
     let m = c.args.self.now in
     let book = c.args.book.now in
     let heard : IsHeardBy book.config m.node m.actor (own_in m.node m.actor book.posts) _ (heard_in book.config m.node m.actor book.posts) c.in_ok-due.due c.listen.new.core =
-    c.in_ok-due.ensures (own_in m.node m.actor book.posts) m.got.items (c.requires.member.ready c.requires.working) in
+    c.in_ok-due.ensures.ok (own_in m.node m.actor book.posts) m.got.items (c.requires.member.ready c.requires.working) in
     let moved : Moved m.node m.actor book c.cast.new.book = rw (sym c.requires.member.node, sym c.requires.member.actor) c.cast.ensures.moved in
     record {
       node = refl;
@@ -45,7 +45,7 @@ returns-clause-ready c =
     let book = c.args.book.now in
     let heard : IsHeardBy book.config m.node m.actor (own_in m.node m.actor book.posts) (heard_of book.config m.node m.actor book.posts c.note.new.got.items)
     (heard_in book.config m.node m.actor book.posts) c.in_ok-due.due c.listen.new.core =
-    rw c.in_ok-note.ensures.ok (c.in_ok-due.ensures (own_in m.node m.actor book.posts) m.got.items (c.requires.member.ready c.requires.working)) in
+    rw c.in_ok-note.ensures.ok (c.in_ok-due.ensures.ok (own_in m.node m.actor book.posts) m.got.items (c.requires.member.ready c.requires.working)) in
     let moved : Moved m.node m.actor book c.cast.new.book = rw (sym c.requires.member.node, sym c.requires.member.actor) c.cast.ensures.moved in
     on_ok_weaker c.cast.result
     (λ own. IsReady-after book c.cast.new.book m.node m.actor c.in_ok-due.due c.note.new.got.items c.listen.new.core moved
