@@ -2,7 +2,7 @@
 use Rattle.std.specs.Prelude.{◌≡◌, ◌⊎◌, ℕ, ◌≤◌, List}
 use Rattle.disk_model.specs.Image.{Image}
 use Rattle.disk_model.specs.Disk.{LeavesOnly}
-use Rattle.disk_model.specs.Cause.{Rose}
+use Rattle.hb_base.specs.Outside.{Rose}
 use Rattle.disk_model.specs.Supply.{Supply, Draws}
 use Rattle.vote_journal.specs.Text.{SaysOnly}
 use Rattle.vote_journal.specs.declared.fault.JournalFault.{JournalFault}
