@@ -29,7 +29,8 @@ use Rattle.hb_rules.proofs.Counts.{count_nodes-mono}
 use Rattle.hb_rules.proofs.Passing.{IsSettledAt, settled_parts}
 use Rattle.hb_rules.proofs.Slots.{AllByRecursion-parts}
 use Rattle.hb_rules.proofs.Sayings.{said, list_any-from, Found, Found-from, AreAddressed}
-use Rattle.hb_rules.proofs.Validity.{IsSourced, broadcast_validity, is_value_if}
+use Rattle.hb_rules.proofs.Shapes.{proposal_is, val_is, echo_is, ready_is}
+use Rattle.hb_rules.proofs.Validity.{IsSourced, broadcast_validity}
 use Rattle.rbc_core.proofs.Standing.{AreSettled, AreSettled-idle}
 use Rattle.rbc_core.proofs.Owed.{none_from_map}
 use Rattle.hb_app.specs.Run.{AllDeliver}
@@ -129,37 +130,6 @@ first_valued claim value (w ∷ own) only some =
     by (Some v) is some later =
         let claims : is_value v (claim w) ≡ true = ap (is_value v) is ∙ (bytes_eq-Decides v v).1 refl in
         ap (λ (u : List ℕ). Some u) (only v (or_left (is_value v (claim w)) (list_any (λ w. is_value v (claim w)) own) claims))
-
-val_is : (m : ℕ) (v : List ℕ) (w : Vote) → is_val 0 m v w ≡ true → w ≡ Val 0 m v
-val_is m v (Val d t u) passes =
-    let parts = is_value_if v u ((d == 0) && (t == m)) passes in
-    let at = and_parts (d == 0) (t == m) parts.0 in
-    rw (eqb-true d 0 at.0, eqb-true t m at.1, parts.1) refl
-val_is m v (Propose d u) passes = absurd (cc (passes))
-val_is m v (Echo d u) passes = absurd (cc (passes))
-val_is m v (Ready d u) passes = absurd (cc (passes))
-val_is m v (Delivered d u) passes = absurd (cc (passes))
-
-echo_is : (v : List ℕ) (w : Vote) → is_echo 0 v w ≡ true → w ≡ Echo 0 v
-echo_is v (Echo d u) passes = let parts = is_value_if v u (d == 0) passes in rw (eqb-true d 0 parts.0, parts.1) refl
-echo_is v (Propose d u) passes = absurd (cc (passes))
-echo_is v (Val d t u) passes = absurd (cc (passes))
-echo_is v (Ready d u) passes = absurd (cc (passes))
-echo_is v (Delivered d u) passes = absurd (cc (passes))
-
-ready_is : (v : List ℕ) (w : Vote) → is_ready 0 v w ≡ true → w ≡ Ready 0 v
-ready_is v (Ready d u) passes = let parts = is_value_if v u (d == 0) passes in rw (eqb-true d 0 parts.0, parts.1) refl
-ready_is v (Propose d u) passes = absurd (cc (passes))
-ready_is v (Val d t u) passes = absurd (cc (passes))
-ready_is v (Echo d u) passes = absurd (cc (passes))
-ready_is v (Delivered d u) passes = absurd (cc (passes))
-
-proposal_is : (v : List ℕ) (w : Vote) → is_proposal 0 v w ≡ true → w ≡ Propose 0 v
-proposal_is v (Propose d u) passes = let parts = is_value_if v u (d == 0) passes in rw (eqb-true d 0 parts.0, parts.1) refl
-proposal_is v (Val d t u) passes = absurd (cc (passes))
-proposal_is v (Echo d u) passes = absurd (cc (passes))
-proposal_is v (Ready d u) passes = absurd (cc (passes))
-proposal_is v (Delivered d u) passes = absurd (cc (passes))
 
 -- the post of a vote that an actor has cast
 record IsPosted (i x : ℕ) (history : List Post) (v : Vote) : Type 0 where
@@ -362,7 +332,7 @@ val_cast report value m alive below =
     let heard : List Hearing = heard_of report.config 0 0 report.history.items rest.got in
     let proposal : Contains heard (record { from = 0; vote = Propose 0 value }) =
     hears_posted report 0 0 0 report.config.n (Propose 0 value) rest (desk_rests report value alive).works
-    (posted report.config (is_proposal 0 value) 0 report.config.n report.history.items (Propose 0 value) source.addressed (alive.run.correct 0) (proposal_is value) (proposal_cast report value alive))
+    (posted report.config (is_proposal 0 value) 0 report.config.n report.history.items (Propose 0 value) source.addressed (alive.run.correct 0) (proposal_is 0 value) (proposal_cast report value alive))
     (rw (at.0, eq-eqb report.config.n report.config.n refl) (or_right _ _ refl)) (rw (at.0, eq-eqb report.config.n report.config.n refl) refl) at.2 at.1 in
     let settled = each_at (λ slot. IsSettledAt slot own heard) (λ m. val_slot 0 0 0 m ∷ []) report.config.n m below (lane_settled report value 0 alive rest).vals in
     valued (sent 0 m) value own (λ v says. alive.run.source 0 v (source.vals 0 m v says))
@@ -381,7 +351,7 @@ echo_cast report value i alive runs =
     let heard : List Hearing = heard_of report.config i 0 report.history.items rest.got in
     let val : Contains heard (record { from = 0; vote = Val 0 i value }) =
     hears_posted report i 0 0 0 (Val 0 i value) rest (lane_rests report value 0 alive alive.sender).works
-    (posted report.config (is_val 0 i value) 0 0 report.history.items (Val 0 i value) source.addressed (alive.run.correct 0) (val_is i value) (val_cast report value i alive (node_below report i runs)))
+    (posted report.config (is_val 0 i value) 0 0 report.history.items (Val 0 i value) source.addressed (alive.run.correct 0) (val_is 0 i value) (val_cast report value i alive (node_below report i runs)))
     (rw (eq-eqb i i refl) refl) (rw (at.0, eq-eqb i i refl) refl) at.2 at.1 in
     valued (echoed 0) value own (λ v says. alive.run.source 0 v (source.echoes 0 v i (alive.run.correct i) says))
     (filled (echo_slot i 0 0) own heard (lane_settled report value i alive rest).echo
@@ -413,7 +383,7 @@ ready_cast report value i alive runs =
     let heard : List Hearing = heard_of report.config i 0 report.history.items rest.got in
     let same : is_echo 0 value (Echo 0 value) ≡ true = (bytes_eq-Decides value value).1 refl in
     let echo : (a : ℕ) → is_running report a ≡ true → Contains heard (record { from = a; vote = Echo 0 value }) = λ a within.
-    heard_of_all report value (Echo 0 value) (is_echo 0 value) i a alive rest within (echo_is value) (echo_cast report value a alive within) refl at.0 at.2 in
+    heard_of_all report value (Echo 0 value) (is_echo 0 value) i a alive rest within (echo_is 0 value) (echo_cast report value a alive within) refl at.0 at.2 in
     let count : count_nodes report.config.n (is_running report) ≤ count_of report.config.n (is_echo 0 value) heard = counted report (is_echo 0 value) (Echo 0 value) heard same echo in
     let enough : readies report.config 0 heard value ≡ true =
     or_left (nat_le (report.config.n - report.config.f) (count_of report.config.n (is_echo 0 value) heard)) (nat_le (report.config.f + 1) (count_of report.config.n (is_ready 0 value) heard))
@@ -434,7 +404,7 @@ delivered_everywhere report value i alive runs =
     let heard : List Hearing = heard_of report.config i 0 report.history.items rest.got in
     let same : is_ready 0 value (Ready 0 value) ≡ true = (bytes_eq-Decides value value).1 refl in
     let ready : (a : ℕ) → is_running report a ≡ true → Contains heard (record { from = a; vote = Ready 0 value }) = λ a within.
-    heard_of_all report value (Ready 0 value) (is_ready 0 value) i a alive rest within (ready_is value) (ready_cast report value a alive within) refl at.0 at.2 in
+    heard_of_all report value (Ready 0 value) (is_ready 0 value) i a alive rest within (ready_is 0 value) (ready_cast report value a alive within) refl at.0 at.2 in
     let count : count_nodes report.config.n (is_running report) ≤ count_of report.config.n (is_ready 0 value) heard = counted report (is_ready 0 value) (Ready 0 value) heard same ready in
     let enough : delivers report.config 0 heard value ≡ true =
     le-leb (2 * report.config.f + 1) (count_of report.config.n (is_ready 0 value) heard) (omega (arith, count, alive.enough, alive.run.sound.enough)) in

@@ -7,3 +7,5 @@ pub mod Slots
 pub mod Repeats
 pub mod Sayings
 pub mod Validity
+pub mod Shapes
+pub mod Agreement

@@ -55,7 +55,7 @@ newly_said c test i x history post correct follows h =
       | inr now ↦ let parts = said_at test i x post now in new_at c test i x history post parts.0 parts.1 correct follows parts.2
     ]
 
-AreAddressed-push : (c : Numbers) (history : List Post) (post : Post) → AreAddressed c history → MayFollow c history post → AreAddressed c (history ++ post ∷ [])
+pub AreAddressed-push : (c : Numbers) (history : List Post) (post : Post) → AreAddressed c history → MayFollow c history post → AreAddressed c (history ++ post ∷ [])
 AreAddressed-push c history post addressed follows p stands correct = elim (Contains-push_cases history post p stands) [
   | inl before ↦ addressed p before correct
   | inr is ↦ rw (sym is) (follows.correct (rw is correct)).address
@@ -109,7 +109,7 @@ echo_source c e v i x own heard (Val d t w) passes may = absurd (cc (passes))
 echo_source c e v i x own heard (Ready d w) passes may = absurd (cc (passes))
 echo_source c e v i x own heard (Delivered d w) passes may = absurd (cc (passes))
 
-ready_source : (c : Numbers) (e : ℕ) (v : List ℕ) (i x : ℕ) (own : List Vote) (heard : List Hearing) (vote : Vote) → is_ready e v vote ≡ true → MayCast c i x own heard vote
+pub ready_source : (c : Numbers) (e : ℕ) (v : List ℕ) (i x : ℕ) (own : List Vote) (heard : List Hearing) (vote : Vote) → is_ready e v vote ≡ true → MayCast c i x own heard vote
     → (c.n - c.f ≤ count_of c.n (is_echo e v) heard) ⊎ (c.f + 1 ≤ count_of c.n (is_ready e v) heard)
 ready_source c e v i x own heard (Ready d w) passes (inl may) =
     let parts = is_value_if v w (d == e) passes in
@@ -120,7 +120,7 @@ ready_source c e v i x own heard (Val d t w) passes may = absurd (cc (passes))
 ready_source c e v i x own heard (Echo d w) passes may = absurd (cc (passes))
 ready_source c e v i x own heard (Delivered d w) passes may = absurd (cc (passes))
 
-delivery_source : (c : Numbers) (e : ℕ) (v : List ℕ) (i x : ℕ) (own : List Vote) (heard : List Hearing) (vote : Vote) → is_delivery e v vote ≡ true → MayCast c i x own heard vote
+pub delivery_source : (c : Numbers) (e : ℕ) (v : List ℕ) (i x : ℕ) (own : List Vote) (heard : List Hearing) (vote : Vote) → is_delivery e v vote ≡ true → MayCast c i x own heard vote
     → 2 * c.f + 1 ≤ count_of c.n (is_ready e v) heard
 delivery_source c e v i x own heard (Delivered d w) passes (inl may) =
     let parts = is_value_if v w (d == e) passes in
@@ -155,14 +155,14 @@ val_stays_away e m v (Echo d u) passes home = absurd (cc (passes))
 val_stays_away e m v (Ready d u) passes home = absurd (cc (passes))
 val_stays_away e m v (Delivered d u) passes home = absurd (cc (passes))
 
-echo_stays_away : (e : ℕ) (v : List ℕ) (w : Vote) → is_echo e v w ≡ true → address_of w ≡ Home → ⊥
+pub echo_stays_away : (e : ℕ) (v : List ℕ) (w : Vote) → is_echo e v w ≡ true → address_of w ≡ Home → ⊥
 echo_stays_away e v (Echo d u) passes home = absurd (cc (home))
 echo_stays_away e v (Propose d u) passes home = absurd (cc (passes))
 echo_stays_away e v (Val d t u) passes home = absurd (cc (passes))
 echo_stays_away e v (Ready d u) passes home = absurd (cc (passes))
 echo_stays_away e v (Delivered d u) passes home = absurd (cc (passes))
 
-ready_stays_away : (e : ℕ) (v : List ℕ) (w : Vote) → is_ready e v w ≡ true → address_of w ≡ Home → ⊥
+pub ready_stays_away : (e : ℕ) (v : List ℕ) (w : Vote) → is_ready e v w ≡ true → address_of w ≡ Home → ⊥
 ready_stays_away e v (Ready d u) passes home = absurd (cc (home))
 ready_stays_away e v (Propose d u) passes home = absurd (cc (passes))
 ready_stays_away e v (Val d t u) passes home = absurd (cc (passes))

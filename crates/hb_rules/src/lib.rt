@@ -4,6 +4,7 @@
 
 pub mod book;
 pub mod due;
+pub mod laws;
 pub mod plain_book;
 pub mod plain_seat;
 pub mod post;
@@ -14,6 +15,7 @@ pub mod vote;
 
 pub use book::{Book, BookFault};
 pub use due::Due;
+pub use laws::broadcast_laws;
 pub use plain_book::PlainBook;
 pub use plain_seat::PlainSeat;
 pub use post::{Post, hears, reaches};
