@@ -252,10 +252,10 @@ fn a_recovery_that_is_stopped_is_taken_up_again(rt: HostRuntime) -> Result<(), F
 }
 
 // A journal of three entries whose fold is stopped where both halves have entries.
-fn folded_halfway(alloc: Global, stops: &[Stop]) -> Result<MemoryDisk, JournalFault>
+fn folded_halfway(alloc: Global, stops: &[Stop], faults: &[u32]) -> Result<MemoryDisk, JournalFault>
     requires { length stops.now < 5 }
 {
-    let mut journal = new_journal(alloc, stops, &[])?;
+    let mut journal = new_journal(alloc, stops, faults)?;
     append_all(&mut journal, 3, &PAYLOAD)?;
     let _ = fold(&mut journal);
     Ok(journal.into_disk())
@@ -289,7 +289,8 @@ fn a_recovery_of_two_halves_that_is_stopped_keeps_the_text(rt: HostRuntime) -> R
                     call: call + later,
                     leave,
                 };
-                let mut disk = folded_halfway(alloc, &[fold_stops, Stop { call, leave }, next])?;
+                let stops = [fold_stops, Stop { call, leave }, next];
+                let mut disk = folded_halfway(alloc, &stops, &[])?;
                 assert!(rt; disk.is_off());
                 disk.switch_on()?;
                 let Err((disk, JournalFault::Failed)) = Journal::recover(alloc, disk) else {
@@ -302,6 +303,27 @@ fn a_recovery_of_two_halves_that_is_stopped_keeps_the_text(rt: HostRuntime) -> R
                 );
             }
         }
+    }
+    Ok(())
+}
+
+// The same recovery, calls 25 to 31, where one of its calls fails and the disk stays on.
+#[test]
+fn a_recovery_of_two_halves_that_fails_keeps_the_text(rt: HostRuntime) -> Result<(), Fail> {
+    let alloc = rt.alloc();
+    let fold_stops = Stop {
+        call: 24,
+        leave: Leave::Old,
+    };
+    for call in 25..32 {
+        let mut disk = folded_halfway(alloc, &[fold_stops], &[call])?;
+        assert!(rt; disk.is_off());
+        disk.switch_on()?;
+        let Err((disk, JournalFault::Failed)) = Journal::recover(alloc, disk) else {
+            return Err("no fault")?;
+        };
+        assert!(rt; !disk.is_off(), "at {call}");
+        assert_eq!(rt; text_after(alloc, disk)?, repeated(alloc, 3)?, "at {call}");
     }
     Ok(())
 }
