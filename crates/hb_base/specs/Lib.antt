@@ -1,4 +1,6 @@
+pub mod ByteLists
 pub mod Counting
+pub mod Limits
 pub mod LiarName
 pub mod NodeSet
 pub mod Memory

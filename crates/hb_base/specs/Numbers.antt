@@ -1,6 +1,7 @@
 -- The numbers of a run.
 use Rattle.std.specs.Prelude.{◌≡◌, ℕ, ◌*◌, ◌<◌, ◌≤◌, Bool, true, List}
 use Rattle.hb_base.specs.Counting.{count_nodes}
+use Rattle.hb_base.specs.Limits.{most_nodes, most_faulty, most_epochs, most_rounds, most_batch, latest_version}
 use Rattle.hb_base.specs.NodeSet.{is_in}
 
 -- what a `Config` says
@@ -32,12 +33,12 @@ IsBetween low high number = (low ≤ number) × (number ≤ high)
 
 -- the numbers of a run that can be built: each within its limits, at most f liars among the n nodes, and n > 3f
 pub record AreSound (c : Numbers) : Type 0 where
-  pub nodes : IsBetween 1 16 c.n
-  pub faulty : IsBetween 0 5 c.f
+  pub nodes : IsBetween 1 most_nodes c.n
+  pub faulty : IsBetween 0 most_faulty c.f
   pub enough : 3 * c.f < c.n
-  pub epochs : IsBetween 1 32 c.epochs
-  pub rounds : IsBetween 1 32 c.rounds
-  pub batch : IsBetween 1 64 c.batch
-  pub version : c.version ≡ 1
-  pub known : (node : ℕ) → node < 16 → is_in c.liars node ≡ true → node < c.n
-  pub few : count_nodes 16 (is_in c.liars) ≤ c.f
+  pub epochs : IsBetween 1 most_epochs c.epochs
+  pub rounds : IsBetween 1 most_rounds c.rounds
+  pub batch : IsBetween 1 most_batch c.batch
+  pub version : IsBetween 1 latest_version c.version
+  pub known : (node : ℕ) → node < most_nodes → is_in c.liars node ≡ true → node < c.n
+  pub few : count_nodes most_nodes (is_in c.liars) ≤ c.f

@@ -6,27 +6,39 @@ ghost use Rattle.std.specs.Cmp.{partial_equiv_from_equiv};
 use std::alloc::{AllocError, Global};
 use std::cmp::Ordering;
 use std::marker::Model;
+use std::sync::ArcSlice;
 
-/// A byte string that is owned and never changes. Clauses see it as the list of its bytes.
+/// A byte string that never changes. Its owners, which may be in several threads, share one copy of the bytes, which
+/// goes with the last of them. Clauses see it as the list of its bytes.
 #[derive(Debug, Drop)]
 pub struct Bytes {
-    bytes: Vec<u8>,
+    bytes: ArcSlice<u8>,
 }
 
 impl Model for Bytes {
     ghost use Rattle.std.specs.Prelude.{ℕ, List};
+    ghost use Rattle.std.specs.Arc.{arc_slice_items};
 
     ghost Value = { List ℕ };
 
-    ghost view = { λ b. b.bytes.items };
+    ghost view = { λ b. arc_slice_items b.bytes };
 }
 
 impl Bytes {
-    /// A copy of these bytes.
+    /// A copy of these bytes. Err where there is no memory for it.
     pub fn copy(alloc: Global, from: &[u8]) -> Result<Bytes, AllocError>
         ensures { IfOk result (λ b. b ≡ from.now) }
     {
-        let bytes = Vec::from_slice(alloc, from)?;
+        let bytes = ArcSlice::from_slice(alloc, from)?;
+        Ok(Bytes { bytes })
+    }
+
+    /// The same bytes, without a copy of them. Err where there is no memory for the count of owners: the bytes are
+    /// then gone.
+    pub fn from_vec(bytes: Vec<u8>) -> Result<Bytes, AllocError>
+        ensures { IfOk result (λ b. b ≡ bytes.items) }
+    {
+        let bytes = ArcSlice::from_vec(bytes)?;
         Ok(Bytes { bytes })
     }
 
@@ -38,11 +50,13 @@ impl Bytes {
     }
 }
 
+/// One more owner of the same bytes: nothing is copied and no memory is taken. Err only where 2 ^ 63 - 1 owners are
+/// counted already.
 impl Clone for Bytes {
     ghost is_clone = { λ b copy. copy ≡ b };
 
     fn clone(&self) -> Result<Bytes, AllocError> {
-        let bytes = Vec::from_slice(*self.bytes.allocator(), self.as_slice())?;
+        let bytes = self.bytes.clone()?;
         Ok(Bytes { bytes })
     }
 }
@@ -83,14 +97,5 @@ impl Ord for Bytes {
 
     fn cmp(&self, other: &Bytes) -> Ordering {
         self.as_slice().cmp(other.as_slice())
-    }
-}
-
-/// The same bytes, without a copy.
-impl From<Vec<u8>> for Bytes {
-    ghost from_gives = { λ v b. b ≡ v.items };
-
-    fn from(bytes: Vec<u8>) -> Bytes {
-        Bytes { bytes }
     }
 }

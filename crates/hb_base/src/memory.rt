@@ -1,7 +1,7 @@
-ghost use Rattle.std.specs.Prelude.{◌≡◌, ℕ, ◌+◌, ◌-◌, ◌^◌, ◌<◌, ◌≤◌, ◌↔◌, min, [], ◌++◌, List, length, Some, IsErr, IsTrue, IfOk, OnOk, OnErr, Contains};
+ghost use Rattle.std.specs.Prelude.{◌≡◌, ℕ, ◌+◌, ◌-◌, ◌^◌, ◌<◌, ◌≤◌, ◌↔◌, min, [], ◌++◌, List, length, drop, Some, IsErr, IsTrue, IfOk, OnOk, OnErr, MatchResult, Contains};
 ghost use Rattle.std.specs.Io.{ReadsAtMost};
 ghost use Rattle.std.specs.Io.KnownBytes.{ReadConsumes};
-ghost use Rattle.hb_base.specs.Outside.{HasCause, Puts};
+ghost use Rattle.hb_base.specs.Outside.{HasCause, CountsOne, Puts};
 
 use crate::bytes::Bytes;
 use crate::outside::{Failed, Sink, Source};
@@ -65,7 +65,9 @@ impl Source for MemorySource {
         ensures bytes { ReadConsumes (Some self.old.left) (Some self.new.left) result buf.new }
         ensures cause { HasCause self.old.faults self.new.faults result }
         ensures count { IfOk result (λ n. n ≡ min (min self.old.step (length buf.old)) (length self.old.left)) }
+        ensures rest { MatchResult result (λ n. drop n buf.new ≡ drop n buf.old) (λ _. buf.new ≡ buf.old) }
         ensures fails { IsErr result ↔ Contains self.old.failing self.new.calls }
+        ensures faults { CountsOne self.old.faults self.new.faults result }
         ensures calls { self.new.calls ≡ min (self.old.calls + 1) (2 ^ 64 - 1) }
         ensures plan { (self.new.step ≡ self.old.step) × (self.new.failing ≡ self.old.failing) }
     {
@@ -136,6 +138,7 @@ impl Sink for MemorySink {
         ensures cause { HasCause self.old.faults self.new.faults result }
         ensures nothing { OnErr result (self.new.held ≡ self.old.held) }
         ensures fails { Contains self.old.failing self.new.calls → IsErr result }
+        ensures faults { CountsOne self.old.faults self.new.faults result }
         ensures calls { self.new.calls ≡ min (self.old.calls + 1) (2 ^ 64 - 1) }
         ensures plan { self.new.failing ≡ self.old.failing }
     {

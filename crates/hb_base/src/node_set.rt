@@ -1,13 +1,17 @@
 ghost use Rattle.std.specs.Prelude.{◌≡◌, ℕ, ◌<◌, ◌==◌, ◌||◌, List, Bool, true, false, slice_set, replicate};
 ghost use Rattle.hb_base.specs.NodeSet.{is_in};
 ghost use Rattle.hb_base.specs.Counting.{count_nodes};
+ghost use Rattle.hb_base.specs.Limits.{most_nodes};
 
+use crate::limits::MOST_NODES;
 use std::marker::Model;
+
+const MARKS: usize = MOST_NODES as usize;
 
 /// A set of nodes, each below 16. Clauses see it as a list of 16 marks, one for each node.
 #[derive(Clone, Copy, Debug, PartialEq, Eq)]
 pub struct NodeSet {
-    marks: [bool; 16],
+    marks: [bool; MARKS],
 }
 
 impl Model for NodeSet {
@@ -23,15 +27,17 @@ impl Model for NodeSet {
 impl NodeSet {
     /// The set with no node.
     pub fn new() -> NodeSet
-        ensures exact { result ≡ replicate 16 false }
+        ensures exact { result ≡ replicate most_nodes false }
         ensures members { (node : ℕ) → is_in result node ≡ false }
     {
-        NodeSet { marks: [false; 16] }
+        NodeSet {
+            marks: [false; MARKS],
+        }
     }
 
     /// Adds a node, which may be in the set already.
     pub fn add(&mut self, node: u8)
-        requires { node < 16 }
+        requires { node < most_nodes }
         ensures exact { self.new ≡ slice_set self.old node true }
         ensures members { (other : ℕ) → is_in self.new other ≡ ((other == node) || is_in self.old other) }
     {
@@ -42,15 +48,15 @@ impl NodeSet {
     pub fn has(&self, node: u8) -> bool
         ensures { result ≡ is_in self.now node }
     {
-        node < 16 && self.marks[node as usize]
+        node < MOST_NODES && self.marks[node as usize]
     }
 
     /// How many nodes are in the set.
     pub fn count(&self) -> u8
-        ensures exact { result ≡ count_nodes 16 (is_in self.now) }
+        ensures exact { result ≡ count_nodes most_nodes (is_in self.now) }
     {
         let mut count = 0u8;
-        for node in 0..16u8 {
+        for node in 0..MOST_NODES {
             if self.has(node) {
                 count += 1;
             }

@@ -1,5 +1,5 @@
 //! What no clause says: that calls find memory and succeed, and that the limits are those that were meant.
-use crate::{Bytes, Config, LiarName, MemorySink, MemorySource, NodeSet, Sink, Source};
+use crate::{Bytes, Config, LiarName, MemorySink, MemorySource, NodeSet, OpenGate, Sink, Source};
 use std::test::Fail;
 
 #[test]
@@ -20,7 +20,8 @@ fn configs_at_their_limits(rt: HostRuntime) {
         (4, 1, 1, 32, 0, 1, false),
         (4, 1, 1, 32, 65, 1, false),
         (4, 1, 1, 32, 64, 0, false),
-        (4, 1, 1, 32, 64, 2, false),
+        (4, 1, 1, 32, 64, 2, true),
+        (4, 1, 1, 32, 64, 3, false),
     ] {
         let config = Config::new(n, f, epochs, rounds, batch, 7, version, NodeSet::new());
         assert_eq!(rt; config.is_some(), wanted, "n {n}, f {f}, epochs {epochs}");
@@ -63,7 +64,7 @@ fn names_of_liars(rt: HostRuntime) {
 #[test]
 fn byte_strings(rt: HostRuntime) -> Result<(), Fail> {
     let honey = Bytes::copy(rt.alloc(), b"honey")?;
-    let badger = Bytes::from(vec![in rt.alloc(); 98, 97, 100]?);
+    let badger = Bytes::from_vec(vec![in rt.alloc(); 98, 97, 100]?)?;
     assert_eq!(rt; badger.as_slice(), b"bad".as_slice());
     let again = honey.clone()?;
     assert_eq!(rt; again.as_slice(), b"honey".as_slice());
@@ -75,17 +76,17 @@ fn byte_strings(rt: HostRuntime) -> Result<(), Fail> {
 fn a_source_in_pieces(rt: HostRuntime) -> Result<(), Fail> {
     let alloc = rt.alloc();
     let mut source = MemorySource::new(Bytes::copy(alloc, b"honey")?, 2, vec![in alloc; 2]?);
-    let mut buf = [0u8; 4];
-    for (wanted, front) in [
-        (Some(2), b"ho"),
-        (None, b"ho"),
-        (Some(2), b"ne"),
-        (Some(1), b"ye"),
-        (Some(0), b"ye"),
+    let mut buf = *b"____";
+    for (wanted, whole) in [
+        (Some(2), b"ho__"),
+        (None, b"ho__"),
+        (Some(2), b"ne__"),
+        (Some(1), b"ye__"),
+        (Some(0), b"ye__"),
     ] {
         let count = source.take(&mut buf).ok();
         assert_eq!(rt; count, wanted);
-        assert_eq!(rt; buf[..2], front[..]);
+        assert_eq!(rt; buf, *whole);
     }
     Ok(())
 }
@@ -98,5 +99,20 @@ fn a_sink_that_fails_once(rt: HostRuntime) -> Result<(), Fail> {
         assert_eq!(rt; sink.put(piece).is_ok(), wanted);
     }
     assert_eq!(rt; sink.held(), b"hony".as_slice());
+    Ok(())
+}
+
+fn crosses_threads<T: Send + Sync>(_value: &T) {}
+
+#[test]
+fn all_may_go_to_another_thread(rt: HostRuntime) -> Result<(), Fail> {
+    let alloc = rt.alloc();
+    let bytes = Bytes::copy(alloc, b"honey")?;
+    crosses_threads(&bytes);
+    crosses_threads(&Config::default());
+    crosses_threads(&LiarName::of("silent"));
+    crosses_threads(&OpenGate);
+    crosses_threads(&MemorySource::new(bytes, 1, Vec::new(alloc)));
+    crosses_threads(&MemorySink::new(alloc, Vec::new(alloc)));
     Ok(())
 }

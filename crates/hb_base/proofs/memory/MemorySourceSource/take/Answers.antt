@@ -13,6 +13,6 @@ returns-clause-bytes c =
     c.copy_from_slice.ensures.after ∙ ap (λ (bs : List ℕ). take count bs) given in
     let size : length c.split_at.result.1.now ≡ length (drop at bytes) = ap (λ (bs : List ℕ). length bs) given in (
       sym (ap (λ (t : Tape). t.left) c.self.view_is)
-          ∙ left-taken bytes c.copy_from_slice.new.self (drop count c.args.buf.now) at count copied (omega (arith, size)),
+          ∙ left-taken bytes c.copy_from_slice.new.self _ at count copied (omega (arith, size)),
       λ none some. nothing-left bytes at count (omega (arith, size, none, c.self.invariant.1, c.requires)) none,
     )
