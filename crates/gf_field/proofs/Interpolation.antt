@@ -6,11 +6,12 @@ use Rattle.std.proofs.lemmas.List.{get_or-replicate, length-replicate, take_all,
 use Rattle.std.proofs.lemmas.List.Elements.{All-from_recursion, recursion_from_All}
 use Rattle.std.proofs.lemmas.List.Edits.{get_or-remove_below, get_or-remove_above, length-remove}
 use lib.Bits.{xor_zero_r, xor_assoc}
-use Rattle.gf_field.specs.Field.{field_product}
+use Rattle.gf_field.specs.Field.{field_product, field_inverse}
 use Rattle.gf_field.specs.Polynomial.{polynomial_at, AreBytes, AreDistinct, Interpolates, unit_values, AreWeightsAt, sum_of_products, product_of_differences}
+use Rattle.gf_field.specs.Interpolation.{polynomial_multiple, with_roots, basis_polynomial, interpolation_to, interpolation}
 use Rattle.gf_field.proofs.Products.{product_zero, product_one, product_comm}
-use Rattle.gf_field.proofs.Inverses.{inverse, inverse-bound, product-inverse, product_cancel}
-use Rattle.gf_field.proofs.Polynomials.{Bytes, polynomial_at-bound, sum_of, polynomial_at-sum, sum_of-bytes, length-sum_of, multiple_of, polynomial_at-multiple, multiple_of-bytes, length-multiple_of, with_roots, with_roots-bytes, length-with_roots, polynomial_at-with_roots, product_of_differences-bound, product_of_differences-append, product_of_differences-root, product_of_differences-some, Bytes-take, Bytes-drop}
+use Rattle.gf_field.proofs.Inverses.{inverse-bound, product-inverse, product_cancel}
+use Rattle.gf_field.proofs.Polynomials.{Bytes, polynomial_at-bound, polynomial_at-sum, polynomial_sum-bytes, length-polynomial_sum, polynomial_at-multiple, polynomial_multiple-bytes, length-polynomial_multiple, with_roots-bytes, length-with_roots, polynomial_at-with_roots, product_of_differences-bound, product_of_differences-append, product_of_differences-root, product_of_differences-some, Bytes-take, Bytes-drop}
 use Rattle.gf_field.proofs.Roots.{values_agree}
 
 -- elements that fit a byte are bytes
@@ -20,15 +21,6 @@ AreBytes-from_fits xs h k d l = subst (λ x. x < 256) (get_or_default xs k 0 d l
 -- the product of the differences between the point at i and the others
 abbrev pub others_at : List ℕ → ℕ → ℕ
 others_at ps i = product_of_differences (remove ps i) (get_or ps i 0)
-
--- the polynomial that is 1 at the point at i and 0 at the others
-pub basis : List ℕ → ℕ → List ℕ
-basis ps i = multiple_of (inverse (others_at ps i)) (with_roots (remove ps i))
-
--- the sum of the first t of these, each times its value
-pub interpolation_to : List ℕ → List ℕ → ℕ → List ℕ
-interpolation_to ps vs zero = []
-interpolation_to ps vs (suc t) = sum_of (interpolation_to ps vs t) (multiple_of (get_or vs t 0) (basis ps t))
 
 pub interpolation_to-none : (ps vs : List ℕ) (x : ℕ) → polynomial_at (interpolation_to ps vs 0) x ≡ 0
 unfolding interpolation_to polynomial_at
@@ -73,28 +65,28 @@ module _ (ps : List ℕ) (hp : AreBytes ps) (apart : AreDistinct ps) where
     pub others_at-bound : others_at ps i < 256
     others_at-bound = product_of_differences-bound (remove ps i) (get_or ps i 0) removed-bytes (hp i 0 hi)
 
-    pub basis-bytes : Bytes (basis ps i)
-    unfolding basis
-    basis-bytes = multiple_of-bytes _ _ (inverse-bound (others_at ps i)) (with_roots-bytes (remove ps i) removed-bytes)
+    pub basis-bytes : Bytes (basis_polynomial ps i)
+    unfolding basis_polynomial
+    basis-bytes = polynomial_multiple-bytes _ _ (inverse-bound (others_at ps i) others_at-bound) (with_roots-bytes (remove ps i) removed-bytes)
 
-    pub length-basis : length (basis ps i) ≤ length ps
-    unfolding basis
-    length-basis = omega (arith, length-multiple_of (inverse (others_at ps i)) (with_roots (remove ps i)), length-with_roots (remove ps i), length-remove ps i hi)
+    pub length-basis : length (basis_polynomial ps i) ≤ length ps
+    unfolding basis_polynomial
+    length-basis = omega (arith, length-polynomial_multiple (field_inverse (others_at ps i)) (with_roots (remove ps i)), length-with_roots (remove ps i), length-remove ps i hi)
 
-    pub polynomial_at-basis : (x : ℕ) → x < 256 → polynomial_at (basis ps i) x ≡ field_product (inverse (others_at ps i)) (product_of_differences (remove ps i) x)
-    unfolding basis
+    pub polynomial_at-basis : (x : ℕ) → x < 256 → polynomial_at (basis_polynomial ps i) x ≡ field_product (field_inverse (others_at ps i)) (product_of_differences (remove ps i) x)
+    unfolding basis_polynomial
     polynomial_at-basis x hx =
-        polynomial_at-multiple (inverse (others_at ps i)) (with_roots (remove ps i)) x (inverse-bound (others_at ps i)) (with_roots-bytes (remove ps i) removed-bytes) hx
-        ∙ ap (field_product (inverse (others_at ps i))) (polynomial_at-with_roots (remove ps i) x removed-bytes hx)
+        polynomial_at-multiple (field_inverse (others_at ps i)) (with_roots (remove ps i)) x (inverse-bound (others_at ps i) others_at-bound) (with_roots-bytes (remove ps i) removed-bytes) hx
+        ∙ ap (field_product (field_inverse (others_at ps i))) (polynomial_at-with_roots (remove ps i) x removed-bytes hx)
 
-    pub basis_same : polynomial_at (basis ps i) (get_or ps i 0) ≡ 1
+    pub basis_same : polynomial_at (basis_polynomial ps i) (get_or ps i 0) ≡ 1
     basis_same = polynomial_at-basis (get_or ps i 0) (hp i 0 hi)
-        ∙ product_comm (inverse (others_at ps i)) (others_at ps i) (inverse-bound (others_at ps i)) others_at-bound
+        ∙ product_comm (field_inverse (others_at ps i)) (others_at ps i) (inverse-bound (others_at ps i) others_at-bound) others_at-bound
         ∙ product-inverse (others_at ps i) others_at-some others_at-bound
 
-    pub basis_other : (j : ℕ) → j < length ps → j ≢ i → polynomial_at (basis ps i) (get_or ps j 0) ≡ 0
+    pub basis_other : (j : ℕ) → j < length ps → j ≢ i → polynomial_at (basis_polynomial ps i) (get_or ps j 0) ≡ 0
     basis_other j hj ne = polynomial_at-basis (get_or ps j 0) (hp j 0 hj)
-        ∙ ap (field_product (inverse (others_at ps i))) (root (cases_lt j i)) ∙ product_zero _
+        ∙ ap (field_product (field_inverse (others_at ps i))) (root (cases_lt j i)) ∙ product_zero _
       where
         root : (j < i) ⊎ (i ≤ j) → product_of_differences (remove ps i) (get_or ps j 0) ≡ 0
         root (inl lt) = product_of_differences-root (remove ps i) (get_or ps j 0) j (omega (arith, length-remove ps i hi)) (get_or-remove_below ps i 0 j lt hi)
@@ -111,18 +103,18 @@ module _ (ps : List ℕ) (hp : AreBytes ps) (apart : AreDistinct ps) where
         points_bytes = recursion_from_All (λ x. x < 256) ps hp
 
     -- the inverse of the product at the point i, times that at x
-    pub scaled-is : (x r : ℕ) → x < 256 → r < 256 → field_product (others_at ps i) r ≡ 1 → field_product r (product_of_differences (remove ps i) x) ≡ polynomial_at (basis ps i) x
+    pub scaled-is : (x r : ℕ) → x < 256 → r < 256 → field_product (others_at ps i) r ≡ 1 → field_product r (product_of_differences (remove ps i) x) ≡ polynomial_at (basis_polynomial ps i) x
     scaled-is x r hx hr e =
-        let same : r ≡ inverse (others_at ps i) =
-        product_cancel (others_at ps i) r (inverse (others_at ps i)) others_at-some others_at-bound hr (inverse-bound (others_at ps i))
+        let same : r ≡ field_inverse (others_at ps i) =
+        product_cancel (others_at ps i) r (field_inverse (others_at ps i)) others_at-some others_at-bound hr (inverse-bound (others_at ps i) others_at-bound)
         (e ∙ sym (product-inverse (others_at ps i) others_at-some others_at-bound)) in
         ap (λ z. field_product z (product_of_differences (remove ps i) x)) same ∙ sym (polynomial_at-basis x hx)
 
-    pub basis-interpolates : Interpolates ps (unit_values (length ps) i) (basis ps i)
+    pub basis-interpolates : Interpolates ps (unit_values (length ps) i) (basis_polynomial ps i)
     basis-interpolates = record {
-      degree = record { short = length-basis; bytes = All-from_recursion (λ x. x < 256) (basis ps i) basis-bytes };
+      degree = record { short = length-basis; bytes = All-from_recursion (λ x. x < 256) (basis_polynomial ps i) basis-bytes };
       passes = λ j hj. ⊎_elim
-          (λ same. subst (λ k. polynomial_at (basis ps i) (get_or ps k 0) ≡ get_or (unit_values (length ps) i) k 0) (sym same)
+          (λ same. subst (λ k. polynomial_at (basis_polynomial ps i) (get_or ps k 0) ≡ get_or (unit_values (length ps) i) k 0) (sym same)
           (basis_same ∙ sym (get_or-set_same (replicate (length ps) 0) i 1 0 (omega (arith, length-replicate {A = ℕ} (length ps) 0)))))
           (λ ne. basis_other j hj ne ∙ sym (get_or-set_other (replicate (length ps) 0) i j 1 0 ne ∙ get_or-replicate (length ps) j 0 0 hj))
           (cases_eq j i);
@@ -133,21 +125,21 @@ module _ (ps : List ℕ) (hp : AreBytes ps) (apart : AreDistinct ps) where
     unfolding interpolation_to
     interpolation_to-bytes zero h = tt
     interpolation_to-bytes (suc t) h =
-        sum_of-bytes _ _ (interpolation_to-bytes t (omega arith)) (multiple_of-bytes _ _ (hv t 0 (omega arith)) (basis-bytes t (omega arith)))
+        polynomial_sum-bytes _ _ (interpolation_to-bytes t (omega arith)) (polynomial_multiple-bytes _ _ (hv t 0 (omega arith)) (basis-bytes t (omega arith)))
 
     pub length-interpolation_to : (t : ℕ) → t ≤ length ps → length (interpolation_to ps vs t) ≤ length ps
     unfolding interpolation_to
     length-interpolation_to zero h = omega arith
     length-interpolation_to (suc t) h =
-        length-sum_of _ _ (length ps) (length-interpolation_to t (omega arith))
-        (omega (arith, length-multiple_of (get_or vs t 0) (basis ps t), length-basis t (omega arith)))
+        length-polynomial_sum _ _ (length ps) (length-interpolation_to t (omega arith))
+        (omega (arith, length-polynomial_multiple (get_or vs t 0) (basis_polynomial ps t), length-basis t (omega arith)))
 
     pub interpolation_to-suc : (t x : ℕ) → t < length ps → x < 256
-        → polynomial_at (interpolation_to ps vs (suc t)) x ≡ bit_xor (polynomial_at (interpolation_to ps vs t) x) (field_product (get_or vs t 0) (polynomial_at (basis ps t) x))
+        → polynomial_at (interpolation_to ps vs (suc t)) x ≡ bit_xor (polynomial_at (interpolation_to ps vs t) x) (field_product (get_or vs t 0) (polynomial_at (basis_polynomial ps t) x))
     unfolding interpolation_to
     interpolation_to-suc t x h hx =
-        polynomial_at-sum (interpolation_to ps vs t) (multiple_of (get_or vs t 0) (basis ps t)) x
-        ∙ ap (bit_xor (polynomial_at (interpolation_to ps vs t) x)) (polynomial_at-multiple (get_or vs t 0) (basis ps t) x (hv t 0 (omega arith)) (basis-bytes t h) hx)
+        polynomial_at-sum (interpolation_to ps vs t) (polynomial_multiple (get_or vs t 0) (basis_polynomial ps t)) x
+        ∙ ap (bit_xor (polynomial_at (interpolation_to ps vs t) x)) (polynomial_at-multiple (get_or vs t 0) (basis_polynomial ps t) x (hv t 0 (omega arith)) (basis-bytes t h) hx)
 
     at_later : (t k : ℕ) → t ≤ k → k < length ps → polynomial_at (interpolation_to ps vs t) (get_or ps k 0) ≡ 0
     unfolding interpolation_to polynomial_at
@@ -165,39 +157,39 @@ module _ (ps : List ℕ) (hp : AreBytes ps) (apart : AreDistinct ps) where
         ap₂ bit_xor (at_earlier t k lt (omega arith)) (ap (field_product (get_or vs t 0)) (basis_other t (omega arith) k (omega arith) ne) ∙ product_zero (get_or vs t 0))
         ∙ xor_zero_r (get_or vs k 0))
         (λ le. let same : t ≡ k = omega arith in
-        subst (λ j. bit_xor (polynomial_at (interpolation_to ps vs t) (get_or ps j 0)) (field_product (get_or vs t 0) (polynomial_at (basis ps t) (get_or ps j 0))) ≡ get_or vs j 0) same
+        subst (λ j. bit_xor (polynomial_at (interpolation_to ps vs t) (get_or ps j 0)) (field_product (get_or vs t 0) (polynomial_at (basis_polynomial ps t) (get_or ps j 0))) ≡ get_or vs j 0) same
         (ap₂ bit_xor (at_later t t (omega arith) (omega arith)) (ap (field_product (get_or vs t 0)) (basis_same t (omega arith)) ∙ product_one (get_or vs t 0) (hv t 0 (omega arith)))))
         (cases_lt k t)
 
     -- there is a polynomial through the points
-    pub interpolation-interpolates : Interpolates ps vs (interpolation_to ps vs (length ps))
+    pub interpolation-interpolates : Interpolates ps vs (interpolation ps vs)
     interpolation-interpolates = record {
       degree = record {
         short = length-interpolation_to (length ps) (omega arith);
-        bytes = All-from_recursion (λ x. x < 256) (interpolation_to ps vs (length ps)) (interpolation_to-bytes (length ps) (omega arith));
+        bytes = All-from_recursion (λ x. x < 256) (interpolation ps vs) (interpolation_to-bytes (length ps) (omega arith));
       };
       passes = λ k hk. at_earlier (length ps) k hk (omega arith);
     }
 
     -- and its value is that of any other such polynomial
-    pub interpolation-only : (cs : List ℕ) → Interpolates ps vs cs → (x : ℕ) → polynomial_at (interpolation_to ps vs (length ps)) x ≡ polynomial_at cs x
-    interpolation-only cs h x = interpolants_agree ps vs hp apart (interpolation_to ps vs (length ps)) cs interpolation-interpolates h x
+    pub interpolation-only : (cs : List ℕ) → Interpolates ps vs cs → (x : ℕ) → polynomial_at (interpolation ps vs) x ≡ polynomial_at cs x
+    interpolation-only cs h x = interpolants_agree ps vs hp apart (interpolation ps vs) cs interpolation-interpolates h x
 
     -- the value at x as a sum of the values given, each times its weight
     module _ (ws : List ℕ) (x : ℕ) (hx : x < 256) (weights : AreWeightsAt x ps ws) (as_long : length ws ≡ length ps) where
-      weight-is : (t : ℕ) → t < length ps → polynomial_at (basis ps t) x ≡ get_or ws t 0
+      weight-is : (t : ℕ) → t < length ps → polynomial_at (basis_polynomial ps t) x ≡ get_or ws t 0
       weight-is t h =
           let w = weights t h in
-          interpolants_agree ps (unit_values (length ps) t) hp apart (basis ps t) w.0 (basis-interpolates t h) w.1 x ∙ w.2
+          interpolants_agree ps (unit_values (length ps) t) hp apart (basis_polynomial ps t) w.0 (basis-interpolates t h) w.1 x ∙ w.2
 
       weighted_to : (t : ℕ) → t ≤ length ps → polynomial_at (interpolation_to ps vs t) x ≡ sum_of_products (take t ws) (take t vs)
       unfolding interpolation_to polynomial_at sum_of_products
       weighted_to zero h = refl
       weighted_to (suc t) h =
-          let bound : polynomial_at (basis ps t) x < 256 = polynomial_at-bound (basis ps t) x (basis-bytes t (omega arith)) hx in
+          let bound : polynomial_at (basis_polynomial ps t) x < 256 = polynomial_at-bound (basis_polynomial ps t) x (basis-bytes t (omega arith)) hx in
           interpolation_to-suc t x (omega arith) hx
           ∙ ap₂ bit_xor (weighted_to t (omega arith))
-          (product_comm (get_or vs t 0) (polynomial_at (basis ps t) x) (hv t 0 (omega arith)) bound
+          (product_comm (get_or vs t 0) (polynomial_at (basis_polynomial ps t) x) (hv t 0 (omega arith)) bound
           ∙ ap (λ w. field_product w (get_or vs t 0)) (weight-is t (omega arith)))
           ∙ sym (sum_of_products-more ws vs t (omega arith) (omega arith))
 

@@ -4,6 +4,7 @@ use Rattle.std.specs.List.{AllByRecursion}
 use lib.Bits.{xor_comm, xor_assoc, xor_zero_r, xor_self, xor_lt}
 use Rattle.gf_field.specs.Field.{field_product}
 use Rattle.gf_field.specs.Polynomial.{polynomial_at, product_of_differences}
+use Rattle.gf_field.specs.Interpolation.{polynomial_sum, polynomial_multiple, with_roots}
 use Rattle.gf_field.proofs.Sums.{xor_swap}
 use Rattle.gf_field.proofs.Products.{product-sum_left, product-sum_right, product_zero, zero_product, product-bound, product_comm, product_assoc, one_product}
 use Rattle.gf_field.proofs.Inverses.{no_zero_divisor}
@@ -27,91 +28,75 @@ unfolding polynomial_at
 polynomial_at-bound [] x h hx = omega arith
 polynomial_at-bound (c ∷ cs) x h hx = xor_lt 8 _ _ h.0 (product-bound x _ hx (polynomial_at-bound cs x h.1 hx))
 
--- the sum of two polynomials
-unfoldable pub sum_of : List ℕ → List ℕ → List ℕ
-sum_of [] gs = gs
-sum_of (f ∷ fs) [] = f ∷ fs
-sum_of (f ∷ fs) (g ∷ gs) = bit_xor f g ∷ sum_of fs gs
-
-pub polynomial_at-sum : (fs gs : List ℕ) (x : ℕ) → polynomial_at (sum_of fs gs) x ≡ bit_xor (polynomial_at fs x) (polynomial_at gs x)
-unfolding polynomial_at sum_of
+pub polynomial_at-sum : (fs gs : List ℕ) (x : ℕ) → polynomial_at (polynomial_sum fs gs) x ≡ bit_xor (polynomial_at fs x) (polynomial_at gs x)
+unfolding polynomial_at polynomial_sum
 polynomial_at-sum [] gs x = refl
 polynomial_at-sum (f ∷ fs) [] x = sym (xor_zero_r (polynomial_at (f ∷ fs) x))
 polynomial_at-sum (f ∷ fs) (g ∷ gs) x =
     ap (λ z. bit_xor (bit_xor f g) z) (ap (field_product x) (polynomial_at-sum fs gs x) ∙ product-sum_right x (polynomial_at fs x) (polynomial_at gs x))
     ∙ xor_swap f g (field_product x (polynomial_at fs x)) (field_product x (polynomial_at gs x))
 
-pub sum_of-bytes : (fs gs : List ℕ) → Bytes fs → Bytes gs → Bytes (sum_of fs gs)
-unfolding sum_of
-sum_of-bytes [] gs hf hg = hg
-sum_of-bytes (f ∷ fs) [] hf hg = hf
-sum_of-bytes (f ∷ fs) (g ∷ gs) hf hg = (xor_lt 8 f g hf.0 hg.0, sum_of-bytes fs gs hf.1 hg.1)
+pub polynomial_sum-bytes : (fs gs : List ℕ) → Bytes fs → Bytes gs → Bytes (polynomial_sum fs gs)
+unfolding polynomial_sum
+polynomial_sum-bytes [] gs hf hg = hg
+polynomial_sum-bytes (f ∷ fs) [] hf hg = hf
+polynomial_sum-bytes (f ∷ fs) (g ∷ gs) hf hg = (xor_lt 8 f g hf.0 hg.0, polynomial_sum-bytes fs gs hf.1 hg.1)
 
-pub length-sum_of : (fs gs : List ℕ) (n : ℕ) → length fs ≤ n → length gs ≤ n → length (sum_of fs gs) ≤ n
-unfolding sum_of
-length-sum_of [] gs n hf hg = hg
-length-sum_of (f ∷ fs) [] n hf hg = hf
-length-sum_of (f ∷ fs) (g ∷ gs) zero hf hg = absurd (omega arith)
-length-sum_of (f ∷ fs) (g ∷ gs) (suc n) hf hg = let h : length (sum_of fs gs) ≤ n = length-sum_of fs gs n (omega arith) (omega arith) in omega arith
-
--- the multiple of a polynomial by w
-pub multiple_of : ℕ → List ℕ → List ℕ
-multiple_of w [] = []
-multiple_of w (c ∷ cs) = field_product w c ∷ multiple_of w cs
+pub length-polynomial_sum : (fs gs : List ℕ) (n : ℕ) → length fs ≤ n → length gs ≤ n → length (polynomial_sum fs gs) ≤ n
+unfolding polynomial_sum
+length-polynomial_sum [] gs n hf hg = hg
+length-polynomial_sum (f ∷ fs) [] n hf hg = hf
+length-polynomial_sum (f ∷ fs) (g ∷ gs) zero hf hg = absurd (omega arith)
+length-polynomial_sum (f ∷ fs) (g ∷ gs) (suc n) hf hg = let h : length (polynomial_sum fs gs) ≤ n = length-polynomial_sum fs gs n (omega arith) (omega arith) in omega arith
 
 -- two factors change places round a third
 pub product_swap : (x w c : ℕ) → x < 256 → w < 256 → c < 256 → field_product x (field_product w c) ≡ field_product w (field_product x c)
 product_swap x w c hx hw hc =
     sym (product_assoc x w c hx hw hc) ∙ ap (λ z. field_product z c) (product_comm x w hx hw) ∙ product_assoc w x c hw hx hc
 
-pub polynomial_at-multiple : (w : ℕ) (cs : List ℕ) (x : ℕ) → w < 256 → Bytes cs → x < 256 → polynomial_at (multiple_of w cs) x ≡ field_product w (polynomial_at cs x)
-unfolding polynomial_at multiple_of
+pub polynomial_at-multiple : (w : ℕ) (cs : List ℕ) (x : ℕ) → w < 256 → Bytes cs → x < 256 → polynomial_at (polynomial_multiple w cs) x ≡ field_product w (polynomial_at cs x)
+unfolding polynomial_at polynomial_multiple
 polynomial_at-multiple w [] x hw h hx = sym (product_zero w)
 polynomial_at-multiple w (c ∷ cs) x hw h hx =
     let v = polynomial_at cs x in
     ap (bit_xor (field_product w c)) (ap (field_product x) (polynomial_at-multiple w cs x hw h.1 hx) ∙ product_swap x w v hx hw (polynomial_at-bound cs x h.1 hx))
     ∙ sym (product-sum_right w c (field_product x v))
 
-pub multiple_of-bytes : (w : ℕ) (cs : List ℕ) → w < 256 → Bytes cs → Bytes (multiple_of w cs)
-unfolding multiple_of
-multiple_of-bytes w [] hw h = h
-multiple_of-bytes w (c ∷ cs) hw h = (product-bound w c hw h.0, multiple_of-bytes w cs hw h.1)
+pub polynomial_multiple-bytes : (w : ℕ) (cs : List ℕ) → w < 256 → Bytes cs → Bytes (polynomial_multiple w cs)
+unfolding polynomial_multiple
+polynomial_multiple-bytes w [] hw h = h
+polynomial_multiple-bytes w (c ∷ cs) hw h = (product-bound w c hw h.0, polynomial_multiple-bytes w cs hw h.1)
 
-pub length-multiple_of : (w : ℕ) (cs : List ℕ) → length (multiple_of w cs) ≡ length cs
-unfolding multiple_of
-length-multiple_of w [] = refl
-length-multiple_of w (c ∷ cs) = ap suc (length-multiple_of w cs)
+pub length-polynomial_multiple : (w : ℕ) (cs : List ℕ) → length (polynomial_multiple w cs) ≡ length cs
+unfolding polynomial_multiple
+length-polynomial_multiple w [] = refl
+length-polynomial_multiple w (c ∷ cs) = ap suc (length-polynomial_multiple w cs)
 
 -- x + p times a polynomial
-pub factor_times : ℕ → List ℕ → List ℕ
-factor_times p cs = sum_of (multiple_of p cs) (0 ∷ cs)
+abbrev factor_times : ℕ → List ℕ → List ℕ
+factor_times p cs = polynomial_sum (polynomial_multiple p cs) (0 ∷ cs)
 
 pub polynomial_at-factor_times : (p : ℕ) (cs : List ℕ) (x : ℕ) → p < 256 → Bytes cs → x < 256 → polynomial_at (factor_times p cs) x ≡ field_product (bit_xor x p) (polynomial_at cs x)
-unfolding factor_times polynomial_at
+unfolding polynomial_at
 polynomial_at-factor_times p cs x hp h hx =
     let v = polynomial_at cs x in
-    polynomial_at-sum (multiple_of p cs) (0 ∷ cs) x
+    polynomial_at-sum (polynomial_multiple p cs) (0 ∷ cs) x
     ∙ ap (λ z. bit_xor z (field_product x v)) (polynomial_at-multiple p cs x hp h hx)
     ∙ sym (product-sum_left p x v) ∙ ap (λ z. field_product z v) (xor_comm p x)
 
--- the polynomial whose roots are these
-pub with_roots : List ℕ → List ℕ
-with_roots [] = 1 ∷ []
-with_roots (p ∷ ps) = factor_times p (with_roots ps)
-
 pub with_roots-bytes : (ps : List ℕ) → Bytes ps → Bytes (with_roots ps)
-unfolding with_roots factor_times
+unfolding with_roots
 with_roots-bytes [] h = (omega arith, tt)
 with_roots-bytes (p ∷ ps) h =
     let b : Bytes (with_roots ps) = with_roots-bytes ps h.1 in
-    sum_of-bytes (multiple_of p (with_roots ps)) (0 ∷ with_roots ps) (multiple_of-bytes p (with_roots ps) h.0 b) (omega arith, b)
+    polynomial_sum-bytes (polynomial_multiple p (with_roots ps)) (0 ∷ with_roots ps) (polynomial_multiple-bytes p (with_roots ps) h.0 b) (omega arith, b)
 
 pub length-with_roots : (ps : List ℕ) → length (with_roots ps) ≤ suc (length ps)
-unfolding with_roots factor_times
+unfolding with_roots
 length-with_roots [] = omega arith
 length-with_roots (p ∷ ps) =
     let h : length (with_roots ps) ≤ suc (length ps) = length-with_roots ps in
-    length-sum_of (multiple_of p (with_roots ps)) (0 ∷ with_roots ps) (suc (suc (length ps))) (omega (arith, length-multiple_of p (with_roots ps))) (omega arith)
+    length-polynomial_sum (polynomial_multiple p (with_roots ps)) (0 ∷ with_roots ps) (suc (suc (length ps))) (omega (arith, length-polynomial_multiple p (with_roots ps))) (omega arith)
 
 pub polynomial_at-with_roots : (ps : List ℕ) (x : ℕ) → Bytes ps → x < 256 → polynomial_at (with_roots ps) x ≡ product_of_differences ps x
 unfolding with_roots product_of_differences polynomial_at

@@ -5,10 +5,11 @@ use Rattle.std.proofs.lemmas.List.Elements.{All-from_recursion}
 use lib.Bits.{xor_comm, xor_assoc, xor_zero_r, xor_self, xor_lt}
 use Rattle.gf_field.specs.Field.{field_product}
 use Rattle.gf_field.specs.Polynomial.{polynomial_at, AreDistinct}
+use Rattle.gf_field.specs.Interpolation.{polynomial_sum}
 use Rattle.gf_field.proofs.Sums.{xor_swap}
 use Rattle.gf_field.proofs.Products.{product-sum_left, product-sum_right, product_zero}
 use Rattle.gf_field.proofs.Inverses.{no_zero_divisor}
-use Rattle.gf_field.proofs.Polynomials.{Bytes, polynomial_at-bound, product_swap, difference-some, sum_of, polynomial_at-sum, sum_of-bytes, length-sum_of}
+use Rattle.gf_field.proofs.Polynomials.{Bytes, polynomial_at-bound, product_swap, difference-some, polynomial_at-sum, polynomial_sum-bytes, length-polynomial_sum}
 
 pub xor_cancel : (a b : ℕ) → bit_xor (bit_xor a b) b ≡ a
 xor_cancel a b = xor_assoc a b b ∙ ap (bit_xor a) (xor_self b) ∙ xor_zero_r a
@@ -104,8 +105,8 @@ none_at [] k h = refl
 none_at (c ∷ cs) zero h = h.0
 none_at (c ∷ cs) (suc k) h = none_at cs k h.1
 
-same_coefficients : (fs gs : List ℕ) (k : ℕ) → IsZero (sum_of fs gs) → get_or fs k 0 ≡ get_or gs k 0
-unfolding sum_of
+same_coefficients : (fs gs : List ℕ) (k : ℕ) → IsZero (polynomial_sum fs gs) → get_or fs k 0 ≡ get_or gs k 0
+unfolding polynomial_sum
 same_coefficients [] gs k h = sym (none_at gs k h)
 same_coefficients (f ∷ fs) [] k h = none_at (f ∷ fs) k h
 same_coefficients (f ∷ fs) (g ∷ gs) zero h = same_from_xor f g h.0
@@ -115,8 +116,8 @@ same_coefficients (f ∷ fs) (g ∷ gs) (suc k) h = same_coefficients fs gs k h.
 module _ (points fs gs : List ℕ) (degree_f : length fs ≤ length points) (degree_g : length gs ≤ length points)
     (hp : Bytes points) (hf : Bytes fs) (hg : Bytes gs) (apart : AreDistinct points)
     (agree : (i : ℕ) → i < length points → polynomial_at fs (get_or points i 0) ≡ polynomial_at gs (get_or points i 0)) where
-  gap_zero : IsZero (sum_of fs gs)
-  gap_zero = roots-zero points (sum_of fs gs) (length-sum_of fs gs (length points) degree_f degree_g) hp (sum_of-bytes fs gs hf hg) apart
+  gap_zero : IsZero (polynomial_sum fs gs)
+  gap_zero = roots-zero points (polynomial_sum fs gs) (length-polynomial_sum fs gs (length points) degree_f degree_g) hp (polynomial_sum-bytes fs gs hf hg) apart
       (λ i l. polynomial_at-sum fs gs (get_or points i 0)
       ∙ ap (λ z. bit_xor z (polynomial_at gs (get_or points i 0))) (agree i l) ∙ xor_self (polynomial_at gs (get_or points i 0)))
 
@@ -124,4 +125,4 @@ module _ (points fs gs : List ℕ) (degree_f : length fs ≤ length points) (deg
   coefficients_agree k = same_coefficients fs gs k gap_zero
 
   pub values_agree : (x : ℕ) → polynomial_at fs x ≡ polynomial_at gs x
-  values_agree x = same_from_xor _ _ (sym (polynomial_at-sum fs gs x) ∙ polynomial_at-zero (sum_of fs gs) x gap_zero)
+  values_agree x = same_from_xor _ _ (sym (polynomial_at-sum fs gs x) ∙ polynomial_at-zero (polynomial_sum fs gs) x gap_zero)

@@ -22,7 +22,11 @@ remainder (suc i) p = remainder i (field_sum p (bit_at p (8 + i) * (0x11D * 2 ^ 
 unfoldable pub field_product : ℕ → ℕ → ℕ
 field_product a b = remainder 7 (unreduced_product 8 a b)
 
--- the power of the element x, which is the byte 2
-unfoldable pub power_of_x : ℕ → ℕ
-power_of_x zero = 1
-power_of_x (suc i) = field_product 2 (power_of_x i)
+-- the power of an element with this exponent
+unfoldable pub field_power : ℕ → ℕ → ℕ
+field_power a zero = 1
+field_power a (suc i) = field_product a (field_power a i)
+
+-- The inverse of an element but 0: each of these 255 has 1 as its power with the exponent 255.
+unfoldable pub field_inverse : ℕ → ℕ
+field_inverse a = field_power a 254

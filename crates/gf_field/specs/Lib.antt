@@ -1,2 +1,3 @@
 pub mod Field
 pub mod Polynomial
+pub mod Interpolation

@@ -2,6 +2,7 @@
 
 ghost use Rattle.std.specs.Prelude.{◌≡◌, ℕ, ◌<◌, List, length};
 ghost use Rattle.gf_field.specs.Polynomial.{polynomial_at, AreDistinct, Interpolates, unit_values, product_of_differences};
+ghost use Rattle.gf_field.specs.Interpolation.{interpolation};
 
 use crate::{add, inv, mul};
 
@@ -21,7 +22,7 @@ pub fn eval(coefficients: &[u8], x: u8) -> u8
 pub fn interpolate_at(points: &[u8], values: &[u8], x: u8) -> u8
     requires same_length { length points.now ≡ length values.now }
     requires distinct { AreDistinct points.now }
-    ensures exists { (cs : List ℕ) × Interpolates points.now values.now cs }
+    ensures exists { Interpolates points.now values.now (interpolation points.now values.now) }
     ensures value { (cs : List ℕ) → Interpolates points.now values.now cs → result ≡ polynomial_at cs x }
 {
     let mut sum = 0;

@@ -1,7 +1,7 @@
 //! Powers and logarithms to the base x, the byte 2, of which each element but 0 is a power.
 
 ghost use Rattle.std.specs.Prelude.{◌≡◌, ◌<◌};
-ghost use Rattle.gf_field.specs.Field.{power_of_x};
+ghost use Rattle.gf_field.specs.Field.{field_power};
 
 /// The powers of x, from the 0th on: twice the 255 elements that are not 0, so that two logarithms can be added.
 static POWERS: [u8; 510] = [
@@ -52,7 +52,7 @@ static LOGARITHMS: [u8; 256] = [
 /// The power of the element x with this exponent.
 pub fn power(exponent: usize) -> u8
     requires { exponent < 510 }
-    ensures { result ≡ power_of_x exponent }
+    ensures { result ≡ field_power 2 exponent }
 {
     POWERS[exponent]
 }
@@ -61,7 +61,7 @@ pub fn power(exponent: usize) -> u8
 pub fn logarithm(a: u8) -> usize
     requires { 0 < a }
     ensures below { result < 255 }
-    ensures power { power_of_x result ≡ a }
+    ensures power { field_power 2 result ≡ a }
 {
     LOGARITHMS[a as usize] as usize
 }

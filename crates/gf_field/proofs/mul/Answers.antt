@@ -1,7 +1,7 @@
-use Rattle.std.proofs.Common.{sym, ap, ap₂, ◌∙◌, ⊎_elim}
+use Rattle.std.proofs.Common.{arith, sym, ap, ap₂, ◌∙◌, ⊎_elim}
 use Rattle.gf_field.specs.Field.{field_product}
 use Rattle.gf_field.proofs.mul.Goals as goal
-use Rattle.gf_field.proofs.Powers.{power_of_x-add}
+use Rattle.gf_field.proofs.Powers.{field_power-add}
 use Rattle.gf_field.proofs.Products.{zero_product, product_zero}
 
 pub returns-then-b-eq0 : goal.returns-then-b-eq0
@@ -12,4 +12,4 @@ returns-then-b-eq0 c =
 
 pub returns-else-b-eq0 : goal.returns-else-b-eq0
 returns-else-b-eq0 c =
-    c.power.ensures ∙ power_of_x-add c.logarithm.result c.logarithm-else-b-eq0.result ∙ ap₂ field_product c.logarithm.ensures.power c.logarithm-else-b-eq0.ensures.power
+    c.power.ensures ∙ field_power-add 2 c.logarithm.result c.logarithm-else-b-eq0.result (omega arith) ∙ ap₂ field_product c.logarithm.ensures.power c.logarithm-else-b-eq0.ensures.power

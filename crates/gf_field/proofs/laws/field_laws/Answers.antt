@@ -1,7 +1,7 @@
 use Rattle.gf_field.proofs.laws.field_laws.Goals as goal
 use lib.Bits.{xor_comm, xor_lt}
 use Rattle.gf_field.proofs.Products.{product-bound, product_assoc, product_comm, product_one, product-sum_right}
-use Rattle.gf_field.proofs.Inverses.{inverse, inverse-bound, product-inverse, no_zero_divisor}
+use Rattle.gf_field.proofs.Inverses.{inverse-bound, product-inverse, no_zero_divisor}
 
 pub returns-clause-sum_closed : goal.returns-clause-sum_closed
 returns-clause-sum_closed c = xor_lt 8
@@ -22,7 +22,7 @@ pub returns-clause-product_identity : goal.returns-clause-product_identity
 returns-clause-product_identity c = product_one
 
 pub returns-clause-product_inverse : goal.returns-clause-product_inverse
-returns-clause-product_inverse c a some h = (inverse a, inverse-bound a, product-inverse a some h)
+returns-clause-product_inverse c a some h = (inverse-bound a h, product-inverse a some h)
 
 pub returns-clause-distributive : goal.returns-clause-distributive
 returns-clause-distributive c = product-sum_right

@@ -3,7 +3,8 @@ use Rattle.std.proofs.lemmas.List.{take_all, length-drop}
 use Rattle.std.specs.List.{remove}
 use Rattle.gf_field.specs.Field.{field_product}
 use Rattle.gf_field.specs.Polynomial.{AreBytes, AreDistinct, product_of_differences, unit_values}
-use Rattle.gf_field.proofs.Interpolation.{AreBytes-from_fits, others_at, others_at-some, parts-product, scaled-is, basis, basis-interpolates, interpolants_agree}
+use Rattle.gf_field.specs.Interpolation.{basis_polynomial}
+use Rattle.gf_field.proofs.Interpolation.{AreBytes-from_fits, others_at, others_at-some, parts-product, scaled-is, basis-interpolates, interpolants_agree}
 use Rattle.gf_field.proofs.polynomial.basis_at.Goals as goal
 
 -- `&points[i + 1..]` is what stands behind the point i
@@ -42,4 +43,4 @@ returns c cs h =
     let scale : field_product (others_at ps i) r ≡ 1 = ap (λ z. field_product z r) (sym denominator) ∙ c.inv.ensures in
     c.mul.ensures ∙ ap (field_product r) numerator
     ∙ scaled-is ps hp c.requires.distinct i c.requires.within x r c.ranges.x.fits c.inv.type_inv scale
-    ∙ interpolants_agree ps (unit_values (length ps) i) hp c.requires.distinct (basis ps i) cs (basis-interpolates ps hp c.requires.distinct i c.requires.within) h x
+    ∙ interpolants_agree ps (unit_values (length ps) i) hp c.requires.distinct (basis_polynomial ps i) cs (basis-interpolates ps hp c.requires.distinct i c.requires.within) h x

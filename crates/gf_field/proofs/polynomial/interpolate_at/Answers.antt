@@ -1,7 +1,8 @@
 use Rattle.std.proofs.Common.{◌≡◌, length, get_or, sym, ap, ap₂, ◌∙◌, arith, bit_xor, add-one}
 use Rattle.gf_field.specs.Field.{field_product}
 use Rattle.gf_field.specs.Polynomial.{polynomial_at}
-use Rattle.gf_field.proofs.Interpolation.{AreBytes-from_fits, basis, basis-interpolates, interpolation_to, interpolation_to-none, interpolation_to-suc, interpolation-interpolates, interpolation-only}
+use Rattle.gf_field.specs.Interpolation.{basis_polynomial, interpolation_to}
+use Rattle.gf_field.proofs.Interpolation.{AreBytes-from_fits, basis-interpolates, interpolation_to-none, interpolation_to-suc, interpolation-interpolates, interpolation-only}
 use Rattle.gf_field.proofs.polynomial.interpolate_at.Goals as goal
 
 pub loop-i-init : goal.loop-i-init
@@ -16,17 +17,14 @@ loop-i-preserved c =
     let hv = AreBytes-from_fits vs c.type_inv.values in
     c.add-sum.ensures
     ∙ ap₂ bit_xor c.loop-i.invariant
-    (c.mul.ensures ∙ ap (field_product (get_or vs i 0)) (c.basis_at.ensures (basis ps i) (basis-interpolates ps hp c.requires.distinct i c.loop-i-test.true)))
+    (c.mul.ensures ∙ ap (field_product (get_or vs i 0)) (c.basis_at.ensures (basis_polynomial ps i) (basis-interpolates ps hp c.requires.distinct i c.loop-i-test.true)))
     ∙ sym (interpolation_to-suc ps hp c.requires.distinct vs hv c.requires.same_length i c.args.x c.loop-i-test.true c.ranges.x.fits)
     ∙ ap (λ k. polynomial_at (interpolation_to ps vs k) c.args.x) (sym (add-one i))
 
 pub returns-clause-exists : goal.returns-clause-exists
 returns-clause-exists c =
-    let ps = c.args.points.now in
-    let vs = c.args.values.now in (
-      interpolation_to ps vs (length ps),
-      interpolation-interpolates ps (AreBytes-from_fits ps c.type_inv.points) c.requires.distinct vs (AreBytes-from_fits vs c.type_inv.values) c.requires.same_length,
-    )
+    interpolation-interpolates c.args.points.now (AreBytes-from_fits c.args.points.now c.type_inv.points) c.requires.distinct
+    c.args.values.now (AreBytes-from_fits c.args.values.now c.type_inv.values) c.requires.same_length
 
 pub returns-clause-value : goal.returns-clause-value
 returns-clause-value c cs h =

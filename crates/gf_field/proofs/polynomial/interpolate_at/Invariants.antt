@@ -1,6 +1,6 @@
 use Rattle.std.proofs.Common.{◌≡◌}
 use Rattle.gf_field.specs.Polynomial.{polynomial_at}
-use Rattle.gf_field.proofs.Interpolation.{interpolation_to}
+use Rattle.gf_field.specs.Interpolation.{interpolation_to}
 use Rattle.gf_field.proofs.polynomial.interpolate_at.Given as goal
 
 -- the value of the sum over the points before i
