@@ -1,13 +1,15 @@
 -- Columns of given shards, and the shards of the codeword through them.
-use Rattle.std.proofs.Common.{◌≡◌, ◌≢◌, ℕ, ◌<◌, ◌≤◌, List, [], length, get_or, Some, Fits, w8, sym, ap, ◌∙◌, subst, arith, ⊎_elim}
-use Rattle.std.specs.List.{All, slice_get}
-use Rattle.std.proofs.lemmas.Bool.{cases_lt}
-use Rattle.std.proofs.lemmas.List.{length-map, get_or-map, get_or_default, take_all}
-use Rattle.std.proofs.lemmas.Option.{slice_get-get_or}
+use Rattle.std.proofs.Common.{◌≡◌, ℕ, ◌<◌, ◌≤◌, List, [], length, get_or, Fits, w8, sym, ap, ◌∙◌, subst, arith}
+use Rattle.std.specs.List.{All}
+use Rattle.std.proofs.Math.Nat.{zero-add}
+use Rattle.std.proofs.lemmas.List.{length-map, get_or-map, get_or_default}
+use Rattle.std.proofs.lemmas.List.FromFn.{length-map-range_with_len, get_or-map-range_with_len, fill_by_all}
 use Rattle.gf_field.specs.Polynomial.{polynomial_at, AreBytes, AreDistinct, AreWeightsAt, Interpolates, sum_of_products}
-use Rattle.gf_field.proofs.Interpolation.{interpolation_to, interpolation-interpolates, weighted}
-use Rattle.rs_shards.specs.Rebuilding.{AreShards, IsRebuilt}
+use Rattle.gf_field.specs.Interpolation.{interpolation}
+use Rattle.gf_field.proofs.Interpolation.{interpolation-interpolates, weighted}
+use Rattle.rs_shards.specs.Rebuilding.{AreShards}
 use Rattle.rs_shards.specs.Column.{indices_of, shard_at, column_of, AreEven}
+use Rattle.rs_shards.specs.Completing.{completed_shard}
 
 -- the i-th index
 abbrev pub index_at : List (ℕ × List ℕ) → ℕ → ℕ
@@ -29,18 +31,23 @@ get_or-column_of got column i l = get_or-map (λ x. get_or x.1 column 0) got i (
 pub length-column_of : (got : List (ℕ × List ℕ)) (column : ℕ) → length (column_of got column) ≡ length got
 length-column_of got column = length-map got (λ (x : ℕ × List ℕ). get_or x.1 column 0)
 
+pub length-indices : (got : List (ℕ × List ℕ)) → length (indices_of got) ≡ length got
+length-indices got = length-map got (λ (x : ℕ × List ℕ). x.0)
+
 pub indices_of-distinct : (n : ℕ) (got : List (ℕ × List ℕ)) → AreShards n got → AreDistinct (indices_of got)
 indices_of-distinct n got h i j d lt l =
-    let lj : j < length got = omega (arith, length-map got (λ (x : ℕ × List ℕ). x.0)) in
+    let lj : j < length got = omega (arith, length-indices got) in
     let li : i < length got = omega arith in
     λ e. h.distinct i j (0, []) lt lj
     (sym (get_or-map (λ x. x.0) got i (0, []) d li) ∙ e ∙ get_or-map (λ x. x.0) got j (0, []) d lj)
 
+pub indices_of-within : (n : ℕ) (got : List (ℕ × List ℕ)) → AreShards n got → All (λ m. m < n) (indices_of got)
+indices_of-within n got h k d l =
+    let lk : k < length got = omega (arith, length-indices got) in
+    subst (λ x. x < n) (sym (get_or-map (λ x. x.0) got k (0, []) d lk)) (h.within k (0, []) lk)
+
 pub indices_of-bytes : (n : ℕ) (got : List (ℕ × List ℕ)) → n ≤ 256 → AreShards n got → AreBytes (indices_of got)
-indices_of-bytes n got few h k d l =
-    let lk : k < length got = omega (arith, length-map got (λ (x : ℕ × List ℕ). x.0)) in
-    let below : index_at got k < n = h.within k (0, []) lk in
-    subst (λ x. x < 256) (sym (get_or-map (λ x. x.0) got k (0, []) d lk)) (omega arith)
+indices_of-bytes n got few h k d l = let below : get_or (indices_of got) k d < n = indices_of-within n got h k d l in omega arith
 
 pub column_of-bytes : (got : List (ℕ × List ℕ)) → AreEven got → (column : ℕ) → column < length (shard_at got 0) → AreBytes (column_of got column)
 column_of-bytes got h column lc k d l =
@@ -48,72 +55,49 @@ column_of-bytes got h column lc k d l =
     let inside : column < length (shard_at got k) = omega (arith, h.equal k lk) in
     subst (λ x. x < 256) (sym (get_or-map (λ x. get_or x.1 column 0) got k (0, []) d lk)) (h.bytes k lk column 0 inside)
 
--- Shard m of the codeword through the given shards: it has their length, in each column the value of the polynomial
--- through theirs, and is the given one where m is given.
-pub record IsShardOf (got : List (ℕ × List ℕ)) (m : ℕ) (shard : List ℕ) : Type 0 where
-  pub width : length shard ≡ length (shard_at got 0)
-  pub values : (column : ℕ) → column < length (shard_at got 0) → (cs : List ℕ) → Interpolates (indices_of got) (column_of got column) cs → polynomial_at cs m ≡ get_or shard column 0
-  pub given : (j : ℕ) → j < length got → index_at got j ≡ m → shard ≡ shard_at got j
+-- ---- a shard of the codeword, column by column
 
-module _ (n : ℕ) (few : n ≤ 256) (got : List (ℕ × List ℕ)) (are : AreShards n got) (even : AreEven got) where
-  points-long : length (indices_of got) ≡ length got
-  points-long = length-map got (λ (x : ℕ × List ℕ). x.0)
+pub length-completed_shard : (got : List (ℕ × List ℕ)) (m : ℕ) → length (completed_shard got m) ≡ length (shard_at got 0)
+unfolding completed_shard
+length-completed_shard got m =
+    length-map-range_with_len (λ column. polynomial_at (interpolation (indices_of got) (column_of got column)) m) 0 (length (shard_at got 0))
 
-  same_index : (i j : ℕ) → i < length got → j < length got → index_at got i ≡ index_at got j → i ≡ j
-  same_index i j li lj e =
-      ⊎_elim (λ lt. absurd (are.distinct i j (0, []) lt lj e))
-      (λ le. ⊎_elim (λ lt. absurd (are.distinct j i (0, []) lt li (sym e))) (λ ge. omega arith) (cases_lt j i))
-      (cases_lt i j)
+pub get_or-completed_shard : (got : List (ℕ × List ℕ)) (m column : ℕ) → column < length (shard_at got 0)
+    → get_or (completed_shard got m) column 0 ≡ polynomial_at (interpolation (indices_of got) (column_of got column)) m
+unfolding completed_shard
+get_or-completed_shard got m column l =
+    get_or-map-range_with_len (λ column. polynomial_at (interpolation (indices_of got) (column_of got column)) m)
+    0 (length (shard_at got 0)) column column 0 l (zero-add column)
 
-  pub given-shard : (m j : ℕ) → j < length got → index_at got j ≡ m → IsShardOf got m (shard_at got j)
-  given-shard m j lj e = record {
-    width = even.equal j lj;
-    values = λ column lc cs h.
-        let lp : j < length (indices_of got) = omega (arith, points-long) in
-        ap (polynomial_at cs) (sym (get_or-indices_of got j lj ∙ e)) ∙ h.passes j lp ∙ get_or-column_of got column j lj;
-    given = λ i li ei. ap (shard_at got) (same_index j i lj li (e ∙ sym ei));
-  }
+pub is_completed_shard : (got : List (ℕ × List ℕ)) (m : ℕ) (shard : List ℕ) → length shard ≡ length (shard_at got 0)
+    → ((column : ℕ) → column < length (shard_at got 0) → get_or shard column 0 ≡ polynomial_at (interpolation (indices_of got) (column_of got column)) m)
+    → shard ≡ completed_shard got m
+unfolding completed_shard
+is_completed_shard got m shard width values =
+    fill_by_all (λ column. polynomial_at (interpolation (indices_of got) (column_of got column)) m) shard (length (shard_at got 0)) 0 width values
 
-  pub combined-shard : (m : ℕ) (shard weights : List ℕ) → m < 256 → ((j : ℕ) → j < length got → index_at got j ≢ m)
+module _ (got : List (ℕ × List ℕ)) (points_bytes : AreBytes (indices_of got)) (apart : AreDistinct (indices_of got)) (even : AreEven got) where
+  columns-long : (column : ℕ) → length (indices_of got) ≡ length (column_of got column)
+  columns-long column = length-indices got ∙ sym (length-column_of got column)
+
+  pub through : (column : ℕ) → column < length (shard_at got 0)
+      → Interpolates (indices_of got) (column_of got column) (interpolation (indices_of got) (column_of got column))
+  through column lc =
+      interpolation-interpolates (indices_of got) points_bytes apart (column_of got column) (column_of-bytes got even column lc) (columns-long column)
+
+  -- a given shard stands at its index
+  pub given-shard : (m j : ℕ) → j < length got → index_at got j ≡ m → shard_at got j ≡ completed_shard got m
+  given-shard m j lj e = is_completed_shard got m (shard_at got j) (even.equal j lj) (λ column lc.
+      let lp : j < length (indices_of got) = omega (arith, length-indices got) in
+      let cs = interpolation (indices_of got) (column_of got column) in
+      sym (get_or-column_of got column j lj) ∙ sym ((through column lc).passes j lp) ∙ ap (polynomial_at cs) (get_or-indices_of got j lj ∙ e))
+
+  -- a shard is the sum of the given ones, each times its weight
+  pub combined-shard : (m : ℕ) (shard weights : List ℕ) → m < 256
       → length shard ≡ length (shard_at got 0) → length weights ≡ length got → AreWeightsAt m (indices_of got) weights
       → ((column : ℕ) → column < length (shard_at got 0) → get_or shard column 0 ≡ sum_of_products weights (column_of got column))
-      → IsShardOf got m shard
-  combined-shard m shard weights hm none width long are_weights sums = record {
-    width = width;
-    values = λ column lc cs h.
-        weighted (indices_of got) (indices_of-bytes n got few are) (indices_of-distinct n got are)
-        (column_of got column) (column_of-bytes got even column lc) (columns-long column) weights m hm are_weights (long ∙ sym points-long) cs h
-        ∙ sym (sums column lc);
-    given = λ j lj e. absurd (none j lj e);
-  }
-    where
-      columns-long : (column : ℕ) → length (indices_of got) ≡ length (column_of got column)
-      columns-long column = points-long ∙ sym (length-column_of got column)
-
-  pub rebuilt : (shards : List (List ℕ)) → 0 < length got → length shards ≡ n → ((m : ℕ) → m < n → IsShardOf got m (get_or shards m [])) → IsRebuilt n (length got) got shards
-  rebuilt shards some count are_shards = record {
-    codeword = record {
-      count = count;
-      width = λ m lm. (are_shards m lm).width ∙ sym (are_shards 0 (omega arith)).width;
-      column = λ column lc.
-          let inside : column < length (shard_at got 0) = omega (arith, (are_shards 0 n-some).width) in
-          let long : length (indices_of got) ≡ length (column_of got column) = points-long ∙ sym (length-column_of got column) in
-          let cs = interpolation_to (indices_of got) (column_of got column) (length (indices_of got)) in
-          let h : Interpolates (indices_of got) (column_of got column) cs =
-          interpolation-interpolates (indices_of got) (indices_of-bytes n got few are) (indices_of-distinct n got are)
-          (column_of got column) (column_of-bytes got even column inside) long in
-          (cs, record { short = omega (arith, h.degree.short, points-long); bytes = h.degree.bytes }, λ m lm. (are_shards m lm).values column inside cs h);
-    };
-    given = subst (λ xs. All (λ x. slice_get shards x.0 ≡ Some x.1) xs) (sym (take_all (length got) got (omega arith))) all_given;
-  }
-    where
-      n-some : 0 < n
-      n-some = let below : index_at got 0 < n = are.within 0 (0, []) some in omega arith
-
-      all_given : All (λ x. slice_get shards x.0 ≡ Some x.1) got
-      all_given k d lk =
-          let x = get_or got k d in
-          let same : get_or got k (0, []) ≡ x = get_or_default got k (0, []) d lk in
-          let within : x.0 < n = are.within k d lk in
-          slice_get-get_or shards x.0 [] (omega arith)
-          ∙ ap Some ((are_shards x.0 within).given k lk (ap (λ y. y.0) same) ∙ ap (λ y. y.1) same)
+      → shard ≡ completed_shard got m
+  combined-shard m shard weights hm width long are_weights sums = is_completed_shard got m shard width (λ column lc.
+      sums column lc
+      ∙ sym (weighted (indices_of got) points_bytes apart (column_of got column) (column_of-bytes got even column lc) (columns-long column)
+      weights m hm are_weights (long ∙ sym (length-indices got)) (interpolation (indices_of got) (column_of got column)) (through column lc)))

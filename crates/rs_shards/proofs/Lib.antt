@@ -4,5 +4,7 @@ pub mod Lengths
 pub mod Frames
 pub mod Pieces
 pub mod Unique
+pub mod Completions
 pub mod Values
 pub mod Wholes
+pub mod Encodings

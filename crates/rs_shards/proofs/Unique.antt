@@ -1,12 +1,25 @@
 -- Codewords that agree at k places.
-use Rattle.std.proofs.Common.{◌≡◌, ℕ, ◌<◌, ◌≤◌, List, [], length, get_or, sym, ap, ◌∙◌, arith}
+use Rattle.std.proofs.Common.{◌≡◌, ℕ, ◌<◌, ◌≤◌, List, [], length, get_or, sym, ap, ◌∙◌, subst, arith}
 use Rattle.std.specs.List.{All, slice_get}
 use Rattle.std.proofs.lemmas.List.{same_lists, get_or_default}
 use Rattle.std.proofs.lemmas.List.Elements.{recursion_from_All}
 use Rattle.std.proofs.lemmas.Option.{slice_get-get_or, get_or_from_slice_get}
 use Rattle.gf_field.specs.Polynomial.{polynomial_at, AreBytes, AreDistinct}
+use Rattle.gf_field.proofs.Polynomials.{polynomial_at-bound}
 use Rattle.gf_field.proofs.Roots.{values_agree}
 use Rattle.rs_shards.specs.Codeword.{IsCodeword, byte_at, width_of}
+
+-- the shards of a codeword consist of bytes
+pub codeword-bytes : (n k : ℕ) (shards : List (List ℕ)) → n ≤ 256 → IsCodeword n k shards → (m : ℕ) → m < n → AreBytes (get_or shards m [])
+codeword-bytes n k shards few h m lm column d l =
+    let p = h.column column (omega (arith, h.width m lm)) in
+    let byte : m < 256 = omega arith in
+    subst (λ x. x < 256) (p.2 m lm ∙ get_or_default (get_or shards m []) column 0 d l)
+    (polynomial_at-bound p.0 m (recursion_from_All (λ x. x < 256) p.0 p.1.bytes) byte)
+
+pub codeword-all_bytes : (n k : ℕ) (shards : List (List ℕ)) → n ≤ 256 → IsCodeword n k shards → All AreBytes shards
+codeword-all_bytes n k shards few h m d l =
+    subst AreBytes (get_or_default shards m [] d l) (codeword-bytes n k shards few h m (omega (arith, h.count)))
 
 module _ (n k : ℕ) (a b : List (List ℕ)) (places : List ℕ) (some : 1 ≤ k) (few : n ≤ 256) (ha : IsCodeword n k a) (hb : IsCodeword n k b)
     (count : length places ≡ k) (apart : AreDistinct places) (within : All (λ m. m < n) places) (agree : All (λ m. slice_get a m ≡ slice_get b m) places) where

@@ -5,7 +5,7 @@ use Rattle.std.proofs.lemmas.Nat.{from_be_bytes-to_be_bytes_4}
 use Rattle.std.proofs.lemmas.Bool.{eqb-true}
 use Rattle.std.proofs.lemmas.List.{take_at, drop_at, drop-drop}
 use Rattle.std.specs.List.{list_all}
-use Rattle.rs_shards.specs.declared.TheConstants.{LONGEST_VALUE}
+use Rattle.hb_base.specs.Limits.{longest_value}
 use Rattle.rs_shards.specs.Frame.{frame, with_length, padding, is_frame, value_in, stated_length}
 use Rattle.rs_shards.proofs.Frames.{last_test, both, value_in-true}
 use Rattle.rs_shards.proofs.Pieces.{length-frame}
@@ -35,7 +35,7 @@ rest-frame k value =
     sym (drop-drop (length value) 4 (frame k value)) ∙ ap (drop (length value)) (drop-frame k value)
     ∙ drop_at value (replicate (padding k (length (with_length value))) 0) (length value) refl
 
-pub value_in-frame : (k : ℕ) (value : List ℕ) → 0 < k → length value ≤ LONGEST_VALUE → value_in k (frame k value) ≡ value
+pub value_in-frame : (k : ℕ) (value : List ℕ) → 0 < k → length value ≤ longest_value → value_in k (frame k value) ≡ value
 value_in-frame k value some short =
     let bytes = frame k value in
     let pad = padding k (length (with_length value)) in

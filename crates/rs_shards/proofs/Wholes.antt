@@ -8,13 +8,14 @@ use Rattle.std.proofs.lemmas.List.Elements.{All-from_recursion, recursion_from_A
 use Rattle.std.specs.List.{concat}
 use Rattle.std.specs.Int.{w32, to_be_bytes}
 use Rattle.gf_field.specs.Polynomial.{AreBytes}
-use Rattle.gf_field.proofs.Polynomials.{Bytes, Bytes-take, polynomial_at-bound}
-use Rattle.rs_shards.specs.declared.TheConstants.{LONGEST_VALUE}
+use Rattle.gf_field.proofs.Polynomials.{Bytes, Bytes-take}
+use Rattle.hb_base.specs.Limits.{longest_value}
 use Rattle.rs_shards.specs.Codeword.{IsCodeword, data_of, width_of}
 use Rattle.rs_shards.specs.Frame.{frame, with_length, padding, is_frame, stated_length, framed_value}
 use Rattle.rs_shards.proofs.Frames.{IsTrueFrame, IsTrueFrame-from_test, value_in-false, concat-take_more}
 use Rattle.rs_shards.proofs.Pieces.{Bytes-append}
 use Rattle.rs_shards.proofs.Values.{zeros-are}
+use Rattle.rs_shards.proofs.Unique.{codeword-bytes}
 
 -- the padding is the only number below k that makes a length a multiple
 padding-only : (k n p : ℕ) → p < k → (n + p) % k ≡ 0 → p ≡ padding k n
@@ -79,13 +80,13 @@ module _ (k : ℕ) (bytes : List ℕ) (some : 0 < k) (are_bytes : AreBytes bytes
       (sym (take-append-drop s (drop 4 bytes)) ∙ ap (λ r. held ++ r) (drop-drop s 4 bytes ∙ rest-is))
       ∙ sym (append_assoc (to_be_bytes w32 (length held)) held (replicate (padding k (length (with_length held))) 0))
 
-  pub held-short : length held ≤ LONGEST_VALUE
+  pub held-short : length held ≤ longest_value
   held-short = omega (arith, length-held, t.short)
 
 -- ---- the data shards of a codeword
 
 module _ (n k : ℕ) (shards : List (List ℕ)) (within : k ≤ n) (few : n ≤ 256) (h : IsCodeword n k shards) where
-  length-data : (t : ℕ) → t ≤ k → length (concat (take t shards)) ≡ t * width_of shards
+  pub length-data : (t : ℕ) → t ≤ k → length (concat (take t shards)) ≡ t * width_of shards
   length-data zero l = sym (zero-mul (width_of shards))
   length-data (suc t) l =
       let x = get_or shards t [] in
@@ -96,22 +97,15 @@ module _ (n k : ℕ) (shards : List (List ℕ)) (within : k ≤ n) (few : n ≤ 
       ∙ ap length (concat-take_more shards t x lt (get_or_default shards t [] x lt)) ∙ length-append (concat (take t shards)) x
       ∙ omega arith
 
-  shard-bytes : (m : ℕ) → m < n → Bytes (get_or shards m [])
-  shard-bytes m lm = recursion_from_All (λ x. x < 256) (get_or shards m []) (λ column d l.
-      let p = h.column column (omega (arith, h.width m lm)) in
-      let lm' : m < 256 = omega arith in
-      subst (λ x. x < 256) (p.2 m lm ∙ get_or_default (get_or shards m []) column 0 d l)
-      (polynomial_at-bound p.0 m (recursion_from_All (λ x. x < 256) p.0 p.1.bytes) lm'))
-
   data-bytes : (t : ℕ) → t ≤ k → Bytes (concat (take t shards))
   data-bytes zero l = tt
   data-bytes (suc t) l =
       let x = get_or shards t [] in
       let lt : t < length shards = omega (arith, h.count) in
       subst Bytes (sym (ap (λ i. concat (take i shards)) (sym (add-one t)) ∙ concat-take_more shards t x lt (get_or_default shards t [] x lt)))
-      (Bytes-append (concat (take t shards)) x (data-bytes t (omega arith)) (shard-bytes t (omega arith)))
+      (Bytes-append (concat (take t shards)) x (data-bytes t (omega arith)) (recursion_from_All (λ x. x < 256) x (codeword-bytes n k shards few h t (omega arith))))
 
-  pub no-value : 0 < k → ((value : List ℕ) → length value ≤ LONGEST_VALUE → data_of k shards ≢ frame k value) → framed_value k shards ≡ []
+  pub no-value : 0 < k → ((value : List ℕ) → length value ≤ longest_value → data_of k shards ≢ frame k value) → framed_value k shards ≡ []
   no-value some none = go (is_frame k (data_of k shards)) refl
     where
       go : (b : Bool) → b ≡ is_frame k (data_of k shards) → framed_value k shards ≡ []

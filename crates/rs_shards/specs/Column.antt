@@ -1,6 +1,6 @@
 -- Shards that are given with their indices, one after another.
 use Rattle.std.specs.Prelude.{◌≡◌, ℕ, ◌<◌, List, [], length, map, slice_index, slice_index_or}
-use Rattle.gf_field.specs.Polynomial.{AreBytes}
+use Rattle.hb_base.specs.ByteLists.{AreBytes}
 
 -- their indices
 abbrev pub indices_of : List (ℕ × List ℕ) → List ℕ

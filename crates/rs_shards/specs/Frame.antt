@@ -2,7 +2,7 @@
 use Rattle.std.specs.Prelude.{ℕ, ◌+◌, ◌-◌, ◌%◌, Bool, ◌&&◌, ◌==◌, List, [], ◌++◌, length, take, drop, replicate, nat_lt, nat_le, if◌then◌else◌}
 use Rattle.std.specs.List.{list_all}
 use Rattle.std.specs.Int.{w32, to_be_bytes, from_be_bytes}
-use Rattle.rs_shards.specs.declared.TheConstants.{LONGEST_VALUE}
+use Rattle.hb_base.specs.Limits.{longest_value}
 use Rattle.rs_shards.specs.Codeword.{data_of}
 
 -- the fewest bytes that make a length a multiple of k
@@ -26,7 +26,7 @@ stated_length bytes = from_be_bytes w32 (take 4 bytes)
 unfoldable pub is_frame : ℕ → List ℕ → Bool
 is_frame k bytes =
     nat_le 4 (length bytes)
-    && (nat_le (stated_length bytes) LONGEST_VALUE
+    && (nat_le (stated_length bytes) longest_value
     && (nat_le (4 + stated_length bytes) (length bytes)
     && (nat_lt (length bytes - (4 + stated_length bytes)) k
     && list_all (λ b. b == 0) (drop (4 + stated_length bytes) bytes))))

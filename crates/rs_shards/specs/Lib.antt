@@ -2,3 +2,4 @@ pub mod Codeword
 pub mod Frame
 pub mod Column
 pub mod Rebuilding
+pub mod Completing

@@ -3,7 +3,8 @@
 ghost use Rattle.std.specs.Prelude.{◌≡◌, ◌≢◌, ℕ, ◌<◌, ◌≤◌, length, List, MatchOption, IfOk, All, map, take, slice_index, EachIndex};
 ghost use Rattle.gf_field.specs.Field.{field_sum, field_product};
 ghost use Rattle.gf_field.specs.Polynomial.{AreDistinct, AreWeightsAt, sum_of_products};
-ghost use Rattle.rs_shards.specs.Rebuilding.{AreShards, IsRebuilt};
+ghost use Rattle.rs_shards.specs.Rebuilding.{AreShards};
+ghost use Rattle.rs_shards.specs.Completing.{completed, completed_shard};
 ghost use Rattle.rs_shards.specs.Column.{indices_of, shard_at, column_of, AreEven};
 
 use gf_field::{interpolate_at, mul};
@@ -11,28 +12,38 @@ use hb_base::Bytes;
 use std::alloc::{AllocError, Global};
 
 /// All n shards of the codeword that has each of these at its index, of a degree below their number.
-/// A given shard is copied, and each other one is the sum of the given ones, each times a weight.
-pub fn complete(alloc: Global, n: u8, got: &[(u8, Bytes)]) -> Result<Vec<Bytes>, AllocError>
+pub(crate) fn complete(alloc: Global, n: u8, got: &[(u8, Bytes)]) -> Result<Vec<Bytes>, AllocError>
     requires some { 0 < length got.now }
     requires shards { AreShards n got.now }
     requires even { AreEven got.now }
-    ensures { IfOk result (λ shards. IsRebuilt n (length got.now) got.now shards.items) }
+    ensures { IfOk result (λ shards. shards.items ≡ completed n (length got.now) got.now) }
 {
     let points = indices(alloc, got)?;
     let mut shards = Vec::with_capacity(alloc, n as usize)?;
     for m in 0..n {
-        let shard = match place_of(&points, m) {
-            Some(i) => Bytes::copy(alloc, got[i].1.as_slice())?,
-            None => combination(alloc, &weights(alloc, &points, m)?, got)?,
-        };
-        shards.push(shard)?;
+        shards.push(shard(alloc, got, &points, m)?)?;
     }
     Ok(shards)
 }
 
+/// Shard m of that codeword: shared with the given one, or the sum of the given ones, each times a weight.
+fn shard(alloc: Global, got: &[(u8, Bytes)], points: &[u8], m: u8) -> Result<Bytes, AllocError>
+    requires some { 0 < length got.now }
+    requires points { points.now ≡ indices_of got.now }
+    requires distinct { AreDistinct points.now }
+    requires even { AreEven got.now }
+    ensures { IfOk result (λ shard. shard ≡ completed_shard got.now m) }
+{
+    match place_of(points, m) {
+        Some(i) => got[i].1.clone(),
+        None => combination(alloc, &weights(alloc, points, m)?, got),
+    }
+}
+
 /// The first place at which a number stands.
 fn place_of(numbers: &[u8], number: u8) -> Option<usize>
-    ensures { MatchOption result ((i : ℕ) → i < length numbers.now → slice_index numbers.now i ≢ number) (λ i. (i < length numbers.now) × (slice_index numbers.now i ≡ number)) }
+    ensures { MatchOption result ((i : ℕ) → i < length numbers.now → slice_index numbers.now i ≢ number)
+        (λ i. (i < length numbers.now) × (slice_index numbers.now i ≡ number)) }
 {
     numbers.iter().position(|other| *other == number)
 }
@@ -70,18 +81,20 @@ fn combination(alloc: Global, weights: &[u8], got: &[(u8, Bytes)]) -> Result<Byt
     requires paired { length weights.now ≡ length got.now }
     requires equal { (i : ℕ) → i < length got.now → length (shard_at got.now i) ≡ length (shard_at got.now 0) }
     ensures len { IfOk result (λ shard. length shard ≡ length (shard_at got.now 0)) }
-    ensures bytes { IfOk result (λ shard. (column : ℕ) → column < length (shard_at got.now 0) → slice_index shard column ≡ sum_of_products weights.now (column_of got.now column)) }
+    ensures bytes { IfOk result (λ shard. (column : ℕ) → column < length (shard_at got.now 0)
+        → slice_index shard column ≡ sum_of_products weights.now (column_of got.now column)) }
 {
     let mut sum = vec![in alloc; 0; got[0].1.as_slice().len()]?;
     add_combination(&mut sum, weights, got);
-    Ok(Bytes::from(sum))
+    Bytes::from_vec(sum)
 }
 
 /// Adds the shards, each times its weight, byte by byte.
 fn add_combination(sum: &mut [u8], weights: &[u8], got: &[(u8, Bytes)])
     requires paired { length weights.now ≡ length got.now }
     requires equal { (i : ℕ) → i < length got.now → length (shard_at got.now i) ≡ length sum.old }
-    ensures { (column : ℕ) → column < length sum.old → slice_index sum.new column ≡ field_sum (slice_index sum.old column) (sum_of_products weights.now (column_of got.now column)) }
+    ensures { (column : ℕ) → column < length sum.old
+        → slice_index sum.new column ≡ field_sum (slice_index sum.old column) (sum_of_products weights.now (column_of got.now column)) }
 {
     for i in 0..got.len() {
         add_multiple(sum, weights[i], got[i].1.as_slice());
@@ -91,7 +104,8 @@ fn add_combination(sum: &mut [u8], weights: &[u8], got: &[(u8, Bytes)])
 /// Adds a multiple of a shard, byte by byte.
 fn add_multiple(sum: &mut [u8], weight: u8, shard: &[u8])
     requires { length sum.old ≡ length shard.now }
-    ensures { (i : ℕ) → i < length shard.now → slice_index sum.new i ≡ field_sum (slice_index sum.old i) (field_product weight (slice_index shard.now i)) }
+    ensures { (i : ℕ) → i < length shard.now
+        → slice_index sum.new i ≡ field_sum (slice_index sum.old i) (field_product weight (slice_index shard.now i)) }
 {
     let row = multiples(weight);
     for i in 0..sum.len() {

@@ -3,12 +3,15 @@
 //! elements, whose value at m is the byte of shard m (Reed and Solomon 1960).
 #![tactic(auto)]
 
-ghost use Rattle.std.specs.Prelude.{◌≡◌, ℕ, ◌+◌, ◌*◌, ◌/◌, ◌<◌, ◌≤◌, length, IfOk, map, take, All, ◌^◌, IfSome, IsNone, MatchResult, MatchOption, slice_index, ◌==◌, IsTrue};
-ghost use Rattle.std.specs.List.{list_all};
+ghost use Rattle.std.specs.Prelude.{◌≡◌, ℕ, ◌+◌, ◌*◌, ◌/◌, ◌<◌, ◌≤◌, length, IfOk, map, take, All, ◌^◌, IfSome, IsNone, MatchResult, MatchOption, slice_index, slice_get, ◌==◌, IsTrue, false, List};
+ghost use Rattle.std.specs.List.{list_all, concat};
 ghost use Rattle.rs_shards.specs.Column.{AreEven};
-ghost use Rattle.rs_shards.specs.Codeword.{IsCodeword, data_of};
+ghost use Rattle.hb_base.specs.ByteLists.{AreBytes};
+ghost use Rattle.hb_base.specs.Limits.{most_nodes, longest_value, longest_shard};
+ghost use Rattle.rs_shards.specs.Completing.{are_even, completed, encoded, IsEncoding, shard_length};
 ghost use Rattle.rs_shards.specs.Frame.{frame, framed_value, value_in, is_frame, stated_length};
 ghost use Rattle.rs_shards.specs.Rebuilding.{AreShards, lengths, other_length, IsRebuilt};
+ghost use Rattle.rs_shards.specs.Codeword.{IsCodeword};
 
 mod completing;
 mod fault;
@@ -17,21 +20,24 @@ mod laws;
 use completing::complete;
 pub use fault::RsFault;
 use hb_base::Bytes;
-pub use laws::{codeword_laws, frame_laws};
+use hb_base::limits::LONGEST_VALUE;
+pub use laws::{codeword_laws, completing_laws, encoding_laws, frame_laws};
 use std::alloc::{AllocError, Global};
-
-/// The most bytes that a value may have.
-pub const LONGEST_VALUE: usize = 16_514;
 
 /// The n shards of a value: the codeword whose first k shards, put together, are the frame of the value.
 /// The shards have one length.
 pub fn encode(alloc: Global, n: u8, k: u8, value: &[u8]) -> Result<Vec<Bytes>, AllocError>
     requires some { 1 ≤ k }
     requires within { k ≤ n }
-    requires few { n ≤ 16 }
-    requires short { length value.now ≤ LONGEST_VALUE }
-    ensures codeword { IfOk result (λ shards. IsCodeword n k shards.items) }
-    ensures framed { IfOk result (λ shards. data_of k shards.items ≡ frame k value.now) }
+    requires few { n ≤ most_nodes }
+    requires short { length value.now ≤ longest_value }
+    ensures encoding { IfOk result (λ shards. IsEncoding n k value.now shards.items) }
+    ensures encoded { IfOk result (λ shards. shards.items ≡ encoded n k value.now) }
+
+    ensures lengths { IfOk result (λ shards. All (λ shard. length shard ≡ shard_length k (length value.now)) shards.items) }
+    ensures filled { IfOk result (λ shards. All (λ shard. 1 ≤ length shard) shards.items) }
+    ensures short { IfOk result (λ shards. All (λ shard. length shard ≤ longest_shard) shards.items) }
+    ensures bytes { IfOk result (λ shards. All AreBytes shards.items) }
 {
     let frame = framed(alloc, k, value)?;
     let width = frame.len() / k as usize;
@@ -50,12 +56,22 @@ pub fn encode(alloc: Global, n: u8, k: u8, value: &[u8]) -> Result<Vec<Bytes>, A
 pub fn rebuild(alloc: Global, n: u8, k: u8, got: &[(u8, Bytes)]) -> Result<Vec<Bytes>, RsFault>
     requires some { 1 ≤ k }
     requires within { k ≤ n }
-    requires few { n ≤ 16 }
+    requires few { n ≤ most_nodes }
     requires shards { AreShards n got.now }
     requires short { All (λ x. length x.1 < 2 ^ 32) got.now }
     ensures too_few { length got.now < k → result ≡ Err (RsFault.TooFew (length got.now) k) }
-    ensures unequal { k ≤ length got.now → IfSome (other_length (take k got.now)) (λ other. result ≡ Err (RsFault.Lengths (slice_index (lengths got.now) 0) other)) }
-    ensures rebuilt { k ≤ length got.now → IsNone (other_length (take k got.now)) → MatchResult result (λ shards. IsRebuilt n k got.now shards.items) (λ fault. fault ≡ RsFault.Memory) }
+    ensures unequal { k ≤ length got.now
+        → IfSome (other_length (take k got.now)) (λ other. result ≡ Err (RsFault.Lengths (slice_index (lengths got.now) 0) other)) }
+    ensures rebuilt { k ≤ length got.now → IsNone (other_length (take k got.now))
+        → MatchResult result (λ shards. IsRebuilt n k got.now shards.items) (λ fault. fault ≡ RsFault.Memory) }
+
+    // shards of one codeword give it back
+    ensures gives_back { (shards : List (List ℕ)) → k ≤ length got.now → IsCodeword n k shards → All (λ x. slice_get shards x.0 ≡ Some x.1) got.now
+        → MatchResult result (λ all. all.items ≡ shards) (λ fault. fault ≡ RsFault.Memory) }
+
+    ensures completed { IfOk result (λ shards. shards.items ≡ completed n k got.now) }
+    ensures even { IfOk result (λ _. IsTrue (are_even (take k got.now))) }
+    ensures uneven { (a b : ℕ) → result ≡ Err (RsFault.Lengths a b) → are_even (take k got.now) ≡ false }
 {
     if got.len() < k as usize {
         return Err(RsFault::TooFew {
@@ -76,20 +92,33 @@ pub fn rebuild(alloc: Global, n: u8, k: u8, got: &[(u8, Bytes)]) -> Result<Vec<B
 /// The value whose frame the first k shards, put together, are; the empty value where they are no frame.
 pub fn value_of(alloc: Global, k: u8, shards: &[Bytes]) -> Result<Bytes, AllocError>
     requires { k ≤ length shards.now }
-    ensures { IfOk result (λ value. value ≡ framed_value k shards.now) }
+    ensures value { IfOk result (λ value. value ≡ framed_value k shards.now) }
+    ensures reads_back { (n : ℕ) (value : List ℕ) → 1 ≤ k → length value ≤ longest_value → IsEncoding n k value shards.now
+        → IfOk result (λ read. read ≡ value) }
+
+    ensures short { IfOk result (λ value. length value ≤ longest_value) }
+    ensures bytes { IfOk result AreBytes }
 {
-    let mut data = Vec::new(alloc);
-    for shard in &shards[..k as usize] {
-        data.extend_from_slice(shard.as_slice())?;
-    }
+    let data = joined(alloc, &shards[..k as usize])?;
     Bytes::copy(alloc, value_in_frame(k, &data))
+}
+
+/// The shards, put together.
+fn joined(alloc: Global, shards: &[Bytes]) -> Result<Vec<u8>, AllocError>
+    ensures { IfOk result (λ bytes. bytes.items ≡ concat shards.now) }
+{
+    let mut bytes = Vec::new(alloc);
+    for shard in shards {
+        bytes.extend_from_slice(shard.as_slice())?;
+    }
+    Ok(bytes)
 }
 
 /// The frame of a value: its length in four bytes, the highest first, the value, and the fewest zero bytes
 /// that make it a multiple of k bytes.
 fn framed(alloc: Global, k: u8, value: &[u8]) -> Result<Vec<u8>, AllocError>
     requires some { 1 ≤ k }
-    requires short { length value.now ≤ LONGEST_VALUE }
+    requires short { length value.now ≤ longest_value }
     ensures { IfOk result (λ bytes. bytes.items ≡ frame k value.now) }
 {
     let k = k as usize;
@@ -105,7 +134,8 @@ fn framed(alloc: Global, k: u8, value: &[u8]) -> Result<Vec<u8>, AllocError>
 
 /// The value in a frame, or the empty value where the frame is false.
 fn value_in_frame(k: u8, frame: &[u8]) -> &[u8]
-    ensures { result.now ≡ value_in k frame.now }
+    ensures value { result.now ≡ value_in k frame.now }
+    ensures bytes { AreBytes result.now }
 {
     if is_frame(k, frame) {
         let end = 4 + stated_length(frame);
@@ -158,7 +188,8 @@ fn stated_length(bytes: &[u8]) -> usize
 fn unequal_lengths(shards: &[(u8, Bytes)]) -> Option<(u32, u32)>
     requires some { 0 < length shards.now }
     requires short { All (λ x. length x.1 < 2 ^ 32) shards.now }
-    ensures { MatchOption result ((other_length shards.now ≡ None) × AreEven shards.now) (λ two. (two.0 ≡ slice_index (lengths shards.now) 0) × (other_length shards.now ≡ Some two.1)) }
+    ensures { MatchOption result ((other_length shards.now ≡ None) × AreEven shards.now)
+        (λ two. (two.0 ≡ slice_index (lengths shards.now) 0) × (other_length shards.now ≡ Some two.1)) }
 {
     let a = shards[0].1.as_slice().len();
     for shard in shards {

@@ -1,9 +1,11 @@
-ghost use Rattle.std.specs.Prelude.{◌≡◌, ◌<◌, ◌≤◌, ◌^◌, length, IfOk, All};
-ghost use Rattle.gf_field.specs.Polynomial.{AreDistinct};
+ghost use Rattle.std.specs.Prelude.{◌≡◌, ◌<◌, ◌≤◌, ◌^◌, length, IfOk, All, slice_get};
+ghost use Rattle.hb_base.specs.Limits.{most_nodes, longest_value, longest_shard};
 ghost use Rattle.rs_shards.specs.Rebuilding.{AreShards};
 
+mod codes;
+
 use super::*;
-use gf_field::interpolate_at;
+use codes::CODES;
 use std::process::Abort;
 use std::test::Fail;
 
@@ -21,8 +23,12 @@ fn worked_example(rt: HostRuntime) -> Result<(), Fail> {
 
     let third = (2, Bytes::copy(alloc, &[0x04, 0xD0, 0xD2])?);
     let fourth = (3, Bytes::copy(alloc, &[0x06, 0xB8, 0xBB])?);
-    let got = vec![in alloc; third, fourth]?;
+    let got = vec![in alloc; fourth, third]?;
     assert!(rt; are_same(&rebuild(alloc, 4, 2, &got)?, &shards));
+    assert_eq!(rt;
+        restored(alloc, 4, 2, b"hi", 0b1010)?.as_slice(),
+        b"hi".as_slice()
+    );
     Ok(())
 }
 
@@ -48,53 +54,75 @@ fn refusals(rt: HostRuntime) -> Result<(), Fail> {
     Ok(())
 }
 
-/// Some bytes, which fill no last piece.
-const TEXT: &[u8; 40] = b"The quick brown fox jumps over lazy dogs";
+/// The lengths of the values: none, few bytes, the longest and one less.
+const LENGTHS: [usize; 6] = [0, 1, 5, 255, 16_513, 16_514];
 
-/// Every choice of two of 4 shards and of three of 7, and some of six of 16, give back all of them; and the
-/// shards are those that interpolation gives, column by column.
+/// Every k of every n gives the shards that another program gives, and the first k of them, the last, every other
+/// one and some drawn ones give back all.
 #[test]
-fn choices(rt: HostRuntime) -> Result<(), Fail> {
-    compare(&rt, rt.alloc(), 4, &[0, 1], 16, 1)?;
-    compare(&rt, rt.alloc(), 7, &[0, 1, 2], 128, 1)?;
-    compare(&rt, rt.alloc(), 16, &[0, 1, 2, 3, 4, 5], 198, 331)?;
+fn every_code(rt: HostRuntime) -> Result<(), Fail> {
+    let alloc = rt.alloc();
+    let longest = drawn_bytes(alloc, LONGEST_VALUE)?;
+    for &(n, k, every_other, drawn, wanted) in &CODES {
+        assert!(rt; 1 <= k && k <= n && n <= 16);
+        let first = u16::MAX >> (16 - k);
+        let choices = [first, first << (n - k), every_other, drawn];
+        let mut hash = 0x811C_9DC5;
+        for len in LENGTHS {
+            assert!(rt; len <= longest.len() && len <= LONGEST_VALUE);
+            hash = compare(&rt, alloc, n, k, &longest[..len], &choices, hash)?;
+        }
+        assert_eq!(rt; hash, wanted, "k = {k} of n = {n}");
+    }
     Ok(())
 }
 
-/// Compares the shards of a text with interpolation at the points, which are the numbers below k, and with what
-/// each of so many choices, in steps, gives back.
+/// Compares a value with what its shards hold, and these with what each choice of them gives back; the hash goes on
+/// over them.
 fn compare(
     rt: &impl Abort,
     alloc: Global,
     n: u8,
-    points: &[u8],
-    choices: u32,
-    step: u32,
-) -> Result<(), Fail>
-    requires some { 0 < length points.now }
-    requires within { length points.now ≤ n }
-    requires few { n ≤ 16 }
-    requires distinct { AreDistinct points.now }
-    requires choices { choices < 65536 }
-    requires step { step < 65536 }
+    k: u8,
+    value: &[u8],
+    choices: &[u16],
+    hash: u32,
+) -> Result<u32, Fail>
+    requires some { 1 ≤ k }
+    requires within { k ≤ n }
+    requires few { n ≤ most_nodes }
+    requires short { length value.now ≤ longest_value }
 {
-    let k = points.len() as u8;
-    let shards = encode(alloc, n, k, TEXT)?;
-    assert_eq!(rt; value_of(alloc, k, &shards)?.as_slice(), TEXT.as_slice());
-    for column in 0..shards[0].as_slice().len() {
-        let values = column_bytes(alloc, &shards[..k as usize], column)?;
-        for m in 0..n {
-            let byte = shards[m as usize].as_slice().get(column).copied();
-            assert_eq!(rt; byte, Some(interpolate_at(points, &values, m)));
-        }
+    let shards = encode(alloc, n, k, value)?;
+    assert!(rt; value_of(alloc, k, &shards)?.as_slice() == value);
+    for choice in choices {
+        let got = chosen(alloc, &shards, *choice)?;
+        assert!(rt; are_same(&rebuild(alloc, n, k, &got)?, &shards));
     }
-    for choice in 0..choices {
-        let got = chosen(rt, alloc, &shards, choice * step)?;
-        if got.len() == points.len() {
-            assert!(rt; are_same(&rebuild(alloc, n, k, &got)?, &shards));
-        }
+    Ok(
+        shards
+            .iter()
+            .fold(hash, |hash, shard| hashed(hash, shard.as_slice())),
+    )
+}
+
+/// Some bytes of the generator x := 1664525 x + 1013904223.
+fn drawn_bytes(alloc: Global, len: usize) -> Result<Vec<u8>, AllocError> {
+    let mut bytes = Vec::with_capacity(alloc, len)?;
+    let mut state = 2026u32;
+    for _ in 0..len {
+        state = state.wrapping_mul(1_664_525).wrapping_add(1_013_904_223);
+        bytes.push(state.to_be_bytes()[0])?;
     }
-    Ok(())
+    Ok(bytes)
+}
+
+/// FNV-1a of 32 bits, which goes on from a hash.
+fn hashed(hash: u32, bytes: &[u8]) -> u32 {
+    bytes.iter().fold(
+        hash,
+        |hash, byte| (hash ^ *byte as u32).wrapping_mul(16_777_619),
+    )
 }
 
 /// Whether two lists of shards are equal.
@@ -106,35 +134,33 @@ fn are_same(some: &[Bytes], others: &[Bytes]) -> bool {
             .all(|(a, b)| a.as_slice() == b.as_slice())
 }
 
-/// A byte of each shard.
-fn column_bytes(alloc: Global, shards: &[Bytes], column: usize) -> Result<Vec<u8>, AllocError>
-    ensures { IfOk result (λ bytes. length bytes.items ≡ length shards.now) }
-{
-    let mut bytes = Vec::new(alloc);
-    for shard in shards {
-        bytes.push(shard.as_slice().get(column).copied().unwrap_or(0))?;
-    }
-    Ok(bytes)
-}
-
 /// The shards at whose indices the number has a bit.
-fn chosen(
-    rt: &impl Abort,
-    alloc: Global,
-    shards: &[Bytes],
-    choice: u32,
-) -> Result<Vec<(u8, Bytes)>, AllocError>
-    requires { length shards.now ≤ 16 }
+fn chosen(alloc: Global, shards: &[Bytes], choice: u16) -> Result<Vec<(u8, Bytes)>, AllocError>
+    requires few { length shards.now ≤ 16 }
+    requires short { All (λ shard. length shard ≤ longest_shard) shards.now }
     ensures shards { IfOk result (λ got. AreShards (length shards.now) got.items) }
     ensures short { IfOk result (λ got. All (λ x. length x.1 < 2 ^ 32) got.items) }
+    ensures taken { IfOk result (λ got. All (λ x. slice_get shards.now x.0 ≡ Some x.1) got.items) }
 {
     let mut got = Vec::new(alloc);
     for i in 0..shards.len() {
-        let bytes = shards[i].as_slice();
-        assert!(rt; bytes.len() < 65536);
         if choice >> i & 1 == 1 {
-            got.push((i as u8, Bytes::copy(alloc, bytes)?))?;
+            got.push((i as u8, shards[i].clone()?))?;
         }
     }
     Ok(got)
+}
+
+/// What a caller does: the shards of a value go out, some come in, and the value is read. It is the value.
+fn restored(alloc: Global, n: u8, k: u8, value: &[u8], choice: u16) -> Result<Bytes, Fail>
+    requires some { 1 ≤ k }
+    requires within { k ≤ n }
+    requires few { n ≤ most_nodes }
+    requires short { length value.now ≤ longest_value }
+    ensures { IfOk result (λ read. read ≡ value.now) }
+{
+    let shards = encode(alloc, n, k, value)?;
+    let got = chosen(alloc, &shards, choice)?;
+    let rebuilt = rebuild(alloc, n, k, &got)?;
+    Ok(value_of(alloc, k, &rebuilt)?)
 }
