@@ -22,11 +22,11 @@ same_string (x ∷ xs) (y ∷ ys) =
       | inr other ↦ inr (λ e. other cc)
     ]
 
-same_front : (a b c d : List ℕ) → length a ≡ length c → a ++ b ≡ c ++ d → a ≡ c
+pub same_front : (a b c d : List ℕ) → length a ≡ length c → a ++ b ≡ c ++ d → a ≡ c
 same_front a b c d len e =
     sym (take_at a b (length a) refl) ∙ ap (take (length a)) e ∙ take_at c d (length a) (sym len)
 
-same_back : (a b c d : List ℕ) → length b ≡ length d → a ++ b ≡ c ++ d → b ≡ d
+pub same_back : (a b c d : List ℕ) → length b ≡ length d → a ++ b ≡ c ++ d → b ≡ d
 same_back a b c d len e =
     let fronts : length a ≡ length c = omega (arith, length-append a b, length-append c d, ap length e) in
     sym (drop_at a b (length a) refl) ∙ ap (drop (length a)) e ∙ drop_at c d (length a) (sym fronts)
@@ -38,7 +38,7 @@ digest_on_side true d e s t dl el h = same_front d s e t (dl ∙ sym el) cc
 digest_on_side false d e s t dl el h = same_back s d t e (dl ∙ sym el) cc
 
 -- a collision further up is one among more strings
-higher : (xs ys : List (List ℕ)) (x y : List ℕ) → Collision xs ys → Collision (x ∷ xs) (y ∷ ys)
+pub higher : (xs ys : List (List ℕ)) (x y : List ℕ) → Collision xs ys → Collision (x ∷ xs) (y ∷ ys)
 higher xs ys x y c = record {
   one = c.one;
   other = c.other;

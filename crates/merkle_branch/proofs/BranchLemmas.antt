@@ -4,7 +4,7 @@ use Rattle.std.proofs.lemmas.List.{take_at, drop_at, length-replicate, length-ap
 use Rattle.std.proofs.lemmas.Bool.Decides.{nat_tests}
 use Rattle.std.proofs.Math.Nat.{pow-suc}
 use Rattle.sha2.specs.Sha256.{sha256}
-use Rattle.merkle_branch.specs.Digests.{no_digest, leaf_digest, leaf_digests, leaf_digests_from, inner_string, inner_digest, height, digest_at, tree_root, sibling, siblings_from}
+use Rattle.merkle_branch.specs.Digests.{no_digest, leaf_digest, leaf_digests, leaf_digests_from, inner_string, height, digest_at, tree_root, sibling, siblings_from}
 use Rattle.merkle_branch.specs.Branches.{IsBranch, IsPadded, branch_of, siblings, folded, parent_string}
 use Rattle.merkle_branch.specs.declared.Branch.{Branch}
 use Rattle.merkle_branch.proofs.Levels.{digest_at-zero, digest_at-suc, digest_at-top}
@@ -12,21 +12,26 @@ use Rattle.merkle_branch.proofs.LeavesLemmas.{length-leaf_digests_from}
 use Rattle.merkle_branch.proofs.HeightLemmas.{height_fits, height_low}
 
 parent_on_side : (digests : List (List ℕ)) (l p half : ℕ) (even : Bool) → (even ≡ true → p ≡ 2 * half) → (even ≡ false → p ≡ 2 * half + 1)
-    → sha256 (cond even (inner_string (digest_at digests l p) (digest_at digests l (cond even (p + 1) (p - 1)))) (inner_string (digest_at digests l (cond even (p + 1) (p - 1))) (digest_at digests l p)))
-    ≡ inner_digest (digest_at digests l (2 * half)) (digest_at digests l (2 * half + 1))
-parent_on_side digests l p half true is_even is_odd = ap (λ q. inner_digest (digest_at digests l q) (digest_at digests l (q + 1))) (is_even refl)
+    → cond even (inner_string (digest_at digests l p) (digest_at digests l (cond even (p + 1) (p - 1)))) (inner_string (digest_at digests l (cond even (p + 1) (p - 1))) (digest_at digests l p))
+    ≡ inner_string (digest_at digests l (2 * half)) (digest_at digests l (2 * half + 1))
+parent_on_side digests l p half true is_even is_odd = ap (λ q. inner_string (digest_at digests l q) (digest_at digests l (q + 1))) (is_even refl)
 parent_on_side digests l p half false is_even is_odd =
     let odd : p ≡ 2 * half + 1 = is_odd refl in
     let before : p - 1 ≡ 2 * half = omega arith in
-    ap (λ q. inner_digest (digest_at digests l q) (digest_at digests l p)) before
-    ∙ ap (λ q. inner_digest (digest_at digests l (2 * half)) (digest_at digests l q)) odd
+    ap (λ q. inner_string (digest_at digests l q) (digest_at digests l p)) before
+    ∙ ap (λ q. inner_string (digest_at digests l (2 * half)) (digest_at digests l q)) odd
 
--- what is hashed of a node and its sibling is their parent
-parent_above : (digests : List (List ℕ)) (l p : ℕ) → sha256 (parent_string p (digest_at digests l p) (digest_at digests l (sibling p))) ≡ digest_at digests (suc l) (p / 2)
-parent_above digests l p =
+-- what is hashed of a node and its sibling
+pub string_above : (digests : List (List ℕ)) (l p : ℕ)
+    → parent_string p (digest_at digests l p) (digest_at digests l (sibling p)) ≡ inner_string (digest_at digests l (2 * (p / 2))) (digest_at digests l (2 * (p / 2) + 1))
+string_above digests l p =
     let even : eqb (p % 2) 0 ≡ true → p ≡ 2 * (p / 2) = λ t. grind (arith, nat_tests) in
     let odd : eqb (p % 2) 0 ≡ false → p ≡ 2 * (p / 2) + 1 = λ t. grind (arith, nat_tests) in
-    parent_on_side digests l p (p / 2) (eqb (p % 2) 0) even odd ∙ sym (digest_at-suc digests l (p / 2))
+    parent_on_side digests l p (p / 2) (eqb (p % 2) 0) even odd
+
+-- is what their parent has the digest of
+pub parent_above : (digests : List (List ℕ)) (l p : ℕ) → sha256 (parent_string p (digest_at digests l p) (digest_at digests l (sibling p))) ≡ digest_at digests (suc l) (p / 2)
+parent_above digests l p = ap sha256 (string_above digests l p) ∙ sym (digest_at-suc digests l (p / 2))
 
 pub siblings_fold : (digests : List (List ℕ)) (levels l p : ℕ) → p < 2 ^ levels → folded p (digest_at digests l p) (siblings_from digests levels l p) ≡ digest_at digests (l + levels) 0
 unfolding siblings_from
@@ -46,14 +51,14 @@ unfolding siblings_from
 length-siblings_from digests zero l p = refl
 length-siblings_from digests (suc levels) l p = ap suc (length-siblings_from digests levels (suc l) (p / 2))
 
-get_or-leaf_digests_from : (j i : ℕ) (leaves : List (List ℕ)) → i < length leaves → get_or (leaf_digests_from j leaves) i no_digest ≡ leaf_digest (j + i) (get_or leaves i [])
+pub get_or-leaf_digests_from : (j i : ℕ) (leaves : List (List ℕ)) → i < length leaves → get_or (leaf_digests_from j leaves) i no_digest ≡ leaf_digest (j + i) (get_or leaves i [])
 get_or-leaf_digests_from j i [] inside = absurd (omega arith)
 get_or-leaf_digests_from j zero (leaf ∷ leaves) inside = ap (λ k. leaf_digest k leaf) (omega arith)
 get_or-leaf_digests_from j (suc i) (leaf ∷ leaves) inside =
     let same : suc j + i ≡ j + suc i = omega arith in
     get_or-leaf_digests_from (suc j) i leaves (omega arith) ∙ ap (λ k. leaf_digest k (get_or leaves i [])) same
 
-siblings-branch_of : (digests : List (List ℕ)) (m : ℕ) → siblings (branch_of digests m) ≡ siblings_from digests (height (length digests)) 0 m
+pub siblings-branch_of : (digests : List (List ℕ)) (m : ℕ) → siblings (branch_of digests m) ≡ siblings_from digests (height (length digests)) 0 m
 siblings-branch_of digests m = take_at _ _ _ (length-siblings_from digests (height (length digests)) 0 m)
 
 abbrev pub with_digests : ℕ → List (List ℕ) → Branch

@@ -1,7 +1,9 @@
 -- A leaf more.
-use Rattle.std.proofs.Common.{◌≡◌, ℕ, suc, ◌+◌, ◌-◌, ◌<◌, ◌≤◌, List, [], ◌∷◌, ◌++◌, length, take, drop, set, replicate, refl, sym, ap, ◌∙◌, arith}
+use Rattle.std.proofs.Common.{◌≡◌, ℕ, suc, ◌+◌, ◌-◌, ◌<◌, ◌≤◌, List, [], ◌∷◌, ◌++◌, length, take, drop, set, replicate, refl, sym, ap, ◌∙◌, subst, arith}
+use Rattle.std.specs.List.{All}
 use Rattle.std.proofs.lemmas.List.{drop-set-lt, drop-drop, drop-replicate, take_more_set, length-take-le}
-use Rattle.merkle_branch.specs.Digests.{no_digest, leaf_digest, leaf_digests, leaf_digests_from}
+use Rattle.std.proofs.lemmas.List.Elements.{All-push}
+use Rattle.merkle_branch.specs.Digests.{IsDigest, no_digest, leaf_digest, leaf_digests, leaf_digests_from}
 use Rattle.merkle_branch.specs.Shapes.{IsPaddedTo16}
 
 pub count_is : (count : ℕ) (digests now : List (List ℕ)) → length digests ≡ 16 → take count digests ≡ now → count ≤ 16 → count ≡ length now
@@ -9,12 +11,13 @@ count_is count digests now size view few = sym (length-take-le count digests (om
 
 -- one place more is taken
 pub one_taken : (count : ℕ) (digests now : List (List ℕ)) (digest : List ℕ) → length digests ≡ 16 → take count digests ≡ now → length now < 16
-    → IsPaddedTo16 count digests → IsPaddedTo16 (count + 1) (set digests count digest)
-one_taken count digests now digest size view room padded =
+    → IsDigest digest → IsPaddedTo16 count digests → IsPaddedTo16 (count + 1) (set digests count digest)
+one_taken count digests now digest size view room is padded =
     let taken : count ≡ length now = count_is count digests now size view padded.few in
     let left : 16 - count - 1 ≡ 16 - (count + 1) = omega arith in
     record {
       few = omega arith;
+      taken = subst (All IsDigest) (sym (take_more_set digests count digest (omega arith))) (All-push IsDigest (take count digests) digest padded.taken is);
       rest = drop-set-lt (count + 1) digests count digest (omega arith)
           ∙ sym (drop-drop 1 count digests)
           ∙ ap (drop 1) padded.rest

@@ -5,3 +5,7 @@ pub mod LeavesLemmas
 pub mod TreeLemmas
 pub mod Climbing
 pub mod BranchLemmas
+pub mod TreeBinding
+pub mod Tested
+pub mod Paths
+pub mod Strings

@@ -1,8 +1,9 @@
 -- What a tree keeps is a tree of its leaves.
 use Rattle.std.proofs.Common.{◌≡◌, ℕ, ◌+◌, ◌-◌, ◌*◌, ◌^◌, ◌<◌, ◌≤◌, List, length, take, get_or, sym, ap, ◌∙◌, subst, arith, inl, inr}
+use Rattle.std.specs.List.{All}
 use Rattle.std.proofs.lemmas.List.{get_or-take, get_or-drop, take-take, get_or-replicate, get_or_past, length-take-le, length-take}
 use Rattle.std.proofs.lemmas.Bool.{cases_lt}
-use Rattle.merkle_branch.specs.Digests.{no_digest, height, root_of, top_digest}
+use Rattle.merkle_branch.specs.Digests.{IsDigest, no_digest, height, root_of, top_digest}
 use Rattle.merkle_branch.specs.Shapes.{IsPaddedTo16, HasAllLevels, HasParents, level_start}
 use Rattle.merkle_branch.proofs.Levels.{all_levels, digest_at-top}
 
@@ -43,6 +44,7 @@ built count h width digests nodes size padded some is_height is_width fits small
       some = some;
       few = padded.few;
       is_height = is_height;
+      leaves = subst (All IsDigest) (sym (same_view count width digests nodes same fits)) padded.taken;
       size = rw (← is_width) total;
       levels = all_levels (take count nodes) nodes h (subst (λ w. (p : ℕ) → p < w → get_or nodes p no_digest ≡ get_or (take count nodes) p no_digest) is_width leaves) (subst (λ w. HasParents w nodes) is_width parents);
     }

@@ -1,7 +1,8 @@
 -- A branch leads from one leaf of a tree to its root: the siblings on the way, from the bottom up.
-use Rattle.std.specs.Prelude.{◌≡◌, ◌≢◌, ℕ, ◌-◌, ◌/◌, ◌%◌, ◌==◌, if◌then◌else◌, List, [], ◌∷◌, ◌++◌, length, take, drop, replicate, Contains, ◌≤◌}
+use Rattle.std.specs.Prelude.{◌≡◌, ◌≢◌, ℕ, ◌-◌, ◌/◌, ◌%◌, ◌==◌, Bool, ◌&&◌, if◌then◌else◌, List, [], ◌∷◌, ◌++◌, length, take, drop, replicate, Contains, ◌≤◌, bytes_eq}
+use Rattle.std.specs.List.{AllByRecursion}
 use Rattle.sha2.specs.Sha256.{sha256}
-use Rattle.merkle_branch.specs.Digests.{no_digest, leaf_string, leaf_digest, inner_string, height, siblings_from}
+use Rattle.merkle_branch.specs.Digests.{IsDigest, no_digest, leaf_string, leaf_digest, inner_string, height, siblings_from}
 use Rattle.merkle_branch.specs.declared.Branch.{Branch}
 
 -- the digests that a branch has
@@ -32,6 +33,12 @@ pub record IsBranch (root : List ℕ) (n m : ℕ) (leaf : List ℕ) (branch : Br
   pub whole : length (siblings branch) ≡ height n
   pub folds : folded m (leaf_digest m leaf) (siblings branch) ≡ root
 
+-- whether it does
+unfoldable pub is_branch : List ℕ → ℕ → ℕ → List ℕ → Branch → Bool
+is_branch root n m leaf branch =
+    branch.len == height n && length (siblings branch) == height n
+    && bytes_eq (folded m (leaf_digest m leaf) (siblings branch)) root
+
 -- the branch of leaf m in the tree over these leaf digests
 abbrev pub branch_of : List (List ℕ) → ℕ → Branch
 branch_of digests m = record {
@@ -44,6 +51,12 @@ pub record IsPadded (branch : Branch) : Type 0 where
   pub len : branch.len ≤ 4
   pub entries : length branch.digests ≡ 4
   pub rest : drop branch.len branch.digests ≡ replicate (4 - branch.len) no_digest
+
+-- the form of a branch among n leaves: as many digests as the tree is high, and zero bytes behind them
+pub record IsPath (n : ℕ) (branch : Branch) : Type 0 where
+  pub len : branch.len ≡ height n
+  pub padded : IsPadded branch
+  pub digests : AllByRecursion IsDigest (siblings branch)
 
 -- two different strings, one of each list, that have one digest
 pub record Collision (first second : List (List ℕ)) : Type 0 where

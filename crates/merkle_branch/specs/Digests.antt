@@ -1,7 +1,12 @@
 -- Digests of a Merkle tree over SHA-256 (FIPS 180-4), with one byte in front that keeps leaves and
 -- inner nodes apart (RFC 6962, section 2.1) and the leaf's index behind it. Bytes are numbers below 256.
-use Rattle.std.specs.Prelude.{ℕ, zero, suc, ◌+◌, ◌-◌, ◌*◌, ◌/◌, ◌%◌, ◌^◌, ◌==◌, nat_le, if◌then◌else◌, List, [], ◌∷◌, ◌++◌, length, take, drop, replicate, slice_index_or}
+use Rattle.std.specs.Prelude.{◌≡◌, ℕ, zero, suc, ◌+◌, ◌-◌, ◌*◌, ◌/◌, ◌%◌, ◌^◌, ◌==◌, ◌<◌, nat_le, if◌then◌else◌, List, [], ◌∷◌, ◌++◌, length, take, drop, replicate, slice_index_or, All}
 use Rattle.sha2.specs.Sha256.{sha256}
+
+-- 32 bytes
+pub record IsDigest (digest : List ℕ) : Type 0 where
+  pub len : length digest ≡ 32
+  pub bytes : All (λ byte. byte < 256) digest
 
 -- the digest of a position that has no leaf
 abbrev pub no_digest : List ℕ
@@ -50,6 +55,22 @@ leaf_digests leaves = leaf_digests_from 0 leaves
 -- the root of the tree over these leaves
 abbrev pub tree_root : List (List ℕ) → List ℕ
 tree_root leaves = root_of (leaf_digests leaves)
+
+-- what is hashed for leaves that are numbered from m on
+abbrev pub leaf_strings_from : ℕ → List (List ℕ) → List (List ℕ)
+leaf_strings_from m [] = []
+leaf_strings_from m (leaf ∷ leaves) = leaf_string m leaf ∷ leaf_strings_from (suc m) leaves
+
+-- what is hashed for the inner nodes of a tree of height h over these leaf digests, those above padding alone too
+unfoldable pub inner_strings : ℕ → List (List ℕ) → List (List ℕ)
+inner_strings zero digests = []
+inner_strings (suc h) digests =
+    inner_string (top_digest h (take (2 ^ h) digests)) (top_digest h (drop (2 ^ h) digests))
+    ∷ (inner_strings h (take (2 ^ h) digests) ++ inner_strings h (drop (2 ^ h) digests))
+
+-- the strings that are hashed for the tree over these leaves
+abbrev pub tree_strings : List (List ℕ) → List (List ℕ)
+tree_strings leaves = leaf_strings_from 0 leaves ++ inner_strings (height (length leaves)) (leaf_digests leaves)
 
 -- the digest at position p of level l, where level 0 has the leaves: the top of the tree below it
 abbrev pub digest_at : List (List ℕ) → ℕ → ℕ → List ℕ

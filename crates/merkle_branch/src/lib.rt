@@ -2,18 +2,19 @@
 //! (CCS 2016, section 4.2, after Merkle).
 #![tactic(auto)]
 
-ghost use Rattle.std.specs.Prelude.{◌≡◌, ℕ, ◌+◌, ◌-◌, ◌^◌, ◌<◌, ◌≤◌, ◌↔◌, ◌⊎◌, List, [], ◌∷◌, ◌++◌, length, slice_index_or, IsTrue, IfOk};
-ghost use Rattle.merkle_branch.specs.Digests.{leaf_digest, inner_digest, leaf_digests, root_of, tree_root, height as height_of};
-ghost use Rattle.merkle_branch.specs.declared.Branch.{Branch};
-ghost use Rattle.merkle_branch.specs.Branches.{IsBranch, IsPadded, Collision, branch_of, folded, folded_strings, parent_string};
+ghost use Rattle.std.specs.Prelude.{◌≡◌, ℕ, ◌^◌, ◌<◌, ◌≤◌, ◌↔◌, List, IsTrue};
+ghost use Rattle.merkle_branch.specs.Digests.{leaf_digest, inner_digest, height as height_of};
+ghost use Rattle.merkle_branch.specs.Branches.{IsBranch, is_branch as has_branch, folded, parent_string};
 ghost use Rattle.sha2.specs.Sha256.{sha256};
 
 use sha2::{Digest, Sha256};
 
+mod laws;
 #[cfg(test)]
 mod tests;
 mod tree;
 
+pub use laws::{branch_laws, branches_bind, trees_bind};
 pub use tree::{Leaves, Tree};
 
 /// The most leaves of a tree.
@@ -97,7 +98,8 @@ fn fold(mut position: u8, mut digest: [u8; 32], siblings: &[[u8; 32]]) -> [u8; 3
 pub fn is_branch(root: &[u8; 32], n: u8, m: u8, leaf: &[u8], branch: &Branch) -> bool
     requires leaf { m < n }
     requires few { n ≤ 16 }
-    ensures { IsTrue result ↔ IsBranch root.now n m leaf.now branch.now }
+    ensures exact { result ≡ has_branch root.now n m leaf.now branch.now }
+    ensures leads { IsTrue result ↔ IsBranch root.now n m leaf.now branch.now }
 {
     branch.len == height(n)
         && fold(
@@ -106,9 +108,3 @@ pub fn is_branch(root: &[u8; 32], n: u8, m: u8, leaf: &[u8], branch: &Branch) ->
             &branch.digests[..branch.len as usize],
         ) == *root
 }
-
-/// Two branches of one root and index prove one leaf, unless among the strings that are hashed to
-/// check them there are two different ones with one digest.
-pub fn branches_bind()
-    ensures { (root : List ℕ) (n m : ℕ) (first second : List ℕ) (b c : Branch) → IsBranch root n m first b → IsBranch root n m second c → (first ≡ second) ⊎ Collision (folded_strings m first b) (folded_strings m second c) }
-{}

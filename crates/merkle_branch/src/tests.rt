@@ -1,6 +1,9 @@
 //! Trees over the first bytes of a text, against digests that Python's hashlib gave.
 
+ghost use Rattle.std.specs.Prelude.{IfOk, IsTrue};
+
 use super::*;
+use std::alloc::{AllocError, Global};
 use std::test::*;
 
 // Leaf m is the first m + 1 bytes.
@@ -97,6 +100,17 @@ fn leaves_of(n: u8) -> Leaves {
     leaves
 }
 
+// What a caller may rest on: the branch that a tree of two leaves gives is accepted.
+fn is_accepted(alloc: Global, first: &[u8], second: &[u8]) -> Result<bool, AllocError>
+    ensures { IfOk result IsTrue }
+{
+    let mut leaves = Leaves::new();
+    leaves.add(first);
+    leaves.add(second);
+    let tree = Tree::build(alloc, &leaves)?;
+    Ok(is_branch(&tree.root(), 2, 1, second, &tree.branch(1)))
+}
+
 #[test]
 fn roots(rt: HostRuntime) -> Result<(), Fail> {
     for (n, root) in ROOTS {
@@ -111,6 +125,7 @@ fn roots(rt: HostRuntime) -> Result<(), Fail> {
 
 #[test]
 fn branches(rt: HostRuntime) -> Result<(), Fail> {
+    assert!(rt; is_accepted(rt.alloc(), b"a", b"ab")?);
     for (n, m, siblings) in BRANCHES {
         let leaves = leaves_of(n);
         assert!(rt; m < leaves.len() && n <= 16 && m < n);

@@ -2,7 +2,7 @@
 
 ghost use Rattle.std.specs.Prelude.{◌≡◌, ℕ, ◌+◌, ◌-◌, ◌*◌, ◌^◌, ◌<◌, ◌≤◌, List, [], ◌∷◌, ◌++◌, length, take, drop, replicate, slice_index_or, OnOk, IfOk, IsTrue, ◌↔◌};
 ghost use Rattle.merkle_branch.specs.Digests.{no_digest, leaf_digest, leaf_digests, root_of, tree_root, height as height_of, sibling, siblings_from};
-ghost use Rattle.merkle_branch.specs.Branches.{IsBranch, IsPadded, branch_of};
+ghost use Rattle.merkle_branch.specs.Branches.{IsBranch, IsPath, branch_of};
 ghost use Rattle.merkle_branch.specs.Shapes.{IsPaddedTo16, HasAllLevels, HasParents};
 
 use crate::{Branch, MAX_HEIGHT, MAX_LEAVES, hash_inner, hash_leaf, height};
@@ -154,10 +154,11 @@ impl Tree {
     pub fn branch(&self, m: u8) -> Branch
         requires { m < length self.now }
         ensures exact { result ≡ branch_of self.now m }
-        ensures padded { IsPadded result }
+        ensures path { IsPath (length self.now) result }
 
         // It leads from leaf m of the tree's leaves to its root.
-        ensures valid { (leaves : List (List ℕ)) → self.now ≡ leaf_digests leaves → IsBranch (tree_root leaves) (length leaves) m (slice_index_or leaves m []) result }
+        ensures valid { (leaves : List (List ℕ)) → self.now ≡ leaf_digests leaves
+            → IsBranch (tree_root leaves) (length leaves) m (slice_index_or leaves m []) result }
     {
         let mut digests = [[0; 32]; MAX_HEIGHT];
         let mut position = m as usize;

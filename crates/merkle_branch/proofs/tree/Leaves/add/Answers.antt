@@ -1,11 +1,14 @@
-use Rattle.std.proofs.Common.{◌∙◌}
+use Rattle.std.proofs.Common.{◌∙◌, subst, sym}
+use Rattle.merkle_branch.specs.Digests.{IsDigest, leaf_string}
+use Rattle.merkle_branch.proofs.Paths.{is_digest}
 use Rattle.merkle_branch.proofs.LeavesLemmas.{one_taken, one_shown, leaf_digests-push}
 use Rattle.merkle_branch.proofs.tree.Leaves.add.Goals as goal
 
 pub invariant_of-self : goal.invariant_of-self
 invariant_of-self c =
     let a = c.self.inside in
-    one_taken a.count a.digests c.args.self.now c.hash_leaf.result c.self.told c.self.view_is c.requires c.self.invariant
+    one_taken a.count a.digests c.args.self.now c.hash_leaf.result c.self.told c.self.view_is c.requires
+    (subst IsDigest (sym c.hash_leaf.ensures) (is_digest (leaf_string a.count c.args.leaf.now))) c.self.invariant
 
 pub returns-clause-digest : goal.returns-clause-digest
 returns-clause-digest c =

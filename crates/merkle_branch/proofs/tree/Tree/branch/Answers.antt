@@ -1,10 +1,12 @@
-use Rattle.std.proofs.Common.{◌≡◌, ◌<◌, ◌≤◌, ◌+◌, ◌^◌, ◌∙◌, ap, sym, length, ◌*◌, take, List, ℕ, get_or, arith, refl}
+use Rattle.std.proofs.Common.{◌≡◌, ◌<◌, ◌≤◌, ◌+◌, ◌^◌, ◌∙◌, ap, sym, subst, length, ◌*◌, take, List, ℕ, get_or, arith, refl}
+use Rattle.std.specs.List.{All}
 use Rattle.std.proofs.lemmas.List.{get_or_read, length-take-le}
-use Rattle.merkle_branch.specs.Digests.{no_digest, height, leaf_digests, sibling, digest_at}
+use Rattle.merkle_branch.specs.Digests.{IsDigest, no_digest, height, leaf_digests, sibling, digest_at}
 use Rattle.merkle_branch.specs.Branches.{branch_of}
 use Rattle.merkle_branch.proofs.HeightLemmas.{height_low, height_fits}
 use Rattle.merkle_branch.proofs.Climbing.{climb_begins, climb_goes_on, climb_ends, sibling_at, place_inside}
-use Rattle.merkle_branch.proofs.BranchLemmas.{with_digests, branch_made, branch_padded, branch_valid}
+use Rattle.merkle_branch.proofs.BranchLemmas.{with_digests, branch_made, branch_valid}
+use Rattle.merkle_branch.proofs.Paths.{path_of}
 use Rattle.merkle_branch.proofs.tree.Tree.branch.Goals as goal
 use Rattle.merkle_branch.proofs.tree.Tree.branch.Goals.{After-loop-level}
 use Rattle.merkle_branch.specs.Shapes.{HasAllLevels}
@@ -71,8 +73,10 @@ made c =
 pub returns-clause-exact : goal.returns-clause-exact
 returns-clause-exact c = made c
 
-pub returns-clause-padded : goal.returns-clause-padded
-returns-clause-padded c = let is = made c in rw is (branch_padded c.args.self.now c.args.m)
+pub returns-clause-path : goal.returns-clause-path
+returns-clause-path c =
+    let is = made c in
+    rw is (path_of c.args.self.now c.args.m (subst (All IsDigest) c.self.view_is c.self.invariant.leaves))
 
 pub returns-clause-valid : goal.returns-clause-valid
 returns-clause-valid c = λ leaves held.
