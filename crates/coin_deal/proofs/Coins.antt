@@ -8,13 +8,14 @@ use Rattle.gf_field.specs.Polynomial.{polynomial_at}
 use Rattle.merkle_branch.specs.Digests.{tree_root, leaf_digests}
 use Rattle.hb_base.specs.Numbers.{Numbers}
 use Rattle.coin_deal.specs.Deal.{coefficients, salt, coin_leaf, coin_leaves, coin_root, coin_words}
-use Rattle.coin_deal.specs.Drawing.{words_from, moved_by, next_bytes, next_fours}
+use Rattle.seed_words.specs.Words.{words_from, moved_by}
+use Rattle.coin_deal.specs.Drawing.{next_bytes, next_fours}
 use Rattle.coin_deal.specs.Holding.{coin_number, coin_count, coin_salts, leaves_with, HoldsAllCoins}
 use Rattle.coin_deal.proofs.Blocks.{block_within, block_kept, block_last}
 
 -- the generator where the words of coin k begin, and what is drawn there
 abbrev pub start : Numbers → ℕ → ChaCha
-start c k = words_from c.seed (k * coin_words c)
+start c k = words_from c.seed 0 (k * coin_words c)
 
 abbrev pub coefficients_by : Numbers → ℕ → List ℕ
 coefficients_by c k = next_bytes (start c k) (c.f + 1)
@@ -98,7 +99,7 @@ held c now cs salts roots e h = subst (λ c. HoldsAllCoins c cs salts roots) e h
 
 -- the words of one coin end where those of the next one begin
 pub start_next : (c : Numbers) (k : ℕ) → moved_by (moved_by (start c k) (c.f + 1)) (4 * c.n) ≡ start c (k + 1)
-start_next c k = let next : k * coin_words c + (c.f + 1) + 4 * c.n ≡ (k + 1) * coin_words c = omega arith in ap (words_from c.seed) next
+start_next c k = let next : k * coin_words c + (c.f + 1) + 4 * c.n ≡ (k + 1) * coin_words c = omega arith in ap (words_from c.seed 0) next
 
 -- what is drawn there
 pub drawn_coefficients : (c : Numbers) (k width : ℕ) (words : ChaCha) (old new : List ℕ) → words ≡ start c k → width ≡ c.f + 1

@@ -4,7 +4,8 @@ use Rattle.std.proofs.lemmas.List.{get_or-map, get_or_default, length-append, le
 use Rattle.std.proofs.lemmas.List.Elements.{All-from_recursion, recursion_from_All, All-from_get_or}
 use Rattle.std.specs.List.{All}
 use Rattle.gf_field.specs.Polynomial.{polynomial_at, AreBytes, AreDistinct, Interpolates}
-use Rattle.gf_field.proofs.Interpolation.{interpolation_to, interpolation-interpolates}
+use Rattle.gf_field.specs.Interpolation.{interpolation_to}
+use Rattle.gf_field.proofs.Interpolation.{interpolation-interpolates}
 use Rattle.gf_field.proofs.Polynomials.{Bytes}
 use Rattle.gf_field.proofs.Roots.{coefficients_agree}
 use Rattle.coin_deal.specs.declared.others.NodeShare.{NodeShare}

@@ -2,23 +2,23 @@
 -- (Shamir, How to Share a Secret, CACM 1979), and its share of each node is a leaf of a Merkle tree whose root is
 -- published. All that is drawn are words of the key stream of ChaCha20 (RFC 8439).
 -- Letters: c is the numbers of a run, e an epoch, j a lane, r a round, m a node.
-use Rattle.std.specs.Prelude.{ℕ, ◌+◌, ◌*◌, ◌%◌, ◌==◌, Bool, List, ◌∷◌, ◌++◌, map, replicate}
-use Rattle.std.specs.Int.{w32, w64, to_le_bytes, to_be_bytes}
+use Rattle.std.specs.Prelude.{ℕ, ◌<◌, ◌+◌, ◌*◌, ◌%◌, ◌==◌, Bool, List, ◌∷◌, ◌++◌, map}
+use Rattle.std.specs.Int.{w32, to_le_bytes}
 use Rattle.std.specs.List.{range_with_len}
-use Rattle.rand_chacha.specs.ChaCha.{word_at, key_of}
+use Rattle.seed_words.specs.Words.{word}
 use Rattle.gf_field.specs.Polynomial.{polynomial_at}
-use Rattle.merkle_branch.specs.declared.Branch.{Branch}
 use Rattle.merkle_branch.specs.Digests.{tree_root}
-use Rattle.merkle_branch.specs.Branches.{IsBranch}
 use Rattle.hb_base.specs.Numbers.{Numbers}
 
--- the bytes of the key that a seed gives: its own eight, the highest first, and zero bytes
-abbrev pub seed_bytes : ℕ → List ℕ
-seed_bytes seed = to_be_bytes w64 seed ++ replicate 24 0
+-- a coin of the run
+pub record IsCoin (c : Numbers) (e j r : ℕ) : Type 0 where
+  pub epoch : e < c.epochs
+  pub lane : j < c.n
+  pub round : r < c.rounds
 
--- the word at a place of stream 0 under this key
+-- the word of the seed at a place; zero bytes fill the key
 abbrev pub dealt_word : ℕ → ℕ → ℕ
-dealt_word seed place = word_at 10 (key_of (seed_bytes seed)) 0 place
+dealt_word seed place = word seed 0 place
 
 -- how many words a coin takes: one for each coefficient, and four for the salt of each node
 abbrev pub coin_words : Numbers → ℕ
@@ -63,7 +63,3 @@ coin_of secret = secret % 2 == 1
 -- the secret is the polynomial's value at 0, and the coin is its low bit
 abbrev pub dealt_coin : Numbers → ℕ → ℕ → ℕ → Bool
 dealt_coin c e j r = coin_of (polynomial_at (coefficients c e j r) 0)
-
--- a share of a node that leads to the published root
-abbrev pub IsGoodShare : Numbers → ℕ → ℕ → ℕ → ℕ → ℕ → List ℕ → Branch → Type 0
-IsGoodShare c e j r m share salt branch = IsBranch (coin_root c e j r) c.n m (share ∷ salt) branch

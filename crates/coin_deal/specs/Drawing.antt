@@ -2,20 +2,8 @@
 use Rattle.std.specs.Prelude.{ℕ, ◌+◌, ◌*◌, ◌%◌, List, ◌++◌, map}
 use Rattle.std.specs.Int.{w32, to_le_bytes}
 use Rattle.std.specs.List.{range_with_len}
-use Rattle.rand_chacha.specs.ChaCha.{ChaCha, word_at, key_of}
-use Rattle.coin_deal.specs.Deal.{seed_bytes}
-
--- the generator of stream 0 of this seed, at a place
-abbrev pub words_from : ℕ → ℕ → ChaCha
-words_from seed place = record { key = key_of (seed_bytes seed); stream = 0; word_pos = place }
-
--- the same generator, so many words on
-abbrev pub moved_by : ChaCha → ℕ → ChaCha
-moved_by g count = record g { word_pos = g.word_pos + count }
-
--- the word at a place of its stream
-abbrev pub word_of : ChaCha → ℕ → ℕ
-word_of g place = word_at 10 g.key g.stream place
+use Rattle.rand_chacha.specs.ChaCha.{ChaCha}
+use Rattle.seed_words.specs.Words.{word_of}
 
 -- the low bytes of the next words
 abbrev pub next_bytes : ChaCha → ℕ → List ℕ

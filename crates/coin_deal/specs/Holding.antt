@@ -1,15 +1,9 @@
 -- What a deal keeps: lists in which the coins lie one behind the other.
-use Rattle.std.specs.Prelude.{◌≡◌, ℕ, ◌+◌, ◌*◌, ◌<◌, List, [], ◌∷◌, length, take, drop, map, slice_index_or}
+use Rattle.std.specs.Prelude.{◌≡◌, ℕ, ◌+◌, ◌*◌, List, [], ◌∷◌, length, take, drop, map, slice_index_or}
 use Rattle.std.specs.List.{range_with_len}
 use Rattle.gf_field.specs.Polynomial.{polynomial_at}
 use Rattle.hb_base.specs.Numbers.{Numbers}
-use Rattle.coin_deal.specs.Deal.{coefficients, salt, coin_root}
-
--- a coin of the run
-pub record IsCoin (c : Numbers) (e j r : ℕ) : Type 0 where
-  pub epoch : e < c.epochs
-  pub lane : j < c.n
-  pub round : r < c.rounds
+use Rattle.coin_deal.specs.Deal.{IsCoin, coefficients, salt, coin_root}
 
 -- how many coins stand before it, and how many there are
 abbrev pub coin_number : Numbers → ℕ → ℕ → ℕ → ℕ

@@ -4,8 +4,9 @@ ghost use Rattle.std.specs.Prelude.{◌≡◌, IfOk};
 
 use crate::dealt::Deal;
 use crate::leaves::root_over;
-use crate::words::{draw_bytes, draw_salts, words_of};
+use crate::words::{draw_bytes, draw_salts};
 use hb_base::Config;
+use seed_words::words_of;
 use std::alloc::{AllocError, Global};
 
 /// All coins of the run with these numbers, drawn from its seed in one pass over the words.
@@ -15,7 +16,7 @@ pub fn deal(alloc: Global, config: &Config) -> Result<Deal, AllocError>
     let n = config.n() as usize;
     let width = config.f() as usize + 1;
     let count = config.epochs() as usize * n * config.rounds() as usize;
-    let mut words = words_of(config.seed());
+    let mut words = words_of(config.seed(), 0);
     let mut coefficients = Vec::with_capacity(alloc, count * width)?;
     let mut salts = Vec::with_capacity(alloc, count * n)?;
     let mut roots = Vec::with_capacity(alloc, count)?;

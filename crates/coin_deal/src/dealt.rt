@@ -1,10 +1,12 @@
 //! What a deal gives: roots, and the shares of the nodes.
 
 ghost use Rattle.std.specs.Prelude.{◌≡◌, ◌+◌, ◌*◌, ◌<◌, ◌≤◌, IfOk, length};
+ghost use Rattle.hb_base.specs.Limits.{most_nodes};
 ghost use Rattle.hb_base.specs.Numbers.{Numbers};
 ghost use Rattle.merkle_branch.specs.Digests.{leaf_digests};
 ghost use Rattle.merkle_branch.specs.Branches.{branch_of};
-ghost use Rattle.coin_deal.specs.Deal.{coefficients as dealt_coefficients, salt as dealt_salt, share as dealt_share, coin_leaves, coin_root, dealt_coin, IsGoodShare};
+ghost use Rattle.coin_deal.specs.Deal.{coefficients as dealt_coefficients, salt as dealt_salt, share as dealt_share, coin_leaves, coin_root, dealt_coin};
+ghost use Rattle.coin_deal.specs.Heard.{heard_share, IsGoodShare, HasForm};
 ghost use Rattle.coin_deal.specs.Holding.{coin_number, coin_count, coin_salts};
 
 use crate::leaves::{leaves_of, share_at};
@@ -83,6 +85,7 @@ impl Deal {
         ensures salt { IfOk result (λ dealt. dealt.salt ≡ dealt_salt self.now e j r m) }
         ensures branch { IfOk result (λ dealt. dealt.branch ≡ branch_of (leaf_digests (coin_leaves self.now e j r)) m) }
         ensures good { IfOk result (λ dealt. IsGoodShare self.now e j r m dealt.share dealt.salt dealt.branch) }
+        ensures form { IfOk result (λ dealt. HasForm self.now.n (heard_share m dealt.share dealt.salt dealt.branch)) }
     {
         let coefficients = self.coefficients_of(e, j, r);
         let salts = self.salts_of(e, j, r);
@@ -113,7 +116,7 @@ impl Deal {
         requires round { r < self.now.rounds }
         ensures exact { result.now ≡ coin_salts self.now e j r }
         ensures count { length result.now ≡ self.now.n }
-        ensures few { self.now.n ≤ 16 }
+        ensures few { self.now.n ≤ most_nodes }
     {
         let n = self.config.n() as usize;
         let start = self.number_of(e, j, r) * n;

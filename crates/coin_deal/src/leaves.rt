@@ -1,6 +1,7 @@
 //! The leaves of a coin's tree.
 
 ghost use Rattle.std.specs.Prelude.{◌≡◌, ◌+◌, ◌<◌, ◌≤◌, ◌∷◌, length, IfOk};
+ghost use Rattle.hb_base.specs.Limits.{most_nodes};
 ghost use Rattle.gf_field.specs.Polynomial.{polynomial_at};
 ghost use Rattle.merkle_branch.specs.Digests.{leaf_digests, tree_root};
 ghost use Rattle.coin_deal.specs.Holding.{leaves_with};
@@ -10,16 +11,16 @@ use merkle_branch::{Leaves, Tree};
 use std::alloc::{AllocError, Global};
 
 /// The share of node m: the value at m + 1.
-pub fn share_at(coefficients: &[u8], m: u8) -> u8
-    requires { m < 16 }
+pub(crate) fn share_at(coefficients: &[u8], m: u8) -> u8
+    requires { m < most_nodes }
     ensures { result ≡ polynomial_at coefficients.now (m + 1) }
 {
     eval(coefficients, m + 1)
 }
 
 /// The leaves of all nodes, one for each salt.
-pub fn leaves_of(coefficients: &[u8], salts: &[[u8; 16]]) -> Leaves
-    requires { length salts.now ≤ 16 }
+pub(crate) fn leaves_of(coefficients: &[u8], salts: &[[u8; 16]]) -> Leaves
+    requires { length salts.now ≤ most_nodes }
     ensures { result ≡ leaf_digests (leaves_with coefficients.now salts.now) }
 {
     let mut leaves = Leaves::new();
@@ -30,13 +31,13 @@ pub fn leaves_of(coefficients: &[u8], salts: &[[u8; 16]]) -> Leaves
 }
 
 /// The root of the tree over these leaves.
-pub fn root_over(
+pub(crate) fn root_over(
     alloc: Global,
     coefficients: &[u8],
     salts: &[[u8; 16]],
 ) -> Result<[u8; 32], AllocError>
     requires some { 1 ≤ length salts.now }
-    requires few { length salts.now ≤ 16 }
+    requires few { length salts.now ≤ most_nodes }
     ensures { IfOk result (λ root. root ≡ tree_root (leaves_with coefficients.now salts.now)) }
 {
     let tree = Tree::build(alloc, &leaves_of(coefficients, salts))?;

@@ -12,7 +12,7 @@ mod words;
 
 pub use dealing::deal;
 pub use dealt::{Deal, DealtShare};
-pub use laws::sharing_laws;
+pub use laws::{coin_laws, share_laws, sharing_laws};
 pub use leaves::leaf_of;
 pub use others::{NodeShare, others_fit};
 

@@ -1,6 +1,7 @@
 //! What f shares leave open.
 
 ghost use Rattle.std.specs.Prelude.{◌≡◌, ◌≢◌, ℕ, ◌+◌, ◌<◌, ◌≤◌, List, length, IfOk, slice_index};
+ghost use Rattle.hb_base.specs.Limits.{most_faulty};
 ghost use Rattle.gf_field.specs.Field.{field_sum, field_product};
 ghost use Rattle.coin_deal.specs.Sharing.{AreOfDistinctNodes, HasShares};
 
@@ -23,7 +24,7 @@ pub fn others_fit(
     shares: &[NodeShare],
     secret: u8,
 ) -> Result<Vec<u8>, AllocError>
-    requires few { f ≤ 5 }
+    requires few { f ≤ most_faulty }
     requires count { length shares.now ≡ f }
     requires apart { AreOfDistinctNodes shares.now }
     ensures has { IfOk result (λ cs. HasShares f shares.now secret cs.items) }
@@ -53,7 +54,8 @@ fn take_lowest(values: &mut [u8], points: &[u8], lowest: u8)
     requires same_length { length values.old ≡ length points.now }
     requires some { (i : ℕ) → i < length points.now → 0 < slice_index points.now i }
     ensures bytes { (i : ℕ) → i < length points.now → slice_index values.new i < 256 }
-    ensures divided { (i : ℕ) → i < length points.now → field_product (slice_index points.now i) (slice_index values.new i) ≡ field_sum (slice_index values.old i) lowest }
+    ensures divided { (i : ℕ) → i < length points.now
+        → field_product (slice_index points.now i) (slice_index values.new i) ≡ field_sum (slice_index values.old i) lowest }
 {
     for i in 0..values.len() {
         values[i] = mul(add(values[i], lowest), inv(points[i]));

@@ -1,24 +1,15 @@
 //! The words of a run, read one after another from the key stream of its seed.
 
 ghost use Rattle.std.specs.Prelude.{◌≡◌, ◌+◌, ◌*◌, ◌%◌, ◌^◌, ◌<◌, ◌++◌, OnOk};
-ghost use Rattle.coin_deal.specs.Drawing.{words_from, moved_by, word_of, next_bytes, four_words, next_fours};
+ghost use Rattle.seed_words.specs.Words.{moved_by};
+ghost use Rattle.coin_deal.specs.Drawing.{next_bytes, four_words, next_fours};
 
 use rand_chacha::ChaCha20Rng;
-use rand_core::SeedableRng;
-use rand_core::utils::NextWord;
+use seed_words::next_word;
 use std::alloc::AllocError;
 
-/// The words of this seed, from place 0 on.
-pub fn words_of(seed: u64) -> ChaCha20Rng
-    ensures { result ≡ words_from seed 0 }
-{
-    let mut key = [0; 32];
-    key[..8].copy_from_slice(&seed.to_be_bytes());
-    ChaCha20Rng::from_seed(key)
-}
-
 /// Draws so many bytes, each the low byte of a word, and puts them behind the others.
-pub fn draw_bytes(
+pub(crate) fn draw_bytes(
     words: &mut ChaCha20Rng,
     count: usize,
     bytes: &mut Vec<u8>,
@@ -34,7 +25,7 @@ pub fn draw_bytes(
 }
 
 /// Draws so many salts of four words each, and puts them behind the others.
-pub fn draw_salts(
+pub(crate) fn draw_salts(
     words: &mut ChaCha20Rng,
     count: usize,
     salts: &mut Vec<[u8; 16]>,
@@ -61,13 +52,4 @@ fn next_salt(words: &mut ChaCha20Rng) -> [u8; 16]
     salt[8..12].copy_from_slice(&next_word(words).to_le_bytes());
     salt[12..].copy_from_slice(&next_word(words).to_le_bytes());
     salt
-}
-
-/// The next word.
-fn next_word(words: &mut ChaCha20Rng) -> u32
-    requires { words.old.word_pos + 1 < 2 ^ 68 }
-    ensures word { result ≡ word_of words.old words.old.word_pos }
-    ensures moved { words.new ≡ moved_by words.old 1 }
-{
-    words.next_word()
 }

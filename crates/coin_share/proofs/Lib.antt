@@ -1,4 +1,2 @@
 pub mod Adding
 pub mod Deciding
-pub mod Weighted
-pub mod Dealt

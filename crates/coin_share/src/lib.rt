@@ -2,24 +2,29 @@
 //! of them give the coin (Rabin, Randomized Byzantine Generals, FOCS 1983; Shamir, How to Share a Secret, CACM 1979).
 #![tactic(auto)]
 
-ghost use Rattle.std.specs.Prelude.{◌≡◌, ◌≢◌, ℕ, ◌+◌, ◌*◌, ◌<◌, ◌≤◌, ◌==◌, ◌↔◌, ◌⊎◌, true, false, List, [], ◌∷◌, ◌++◌, length, IfSome, All, Any, None};
+ghost use Rattle.std.specs.Prelude.{◌≡◌, ◌≢◌, ℕ, ◌+◌, ◌*◌, ◌<◌, ◌≤◌, ◌==◌, ◌↔◌, ◌⊎◌, true, false, List, [], ◌∷◌, length, IfSome, All, Any, None};
 ghost use Rattle.std.specs.List.{list_any};
+ghost use Rattle.hb_base.specs.Limits.{most_nodes};
 ghost use Rattle.hb_base.specs.Numbers.{Numbers};
 ghost use Rattle.gf_field.specs.Polynomial.{polynomial_at, AreDistinct, Interpolates, AreWeightsAt, sum_of_products};
-ghost use Rattle.coin_deal.specs.Deal.{coin_of, dealt_coin, IsGoodShare};
-ghost use Rattle.coin_share.specs.Shares.{has_share_of, added_share, with_share, IsGood, AreGood, added_of, points, values, deciding, IsCoinOf, IsOfCoin, Collides};
+ghost use Rattle.coin_deal.specs.Deal.{coin_of, dealt_coin};
+ghost use Rattle.coin_deal.specs.Heard.{heard_share, has_share_of, IsGood, AreGood, IsGoodShare, points, values, polynomial_through, coin_through, IsCoinOf, Collides};
+ghost use Rattle.coin_share.specs.Shares.{with_share, with_offered, added_of, deciding, IsOfCoin};
 
 use coin_deal::leaf_of;
 use gf_field::interpolate_at;
-use merkle_branch::{Branch, MAX_HEIGHT, MAX_LEAVES, is_branch};
+use hb_base::limits::{MOST_FAULTY, MOST_NODES};
+use merkle_branch::{Branch, MAX_HEIGHT, is_branch};
 use std::marker::Model;
 use std::snapshot::Snapshot;
 
 #[cfg(test)]
 mod tests;
 
-// The most shares that make a coin: f + 1 with 16 nodes.
-const MAX_DECIDING: usize = 6;
+// The most shares that are kept, one of each node, and the most that make a coin, f + 1.
+const MOST_SHARES: usize = MOST_NODES as usize;
+
+const MOST_DECIDING: usize = MOST_FAULTY as usize + 1;
 
 /// What becomes of a share that is offered.
 #[derive(Clone, Copy, Debug, PartialEq, Eq)]
@@ -41,7 +46,7 @@ pub struct Shares {
 
     // How many were added. Entries from there on mean nothing.
     count: u8,
-    kept: [KeptShare; MAX_LEAVES],
+    kept: [KeptShare; MOST_SHARES],
 }
 
 impl Model for Shares {
@@ -67,7 +72,7 @@ struct KeptShare {
 impl Shares {
     /// No share yet of the coin with this published root, among n nodes of which at most f lie.
     pub fn new(n: u8, f: u8, root: [u8; 32]) -> Shares
-        requires few { n ≤ 16 }
+        requires few { n ≤ most_nodes }
         requires enough { 3 * f < n }
         ensures { result ≡ record { n = n; f = f; root = root; added = [] } }
     {
@@ -86,12 +91,15 @@ impl Shares {
     pub fn offer(&mut self, m: u8, share: u8, salt: &[u8; 16], branch: &Branch) -> Offer
         requires { m < self.old.n }
         ensures known { (result ≡ Offer.Known) ↔ (has_share_of self.old.added m ≡ true) }
-        ensures wrong { (result ≡ Offer.Wrong) ↔ ((has_share_of self.old.added m ≡ false) × (IsGood self.old.root self.old.n (added_share m share salt.now branch.now) → ⊥)) }
-        ensures added { (result ≡ Offer.Added) ↔ ((has_share_of self.old.added m ≡ false) × IsGood self.old.root self.old.n (added_share m share salt.now branch.now)) }
-        ensures adds { result ≡ Offer.Added → self.new ≡ with_share self.old (added_share m share salt.now branch.now) }
+        ensures wrong { (result ≡ Offer.Wrong)
+            ↔ ((has_share_of self.old.added m ≡ false) × (IsGood self.old.root self.old.n (heard_share m share salt.now branch.now) → ⊥)) }
+        ensures added { (result ≡ Offer.Added)
+            ↔ ((has_share_of self.old.added m ≡ false) × IsGood self.old.root self.old.n (heard_share m share salt.now branch.now)) }
+        ensures exact { self.new ≡ with_offered self.old (heard_share m share salt.now branch.now) }
+        ensures adds { result ≡ Offer.Added → self.new ≡ with_share self.old (heard_share m share salt.now branch.now) }
         ensures same { result ≢ Offer.Added → self.new ≡ self.old }
         ensures stays { (self.new.n ≡ self.old.n) × (self.new.f ≡ self.old.f) × (self.new.root ≡ self.old.root) }
-        ensures good { AreGood self.new }
+        ensures good { AreGood self.new.root self.new.n self.new.added }
 
         // At the published root of a dealt coin a good share in the sense of the deal is good, and no other.
         ensures dealt { (c : Numbers) (e j r : ℕ) → IsOfCoin self.old c e j r → has_share_of self.old.added m ≡ false
@@ -112,7 +120,8 @@ impl Shares {
     /// polynomial of degree at most f through the first f + 1 shares added.
     pub fn coin(&self) -> Option<bool>
         ensures few { (result ≡ None) ↔ (length self.now.added ≤ self.now.f) }
-        ensures value { IfSome result (λ coin. IsCoinOf (deciding self.now) coin) }
+        ensures value { IfSome result (λ coin. coin ≡ coin_through (deciding self.now)) }
+        ensures polynomial { IfSome result (λ coin. IsCoinOf (deciding self.now) coin) }
 
         // It is the sum of the shares, each times its weight.
         ensures weighted { (weights : List ℕ) → length weights ≡ self.now.f + 1 → AreWeightsAt 0 (points (deciding self.now)) weights
@@ -132,8 +141,8 @@ impl Shares {
     // Adds a good share of a node that has none yet.
     fn keep(&mut self, m: u8, share: u8, salt: &[u8; 16], branch: &Branch)
         requires first { has_share_of self.old.added m ≡ false }
-        requires good { IsGood self.old.root self.old.n (added_share m share salt.now branch.now) }
-        ensures { self.new ≡ with_share self.old (added_share m share salt.now branch.now) }
+        requires good { IsGood self.old.root self.old.n (heard_share m share salt.now branch.now) }
+        ensures { self.new ≡ with_share self.old (heard_share m share salt.now branch.now) }
     {
         self.kept[self.count as usize] = KeptShare {
             node: m,
@@ -161,14 +170,14 @@ fn has_node(kept: &[KeptShare], m: u8) -> bool
 
 // The value at 0 of the polynomial through these shares.
 fn secret(shares: &[KeptShare]) -> u8
-    requires few { length shares.now ≤ MAX_DECIDING }
-    requires nodes { All (λ k. k.node < MAX_LEAVES) shares.now }
+    requires few { length shares.now ≤ MOST_DECIDING }
+    requires nodes { All (λ k. k.node < most_nodes) shares.now }
     requires distinct { AreDistinct (points (added_of shares.now)) }
-    ensures exists { (cs : List ℕ) × Interpolates (points (added_of shares.now)) (values (added_of shares.now)) cs }
-    ensures value { (cs : List ℕ) → Interpolates (points (added_of shares.now)) (values (added_of shares.now)) cs → result ≡ polynomial_at cs 0 }
+    ensures through { Interpolates (points (added_of shares.now)) (values (added_of shares.now)) (polynomial_through (added_of shares.now)) }
+    ensures value { result ≡ polynomial_at (polynomial_through (added_of shares.now)) 0 }
 {
-    let mut points = [0; MAX_DECIDING];
-    let mut values = [0; MAX_DECIDING];
+    let mut points = [0; MOST_DECIDING];
+    let mut values = [0; MOST_DECIDING];
     for (i, share) in shares.iter().enumerate() {
         points[i] = share.node + 1;
         values[i] = share.share;

@@ -1,9 +1,16 @@
 //! Shares of small deals. Keys, polynomials, salts and roots were worked out with Python's integers and hashlib.
 
-ghost use Rattle.std.specs.Prelude.{◌≡◌, ◌<◌, length};
+ghost use Rattle.std.specs.Prelude.{◌≡◌, ◌*◌, ◌<◌, ◌≤◌, ◌⊎◌, [], false, length, IfOk, IsSome, IfSome, Any};
+ghost use Rattle.coin_deal.specs.Deal.{dealt_coin};
+ghost use Rattle.coin_deal.specs.Heard.{HeardShare, has_share_of, Collides};
+ghost use Rattle.coin_share.specs.Shares.{with_share, deciding, IsOfCoin};
 
 use super::*;
+use coin_deal::{Deal, DealtShare, deal};
+use hb_base::{Config, NodeSet};
 use merkle_branch::{Leaves, Tree};
+use std::alloc::{AllocError, Global};
+use std::process::Abort;
 use std::test::*;
 
 // Seed 0, four nodes, f = 1, the first coin: its polynomial is 0x76 + 0xA0 x.
@@ -60,67 +67,82 @@ const DEALS: [(u8, bool, &[u8]); 6] = [
     ),
 ];
 
+// Offers in turn: the node, the share, whose salt and whose branch it comes with, the answer, and the coin after it.
+const OFFERS: [(u8, u8, u8, u8, Offer, Option<bool>); 7] = [
+    (2, 0x2B, 1, 1, Offer::Wrong, None),
+    (1, 0x2C, 1, 1, Offer::Wrong, None),
+    (1, 0x2B, 0, 1, Offer::Wrong, None),
+    (1, 0x2B, 1, 1, Offer::Added, None),
+    (1, 0x2B, 1, 1, Offer::Known, None),
+    (1, 0x2C, 1, 1, Offer::Known, None),
+    (0, 0xD6, 0, 0, Offer::Added, Some(false)),
+];
+
+// The tree of the first coin.
+fn first_tree(alloc: Global) -> Result<Tree, AllocError>
+    ensures { IfOk result (λ tree. length tree ≡ 4) }
+{
+    let mut leaves = Leaves::new();
+    leaves.add(&leaf_of(SHARES[0], &SALTS[0]));
+    leaves.add(&leaf_of(SHARES[1], &SALTS[1]));
+    leaves.add(&leaf_of(SHARES[2], &SALTS[2]));
+    leaves.add(&leaf_of(SHARES[3], &SALTS[3]));
+    Tree::build(alloc, &leaves)
+}
+
 #[test]
 fn first_coin_of_seed_0(rt: HostRuntime) -> Result<(), Fail> {
-    let mut leaves = Leaves::new();
-    for m in 0..4 {
-        if leaves.len() < 16 {
-            leaves.add(&leaf_of(SHARES[m], &SALTS[m]));
-        }
-    }
-    assert_eq!(rt; leaves.len(), 4);
-    let tree = Tree::build(rt.alloc(), &leaves)?;
+    let tree = first_tree(rt.alloc())?;
     assert_eq!(rt; tree.root(), ROOT);
-    let branch = tree.branch(1);
     let mut shares = Shares::new(4, 1, ROOT);
-    assert_eq!(rt; shares.offer(2, 0x2B, &SALTS[1], &branch), Offer::Wrong);
-    assert_eq!(rt; shares.offer(1, 0x2C, &SALTS[1], &branch), Offer::Wrong);
-    assert_eq!(rt; shares.offer(1, 0x2B, &SALTS[0], &branch), Offer::Wrong);
-    assert_eq!(rt; shares.offer(1, 0x2B, &SALTS[1], &branch), Offer::Added);
-    assert_eq!(rt; shares.offer(1, 0x2B, &SALTS[1], &branch), Offer::Known);
-    assert_eq!(rt; shares.offer(1, 0x2C, &SALTS[1], &branch), Offer::Known);
-    assert_eq!(rt; shares.coin(), None);
-    let branch = tree.branch(0);
-    assert_eq!(rt; shares.offer(0, 0xD6, &SALTS[0], &branch), Offer::Added);
-    assert_eq!(rt; shares.coin(), Some(false));
+    for (m, share, salt, branch, answer, coin) in OFFERS {
+        assert!(rt; m < 4 && salt < 4 && branch < 4);
+        let given = shares.offer(m, share, &SALTS[salt as usize], &tree.branch(branch));
+        assert_eq!(rt; given, answer);
+        assert_eq!(rt; shares.coin(), coin);
+    }
     Ok(())
 }
 
-// The leaves of a deal in which the salt of node m is sixteen bytes m.
-fn leaves_of(dealt: &[u8]) -> Leaves {
+// The tree of a deal in which the salt of node m is sixteen bytes m.
+fn tree_of(alloc: Global, dealt: &[u8]) -> Result<Tree, AllocError>
+    requires some { 0 < length dealt.now }
+    requires few { length dealt.now ≤ 16 }
+    ensures { IfOk result (λ tree. length tree ≡ length dealt.now) }
+{
     let mut leaves = Leaves::new();
-    for share in dealt {
-        let m = leaves.len();
-        if m < 16 {
-            leaves.add(&leaf_of(*share, &[m; 16]));
-        }
+    for m in 0..dealt.len() {
+        leaves.add(&leaf_of(dealt[m], &[m as u8; 16]));
     }
-    leaves
+    Tree::build(alloc, &leaves)
 }
 
-// Offers the share of node m of such a deal.
-fn give(shares: &mut Shares, tree: &Tree, dealt: &[u8], m: u8) -> Offer
-    requires node { m < shares.old.n }
-    requires leaf { m < length tree.now }
-    requires share { m < length dealt.now }
-    ensures { shares.new.n ≡ shares.old.n }
+// Offers the shares of the chosen nodes of such a deal, from the last node on. From f + 1 of them on the coin is known.
+fn offer_chosen(rt: &impl Abort, f: u8, coin: bool, dealt: &[u8], tree: &Tree, chosen: u32)
+    requires few { length dealt.now ≤ 16 }
+    requires enough { 3 * f < length dealt.now }
+    requires leaves { length tree.now ≡ length dealt.now }
 {
-    shares.offer(m, dealt[m as usize], &[m; 16], &tree.branch(m))
+    let n = dealt.len() as u8;
+    let mut shares = Shares::new(n, f, tree.root());
+    let mut count = 0;
+    for i in 0..n {
+        let m = n - 1 - i;
+        if chosen >> m & 1 == 1 {
+            let offer = shares.offer(m, dealt[m as usize], &[m; 16], &tree.branch(m));
+            assert_eq!(rt; offer, Offer::Added);
+            count += 1;
+        }
+        assert_eq!(rt; shares.coin(), if count > f { Some(coin) } else { None });
+    }
 }
 
 #[test]
 fn each_f(rt: HostRuntime) -> Result<(), Fail> {
     for (f, coin, dealt) in DEALS {
-        let leaves = leaves_of(dealt);
-        let n = leaves.len();
-        assert!(rt; n as usize == dealt.len() && f <= 5 && n == 3 * f + 1);
-        let tree = Tree::build(rt.alloc(), &leaves)?;
-        let mut shares = Shares::new(n, f, tree.root());
-        for m in 0..n {
-            assert_eq!(rt; shares.coin(), if m > f { Some(coin) } else { None });
-            assert_eq!(rt; give(&mut shares, &tree, dealt, n - 1 - m), Offer::Added);
-        }
-        assert_eq!(rt; shares.coin(), Some(coin));
+        assert!(rt; f <= 5 && dealt.len() == 3 * f as usize + 1);
+        let tree = tree_of(rt.alloc(), dealt)?;
+        offer_chosen(&rt, f, coin, dealt, &tree, u32::MAX);
     }
     Ok(())
 }
@@ -131,24 +153,70 @@ const LINE: &[u8] = &[0xB5, 0x28, 0xA8, 0x0F];
 #[test]
 fn each_choice(rt: HostRuntime) -> Result<(), Fail> {
     for (f, coin, dealt) in [(1u8, true, LINE), DEALS[2]] {
-        let leaves = leaves_of(dealt);
-        let n = leaves.len();
-        assert!(rt; n as usize == dealt.len() && n <= 7 && f <= 2 && n == 3 * f + 1);
-        let tree = Tree::build(rt.alloc(), &leaves)?;
-        for chosen in 0..1u32 << n {
-            if chosen.count_ones() != f as u32 + 1 {
-                continue;
+        assert!(rt; f <= 2 && dealt.len() == 3 * f as usize + 1);
+        let tree = tree_of(rt.alloc(), dealt)?;
+        for chosen in 0..1u32 << dealt.len() {
+            if chosen.count_ones() == f as u32 + 1 {
+                offer_chosen(&rt, f, coin, dealt, &tree, chosen);
             }
-            let mut shares = Shares::new(n, f, tree.root());
-            for m in 0..n {
-                if chosen >> m & 1 == 1 {
-                    assert_eq!(rt; shares.coin(), None);
-                    assert_eq!(rt; give(&mut shares, &tree, dealt, m), Offer::Added);
-                }
-            }
-            assert_eq!(rt; shares.coin(), Some(coin));
         }
     }
+    Ok(())
+}
+
+// What a caller may rest on: a dealt share is added where none of its node was.
+fn offer_dealt(
+    alloc: Global,
+    run: &Deal,
+    r: u8,
+    m: u8,
+    shares: &mut Shares,
+) -> Result<Offer, AllocError>
+    requires epoch { 0 < run.now.epochs }
+    requires round { r < run.now.rounds }
+    requires node { m < run.now.n }
+    requires of { IsOfCoin shares.old run.now 0 0 r }
+    requires first { has_share_of shares.old.added m ≡ false }
+    ensures added { IfOk result (λ offer. offer ≡ Offer.Added) }
+    ensures more { IfOk result (λ _. (a : HeardShare) × (a.node ≡ m) × (shares.new ≡ with_share shares.old a)) }
+{
+    let DealtShare {
+        share,
+        salt,
+        branch,
+    } = run.share_of(alloc, 0, 0, r, m)?;
+    Ok(shares.offer(m, share, &salt, &branch))
+}
+
+// And f + 1 of them give the dealt coin, or two of the strings that are hashed to check one of them collide.
+fn coin_of_two(
+    alloc: Global,
+    run: &Deal,
+    r: u8,
+    shares: &mut Shares,
+) -> Result<Option<bool>, AllocError>
+    requires epoch { 0 < run.now.epochs }
+    requires round { r < run.now.rounds }
+    requires nodes { 1 < run.now.n }
+    requires f { run.now.f ≡ 1 }
+    requires of { IsOfCoin shares.old run.now 0 0 r }
+    requires none { shares.old.added ≡ [] }
+    ensures known { IfOk result IsSome }
+    ensures dealt { IfOk result (λ known. IfSome known (λ coin. (coin ≡ dealt_coin run.now 0 0 r) ⊎ Any (Collides run.now 0 0 r) (deciding shares.new))) }
+{
+    offer_dealt(alloc, run, r, 0, shares)?;
+    offer_dealt(alloc, run, r, 1, shares)?;
+    Ok(shares.coin())
+}
+
+#[test]
+fn dealt_shares(rt: HostRuntime) -> Result<(), Fail> {
+    let config = Config::new(4, 1, 1, 1, 1, 0, 1, NodeSet::new()).expect(&rt, "a config");
+    let run = deal(rt.alloc(), &config)?;
+    assert!(rt; config.n() == 4 && config.f() == 1 && config.epochs() == 1 && config.rounds() == 1);
+    let mut shares = Shares::new(4, 1, run.root_of(0, 0, 0));
+    let coin = coin_of_two(rt.alloc(), &run, 0, &mut shares)?;
+    assert_eq!(rt; coin, Some(run.coin_of(0, 0, 0)));
     Ok(())
 }
 

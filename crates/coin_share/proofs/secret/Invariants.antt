@@ -1,5 +1,6 @@
 use Rattle.std.proofs.Common.{◌≡◌, length, take}
-use Rattle.coin_share.specs.Shares.{added_of, points, values}
+use Rattle.coin_deal.specs.Heard.{points, values}
+use Rattle.coin_share.specs.Shares.{added_of}
 use Rattle.coin_share.proofs.secret.Given as goal
 
 -- the points and the values of the shares before i

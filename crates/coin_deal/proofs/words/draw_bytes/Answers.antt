@@ -1,6 +1,6 @@
 use Rattle.std.proofs.Common.{◌+◌, ◌%◌, ap, ◌∙◌}
-use Rattle.coin_deal.specs.Drawing.{word_of}
-use Rattle.coin_deal.proofs.Moving.{moved_more, word_moved, one_more}
+use Rattle.seed_words.specs.Words.{word_of}
+use Rattle.seed_words.proofs.Moving.{moved_more, word_moved, one_more}
 use Rattle.coin_deal.proofs.words.draw_bytes.Goals as goal
 
 pub loop-preserved : goal.loop-preserved

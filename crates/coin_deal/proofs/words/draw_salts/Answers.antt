@@ -1,6 +1,8 @@
 use Rattle.std.proofs.Common.{◌≡◌, ◌+◌, ◌*◌, ap, ◌∙◌, arith}
-use Rattle.coin_deal.specs.Drawing.{moved_by, four_words}
-use Rattle.coin_deal.proofs.Moving.{moved_more, fours_moved, one_more}
+use Rattle.seed_words.specs.Words.{moved_by}
+use Rattle.coin_deal.specs.Drawing.{four_words}
+use Rattle.seed_words.proofs.Moving.{moved_more, one_more}
+use Rattle.coin_deal.proofs.Moving.{fours_moved}
 use Rattle.coin_deal.proofs.words.draw_salts.Goals as goal
 
 pub loop-preserved : goal.loop-preserved

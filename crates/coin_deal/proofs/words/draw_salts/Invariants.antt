@@ -1,5 +1,6 @@
 use Rattle.std.proofs.Common.{◌≡◌, ◌*◌, ◌++◌}
-use Rattle.coin_deal.specs.Drawing.{moved_by, next_fours}
+use Rattle.seed_words.specs.Words.{moved_by}
+use Rattle.coin_deal.specs.Drawing.{next_fours}
 use Rattle.coin_deal.proofs.words.draw_salts.Given as goal
 
 -- the salts drawn so far

@@ -1,8 +1,8 @@
 use Rattle.std.proofs.Common.{◌≡◌, ℕ, ◌+◌, List, ap, ◌∙◌}
 use Rattle.std.specs.Int.{w32, to_le_bytes}
 use Rattle.rand_chacha.specs.ChaCha.{ChaCha}
-use Rattle.coin_deal.specs.Drawing.{moved_by, word_of}
-use Rattle.coin_deal.proofs.Moving.{moved_more, word_moved}
+use Rattle.seed_words.specs.Words.{moved_by, word_of}
+use Rattle.seed_words.proofs.Moving.{moved_more, word_moved}
 use Rattle.coin_deal.proofs.words.next_salt.Goals as goal
 
 -- the bytes of the word so many words on

@@ -1,10 +1,12 @@
-use Rattle.std.proofs.Common.{◌+◌, ◌≡◌, [], ◌∷◌, length, get_or, sym, ap, ap₂, ◌∙◌, subst, arith}
+use Rattle.std.proofs.Common.{◌+◌, ◌≡◌, length, sym, ap, ◌∙◌, subst, arith}
 use Rattle.gf_field.specs.Polynomial.{polynomial_at}
 use Rattle.merkle_branch.specs.Digests.{leaf_digests}
-use Rattle.merkle_branch.specs.Branches.{IsBranch, branch_of}
+use Rattle.merkle_branch.specs.Branches.{branch_of}
 use Rattle.merkle_branch.proofs.LeavesLemmas.{length-leaf_digests_from}
-use Rattle.coin_deal.specs.Deal.{coin_leaves, coin_root, share}
-use Rattle.coin_deal.proofs.Coins.{tree_is, length-coin_leaves, leaf_at, salt_at}
+use Rattle.coin_deal.specs.Deal.{coin_leaves, coin_root}
+use Rattle.coin_deal.specs.Heard.{IsGood, HasForm}
+use Rattle.coin_deal.proofs.Coins.{tree_is, length-coin_leaves, salt_at}
+use Rattle.coin_deal.proofs.Form.{share_form, share_good, same_heard}
 use Rattle.coin_deal.proofs.dealt.Deal.share_of.Goals as goal
 use Rattle.coin_deal.proofs.dealt.Deal.share_of.Goals.{In_ok-tree}
 
@@ -27,6 +29,7 @@ pub returns-clause-branch : goal.returns-clause-branch
 returns-clause-branch c =
     c.branch-tree-2.ensures.exact ∙ ap (λ tree. branch_of tree c.args.m) (coins (goal.at.returns-clause-branch c).In_ok-tree)
 
+-- the share that is given is the dealt one
 pub returns-clause-good : goal.returns-clause-good
 returns-clause-good c =
     let n = c.args.self.now in
@@ -34,11 +37,21 @@ returns-clause-good c =
     let j = c.args.j in
     let r = c.args.r in
     let m = c.args.m in
-    let b = c.branch-tree-2.result in
-    let leaves = coin_leaves n e j r in
-    let shown : c.share_at.result ≡ share n e j r m = c.share_at.ensures ∙ ap (λ cs. polynomial_at cs (m + 1)) c.coefficients_of-coefficients.ensures in
-    let leaf : get_or leaves m [] ≡ c.share_at.result ∷ get_or c.salts_of-salts.result.now m [] =
-    leaf_at n e j r m c.requires.node ∙ sym (ap₂ ◌∷◌ shown (salt_at n e j r m _ c.salts_of-salts.ensures.exact c.requires.node)) in
-    subst (λ bytes. IsBranch (coin_root n e j r) n.n m bytes b) leaf
-    (subst (λ count. IsBranch (coin_root n e j r) count m (get_or leaves m []) b) (length-coin_leaves n e j r)
-    (c.branch-tree-2.ensures.valid leaves (coins (goal.at.returns-clause-good c).In_ok-tree)))
+    subst (IsGood (coin_root n e j r) n.n)
+    (same_heard m _ _ _ _ _ _ (sym (c.share_at.ensures ∙ ap (λ cs. polynomial_at cs (m + 1)) c.coefficients_of-coefficients.ensures))
+    (sym (salt_at n e j r m _ c.salts_of-salts.ensures.exact c.requires.node))
+    (sym (c.branch-tree-2.ensures.exact ∙ ap (λ tree. branch_of tree m) (coins (goal.at.returns-clause-good c).In_ok-tree))))
+    (share_good n e j r m c.salts_of-salts.ensures.few c.requires.node)
+
+pub returns-clause-form : goal.returns-clause-form
+returns-clause-form c =
+    let n = c.args.self.now in
+    let e = c.args.e in
+    let j = c.args.j in
+    let r = c.args.r in
+    let m = c.args.m in
+    subst (HasForm n.n)
+    (same_heard m _ _ _ _ _ _ (sym (c.share_at.ensures ∙ ap (λ cs. polynomial_at cs (m + 1)) c.coefficients_of-coefficients.ensures))
+    (sym (salt_at n e j r m _ c.salts_of-salts.ensures.exact c.requires.node))
+    (sym (c.branch-tree-2.ensures.exact ∙ ap (λ tree. branch_of tree m) (coins (goal.at.returns-clause-form c).In_ok-tree))))
+    (share_form n e j r m c.salts_of-salts.ensures.few c.requires.node)
