@@ -1,13 +1,20 @@
 -- Batches: what is read is spelled so, and what is spelled so is read.
-use Rattle.std.proofs.Common.{◌≡◌, ℕ, zero, suc, ◌+◌, ◌-◌, ◌^◌, ◌<◌, ◌≤◌, Bool, true, false, cond, ltb, eqb, ◌||◌, List, [], ◌∷◌, ◌++◌, length, get_or, take, drop, Option, Some, None, refl, sym, ap, subst, ◌∙◌, append_assoc, add-zero, arith}
+use Rattle.std.proofs.Common.{◌≡◌, ℕ, zero, suc, ◌+◌, ◌-◌, ◌*◌, ◌^◌, ◌<◌, ◌≤◌, Bool, true, false, cond, ltb, eqb, ◌||◌, List, [], ◌∷◌, ◌++◌, length}
+use Rattle.std.proofs.Common.{get_or, take, drop, Option, Some, None, refl, sym, ap, subst, ◌∙◌, append_assoc, add-zero, arith}
 use Rattle.std.specs.List.{flat_map, AllByRecursion}
 use Rattle.std.specs.Int.{w16, from_be_bytes, to_be_bytes}
 use Rattle.std.proofs.lemmas.Bool.{ltb-false, le-ltb, eqb-true}
-use Rattle.std.proofs.lemmas.List.{take-append-drop, length-append, length-take-le, append-nil, nil_from_length, drop-drop, take_more, take_all, take_rest, get_or-drop, length-drop}
+use Rattle.std.proofs.lemmas.List.{take-append-drop, length-append, length-take-le, append-nil, nil_from_length, drop-drop, take_more, take_all}
+use Rattle.std.proofs.lemmas.List.{take_rest, get_or-drop, length-drop}
 use Rattle.std.proofs.lemmas.Nat.{be_bytes_2, from_be_bytes-to_be_bytes_2}
+use Rattle.std.specs.Prelude.{IfOk, Result, Ok, Err}
+use Rattle.hb_base.specs.ByteLists.{AreBytes}
+use Rattle.hb_base.specs.Limits.{most_batch, longest_transaction, longest_value, IsTransaction}
 use Rattle.hb_wire.specs.Reading.{◌>>=◌, block_at}
-use Rattle.hb_wire.specs.Batches.{transaction_bytes, batch_bytes, IsTransaction, IsBatch, short_at, transaction_at, transactions_at, batch_at, or_none, batch_of, after_transactions, count_at}
-use Rattle.hb_wire.proofs.FieldLemmas.{IsBytes, IsBytes-drop, IsBytes-take, some, some_is, bind_some, guard_some, test_some, either_false, block_takes, block_again}
+use Rattle.hb_wire.specs.Batches.{transaction_bytes, batch_bytes, IsBatch, short_at, transaction_at, transactions_at, spelled_batch, or_none}
+use Rattle.hb_wire.specs.Batches.{batch_of, after_transactions, count_at}
+use Rattle.hb_wire.proofs.FieldLemmas.{IsBytes, IsBytes-drop, IsBytes-take, some, some_is, bind_some, guard_some, test_some, either_false}
+use Rattle.hb_wire.proofs.FieldLemmas.{block_takes, block_again}
 
 -- ---- a loop over transactions
 
@@ -32,7 +39,8 @@ transactions_end count i bytes past =
 
 -- ---- one transaction
 
-short_takes : (bytes : List ℕ) (n : ℕ) (rest : List ℕ) → IsBytes bytes → short_at bytes ≡ Some (n, rest) → (bytes ≡ to_be_bytes w16 n ++ rest) × IsBytes rest
+short_takes : (bytes : List ℕ) (n : ℕ) (rest : List ℕ) → IsBytes bytes → short_at bytes ≡ Some (n, rest)
+    → (bytes ≡ to_be_bytes w16 n ++ rest) × IsBytes rest
 short_takes bytes n rest fits e =
     let g = guard_some (ltb (length bytes) 2) (Some (from_be_bytes w16 (take 2 bytes), drop 2 bytes)) (n, rest) e in
     let long : 2 ≤ length bytes = ltb-false (length bytes) 2 g.0 in
@@ -46,17 +54,18 @@ short_again n rest small =
     let long : ltb (length (to_be_bytes w16 n ++ rest)) 2 ≡ false = le-ltb _ _ (omega (arith, length-append (to_be_bytes w16 n) rest)) in
     rw long (ap (λ m. some (m, rest)) (from_be_bytes-to_be_bytes_2 n small))
 
-transaction_takes : (bytes text rest : List ℕ) → IsBytes bytes → transaction_at bytes ≡ Some (text, rest) → IsTransaction text × (bytes ≡ transaction_bytes text ++ rest) × IsBytes rest
+transaction_takes : (bytes text rest : List ℕ) → IsBytes bytes → transaction_at bytes ≡ Some (text, rest)
+    → IsTransaction text × (bytes ≡ transaction_bytes text ++ rest) × IsBytes rest
 unfolding transaction_at
 transaction_takes bytes text rest fits e =
-    let a = bind_some (short_at bytes) (λ n. cond (ltb n.0 1 || ltb 256 n.0) None (block_at n.0 n.1)) (text, rest) e in
+    let a = bind_some (short_at bytes) (λ n. cond (ltb n.0 1 || ltb longest_transaction n.0) None (block_at n.0 n.1)) (text, rest) e in
     let t = short_takes bytes a.0.0 a.0.1 fits a.1 in
-    let g = guard_some (ltb a.0.0 1 || ltb 256 a.0.0) (block_at a.0.0 a.0.1) (text, rest) a.2 in
-    let within = either_false (ltb a.0.0 1) (ltb 256 a.0.0) g.0 in
+    let g = guard_some (ltb a.0.0 1 || ltb longest_transaction a.0.0) (block_at a.0.0 a.0.1) (text, rest) a.2 in
+    let within = either_false (ltb a.0.0 1) (ltb longest_transaction a.0.0) g.0 in
     let low : 1 ≤ a.0.0 = ltb-false a.0.0 1 within.0 in
     let high : a.0.0 ≤ 256 = ltb-false 256 a.0.0 within.1 in
     let u = block_takes a.0.0 a.0.1 text rest t.1 g.1 in
-    let len : length text ≡ a.0.0 = u.0 in
+    let len : length text ≡ a.0.0 = u.0.0 in
     let parts : bytes ≡ transaction_bytes text ++ rest =
     t.0 ∙ ap (λ (r : List ℕ). to_be_bytes w16 a.0.0 ++ r) u.1 ∙ sym (append_assoc (to_be_bytes w16 a.0.0) text rest)
     ∙ ap (λ k. (to_be_bytes w16 k ++ text) ++ rest) (sym len)
@@ -70,7 +79,7 @@ transaction_again text rest fits =
     let high : ltb 256 (length text) ≡ false = le-ltb 256 (length text) fits.1 in
     let short : length text < 2 ^ 16 = omega arith in
     ap transaction_at (append_assoc (to_be_bytes w16 (length text)) text rest)
-    ∙ ap (λ (r : Option (ℕ × List ℕ)). r >>= λ n. cond (ltb n.0 1 || ltb 256 n.0) None (block_at n.0 n.1)) (short_again (length text) (text ++ rest) short)
+    ∙ ap (λ (r : Option (ℕ × List ℕ)). r >>= λ n. cond (ltb n.0 1 || ltb longest_transaction n.0) None (block_at n.0 n.1)) (short_again (length text) (text ++ rest) short)
     ∙ rw (low, high) (block_again (length text) text rest refl)
 
 -- ---- several
@@ -80,7 +89,8 @@ pub record TakesAll (count : ℕ) (bytes : List ℕ) (texts : List (List ℕ)) (
   pub fit : AllByRecursion IsTransaction texts
   pub parts : bytes ≡ flat_map transaction_bytes texts ++ rest
 
-transactions_take : (count : ℕ) (bytes : List ℕ) (texts : List (List ℕ)) (rest : List ℕ) → IsBytes bytes → transactions_at count bytes ≡ Some (texts, rest) → TakesAll count bytes texts rest
+transactions_take : (count : ℕ) (bytes : List ℕ) (texts : List (List ℕ)) (rest : List ℕ) → IsBytes bytes
+    → transactions_at count bytes ≡ Some (texts, rest) → TakesAll count bytes texts rest
 unfolding transactions_at
 transactions_take zero bytes texts rest fits e =
     let none : List (List ℕ) × List ℕ = ([], bytes) in
@@ -99,7 +109,8 @@ transactions_take (suc count) bytes texts rest fits e =
     in
     subst (λ (w : List (List ℕ) × List ℕ). TakesAll (suc count) bytes w.0 w.1) (some_is whole (texts, rest) b.2) taken
 
-transactions_again : (texts : List (List ℕ)) (rest : List ℕ) → AllByRecursion IsTransaction texts → transactions_at (length texts) (flat_map transaction_bytes texts ++ rest) ≡ Some (texts, rest)
+transactions_again : (texts : List (List ℕ)) (rest : List ℕ) → AllByRecursion IsTransaction texts
+    → transactions_at (length texts) (flat_map transaction_bytes texts ++ rest) ≡ Some (texts, rest)
 unfolding transactions_at
 transactions_again [] rest fit = refl
 transactions_again (text ∷ texts) rest fit =
@@ -118,11 +129,11 @@ pub record ReadsBatch (bytes : List ℕ) (batch : List (List ℕ)) : Type 0 wher
   pub few : count ≤ 64
   pub others : transactions_at count body ≡ Some (batch, [])
 
-batch_reads : (bytes : List ℕ) (batch : List (List ℕ)) → batch_at bytes ≡ Some batch → ReadsBatch bytes batch
-unfolding batch_at
+batch_reads : (bytes : List ℕ) (batch : List (List ℕ)) → spelled_batch bytes ≡ Some batch → ReadsBatch bytes batch
+unfolding spelled_batch
 batch_reads bytes batch e =
-    let a = bind_some (short_at bytes) (λ n. cond (ltb 64 n.0) None (transactions_at n.0 n.1 >>= λ x. cond (eqb (length x.1) 0) (Some x.0) None)) batch e in
-    let g = guard_some (ltb 64 a.0.0) (transactions_at a.0.0 a.0.1 >>= λ x. cond (eqb (length x.1) 0) (Some x.0) None) batch a.2 in
+    let a = bind_some (short_at bytes) (λ n. cond (ltb most_batch n.0) None (transactions_at n.0 n.1 >>= λ x. cond (eqb (length x.1) 0) (Some x.0) None)) batch e in
+    let g = guard_some (ltb most_batch a.0.0) (transactions_at a.0.0 a.0.1 >>= λ x. cond (eqb (length x.1) 0) (Some x.0) None) batch a.2 in
     let b = bind_some (transactions_at a.0.0 a.0.1) (λ x. cond (eqb (length x.1) 0) (Some x.0) None) batch g.1 in
     let h = test_some (eqb (length b.0.1) 0) (Some b.0.0) batch b.2 in
     let nothing : b.0.1 ≡ [] = nil_from_length b.0.1 (eqb-true (length b.0.1) 0 h.0) in
@@ -135,7 +146,8 @@ batch_reads bytes batch e =
       others = b.1 ∙ ap (λ (r : List ℕ). some (b.0.0, r)) nothing ∙ ap (λ (t : List (List ℕ)). some {A = List (List ℕ) × List ℕ} (t, [])) is;
     }
 
-pub batch_takes : (bytes : List ℕ) (batch : List (List ℕ)) → IsBytes bytes → batch_at bytes ≡ Some batch → IsBatch batch × (bytes ≡ batch_bytes batch)
+pub batch_takes : (bytes : List ℕ) (batch : List (List ℕ)) → IsBytes bytes → spelled_batch bytes ≡ Some batch
+    → IsBatch batch × (bytes ≡ batch_bytes batch)
 batch_takes bytes batch fits e =
     let r = batch_reads bytes batch e in
     let t = short_takes bytes r.count r.body fits r.first in
@@ -145,27 +157,28 @@ batch_takes bytes batch fits e =
           ∙ ap (λ k. to_be_bytes w16 k ++ flat_map transaction_bytes batch) (sym u.count_is),
     )
 
-pub batch_again : (batch : List (List ℕ)) → IsBatch batch → batch_at (batch_bytes batch) ≡ Some batch
-unfolding batch_at
+pub batch_again : (batch : List (List ℕ)) → IsBatch batch → spelled_batch (batch_bytes batch) ≡ Some batch
+unfolding spelled_batch
 batch_again batch is =
     let few : ltb 64 (length batch) ≡ false = le-ltb 64 (length batch) is.few in
     let small : length batch < 2 ^ 16 = omega (arith, is.few) in
     let body : transactions_at (length batch) (flat_map transaction_bytes batch) ≡ Some (batch, []) =
     ap (transactions_at (length batch)) (sym (append-nil (flat_map transaction_bytes batch))) ∙ transactions_again batch [] is.fit
     in
-    ap (λ (r : Option (ℕ × List ℕ)). r >>= λ n. cond (ltb 64 n.0) None (transactions_at n.0 n.1 >>= λ x. cond (eqb (length x.1) 0) (Some x.0) None)) (short_again (length batch) (flat_map transaction_bytes batch) small)
+    ap (λ (r : Option (ℕ × List ℕ)). r >>= λ n. cond (ltb most_batch n.0) None (transactions_at n.0 n.1 >>= λ x. cond (eqb (length x.1) 0) (Some x.0) None)) (short_again (length batch) (flat_map transaction_bytes batch) small)
     ∙ rw few (ap (λ (r : Option (List (List ℕ) × List ℕ)). r >>= λ x. cond (eqb (length x.1) 0) (Some x.0) None) body)
 
 pub read_back : (batch : List (List ℕ)) → IsBatch batch → batch_of (batch_bytes batch) ≡ batch
 read_back batch is = ap or_none (batch_again batch is)
 
-spelled_by : (bytes : List ℕ) (r : Option (List (List ℕ))) → IsBytes bytes → batch_at bytes ≡ r → 0 < length (or_none r) → IsBatch (or_none r) × (bytes ≡ batch_bytes (or_none r))
+spelled_by : (bytes : List ℕ) (r : Option (List (List ℕ))) → IsBytes bytes → spelled_batch bytes ≡ r → 0 < length (or_none r)
+    → IsBatch (or_none r) × (bytes ≡ batch_bytes (or_none r))
 spelled_by bytes None fits e some = absurd (omega arith)
 spelled_by bytes (Some batch) fits e some = batch_takes bytes batch fits e
 
 -- bytes from which something is read are its spelling
 pub batch_spelled : (bytes : List ℕ) → IsBytes bytes → 0 < length (batch_of bytes) → IsBatch (batch_of bytes) × (bytes ≡ batch_bytes (batch_of bytes))
-batch_spelled bytes fits some = spelled_by bytes (batch_at bytes) fits refl some
+batch_spelled bytes fits some = spelled_by bytes (spelled_batch bytes) fits refl some
 
 -- ---- the count
 
@@ -182,7 +195,8 @@ unfolding rest_of
 rest_behind text None = refl
 rest_behind text (Some x) = refl
 
-after_step : (count : ℕ) → ((bytes : List ℕ) → after_transactions count bytes ≡ rest_of (transactions_at count bytes)) → (r : Option (List ℕ × List ℕ))
+after_step : (count : ℕ) → ((bytes : List ℕ) → after_transactions count bytes ≡ rest_of (transactions_at count bytes))
+    → (r : Option (List ℕ × List ℕ))
     → (r >>= λ first. after_transactions count first.1) ≡ rest_of (r >>= λ first. transactions_at count first.1 >>= λ o. Some (first.0 ∷ o.0, o.1))
 unfolding rest_of
 after_step count below None = refl
@@ -206,7 +220,8 @@ length_read (suc count) bytes x e =
     let same : whole ≡ x = some_is whole x b.2 in
     ap (λ (w : List (List ℕ) × List ℕ). length w.0) (sym same) ∙ ap suc (length_read count a.0.1 b.0 b.1)
 
-tested : (test : Bool) (count : ℕ) (batch : List (List ℕ)) → length batch ≡ count → cond test (some count) None ≡ counted (cond test (some batch) None)
+tested : (test : Bool) (count : ℕ) (batch : List (List ℕ)) → length batch ≡ count
+    → cond test (some count) None ≡ counted (cond test (some batch) None)
 tested true count batch e = ap some (sym e)
 tested false count batch e = refl
 
@@ -224,12 +239,12 @@ guarded_alike false n =
     ∙ ended_alike n.0 (transactions_at n.0 n.1) (λ x e. length_read n.0 n.1 x e)
 
 count_alike : (r : Option (ℕ × List ℕ))
-    → (r >>= λ n. cond (ltb 64 n.0) None (after_transactions n.0 n.1 >>= λ rest. cond (eqb (length rest) 0) (some n.0) None)) ≡ counted (r >>= λ n. cond (ltb 64 n.0) None (transactions_at n.0 n.1 >>= λ x. cond (eqb (length x.1) 0) (some x.0) None))
+    → (r >>= λ n. cond (ltb most_batch n.0) None (after_transactions n.0 n.1 >>= λ rest. cond (eqb (length rest) 0) (some n.0) None)) ≡ counted (r >>= λ n. cond (ltb most_batch n.0) None (transactions_at n.0 n.1 >>= λ x. cond (eqb (length x.1) 0) (some x.0) None))
 count_alike None = refl
-count_alike (Some n) = guarded_alike (ltb 64 n.0) n
+count_alike (Some n) = guarded_alike (ltb most_batch n.0) n
 
-count_is : (bytes : List ℕ) → count_at bytes ≡ counted (batch_at bytes)
-unfolding count_at batch_at
+count_is : (bytes : List ℕ) → count_at bytes ≡ counted (spelled_batch bytes)
+unfolding count_at spelled_batch
 count_is bytes = count_alike (short_at bytes)
 
 len_some : (r : Option (List (List ℕ))) (count : ℕ) → counted r ≡ Some count → count ≡ length (or_none r)
@@ -241,10 +256,10 @@ len_none None e = refl
 len_none (Some batch) e = absurd cc
 
 pub count_some : (bytes : List ℕ) (count : ℕ) → count_at bytes ≡ Some count → count ≡ length (batch_of bytes)
-count_some bytes count e = len_some (batch_at bytes) count (sym (count_is bytes) ∙ e)
+count_some bytes count e = len_some (spelled_batch bytes) count (sym (count_is bytes) ∙ e)
 
 pub count_none : (bytes : List ℕ) → count_at bytes ≡ None → 0 ≡ length (batch_of bytes)
-count_none bytes e = len_none (batch_at bytes) (sym (count_is bytes) ∙ e)
+count_none bytes e = len_none (spelled_batch bytes) (sym (count_is bytes) ∙ e)
 
 -- ---- where the transactions of a batch lie
 
@@ -252,7 +267,7 @@ pub record Lies (bytes : List ℕ) (batch : List (List ℕ)) : Type 0 where
   pub long : 2 ≤ length bytes
   pub body : transactions_at (length batch) (drop 2 bytes) ≡ Some (batch, [])
 
-batch_lies : (bytes : List ℕ) (batch : List (List ℕ)) → batch_at bytes ≡ Some batch → Lies bytes batch
+batch_lies : (bytes : List ℕ) (batch : List (List ℕ)) → spelled_batch bytes ≡ Some batch → Lies bytes batch
 batch_lies bytes batch e =
     let r = batch_reads bytes batch e in
     let g = guard_some (ltb (length bytes) 2) (Some (from_be_bytes w16 (take 2 bytes), drop 2 bytes)) (r.count, r.body) r.first in
@@ -266,12 +281,12 @@ batch_lies bytes batch e =
       body = ap (λ k. transactions_at k (drop 2 bytes)) count ∙ ap (transactions_at r.count) rest ∙ r.others;
     }
 
-lies_by : (bytes : List ℕ) (r : Option (List (List ℕ))) → batch_at bytes ≡ r → 0 < length (or_none r) → Lies bytes (or_none r)
+lies_by : (bytes : List ℕ) (r : Option (List (List ℕ))) → spelled_batch bytes ≡ r → 0 < length (or_none r) → Lies bytes (or_none r)
 lies_by bytes None e some = absurd (omega arith)
 lies_by bytes (Some batch) e some = batch_lies bytes batch e
 
 pub lies : (bytes : List ℕ) → 0 < length (batch_of bytes) → Lies bytes (batch_of bytes)
-lies bytes some = lies_by bytes (batch_at bytes) refl some
+lies bytes some = lies_by bytes (spelled_batch bytes) refl some
 
 -- transaction t stands behind t others
 pub record Stands (t : ℕ) (bytes : List ℕ) (texts : List (List ℕ)) : Type 0 where
@@ -332,7 +347,8 @@ walk_step count i left text after end texts items inside read rest front =
       ap (λ xs. xs ++ text ∷ []) front ∙ ap (λ y. take i texts ++ y ∷ []) (sym at) ∙ sym (take_more texts i [] below),
     )
 
-pub walk_stop : (count i : ℕ) (left : List ℕ) (y : List (List ℕ) × List ℕ) → i < count → transaction_at left ≡ None → transactions_at (count - i) left ≡ Some y → ⊥
+pub walk_stop : (count i : ℕ) (left : List ℕ) (y : List (List ℕ) × List ℕ) → i < count → transaction_at left ≡ None
+    → transactions_at (count - i) left ≡ Some y → ⊥
 unfolding transactions_at
 walk_stop count i left y inside read rest =
     let k = count - (i + 1) in
@@ -341,7 +357,8 @@ walk_stop count i left y inside read rest =
     let some : transactions_at (suc k) left ≡ Some y = ap (λ j. transactions_at j left) (sym step) ∙ rest in
     cc
 
-pub walk_end : (count i : ℕ) (bytes : List ℕ) (x : List (List ℕ) × List ℕ) (items : List (List ℕ)) → count ≤ i → transactions_at count bytes ≡ Some x → items ≡ take i x.0 → items ≡ x.0
+pub walk_end : (count i : ℕ) (bytes : List ℕ) (x : List (List ℕ) × List ℕ) (items : List (List ℕ)) → count ≤ i → transactions_at count bytes ≡ Some x
+    → items ≡ take i x.0 → items ≡ x.0
 walk_end count i bytes x items past e front = front ∙ take_all i x.0 (omega (arith, length_read count bytes x e))
 
 -- ---- one transaction, behind t others
@@ -358,14 +375,16 @@ stands_in bytes t inside =
 pub reached : (bytes : List ℕ) (t : ℕ) → t < length (batch_of bytes) → after_transactions t (take (length bytes - 2) (drop 2 bytes)) ≡ None → ⊥
 reached bytes t inside none = let s = (stands_in bytes t inside).reached in cc
 
-pub stands_there : (bytes left : List ℕ) (t : ℕ) → t < length (batch_of bytes) → after_transactions t (take (length bytes - 2) (drop 2 bytes)) ≡ Some left → transaction_at left ≡ None → ⊥
+pub stands_there : (bytes left : List ℕ) (t : ℕ) → t < length (batch_of bytes)
+    → after_transactions t (take (length bytes - 2) (drop 2 bytes)) ≡ Some left → transaction_at left ≡ None → ⊥
 stands_there bytes left t inside at none =
     let s = stands_in bytes t inside in
     let same : s.left ≡ left = some_is s.left left (sym s.reached ∙ at) in
     let read : transaction_at left ≡ Some (s.text, s.after) = ap transaction_at (sym same) ∙ s.read in
     cc
 
-pub found_there : (bytes left text after : List ℕ) (t : ℕ) → t < length (batch_of bytes) → after_transactions t (take (length bytes - 2) (drop 2 bytes)) ≡ Some left → transaction_at left ≡ Some (text, after)
+pub found_there : (bytes left text after : List ℕ) (t : ℕ) → t < length (batch_of bytes)
+    → after_transactions t (take (length bytes - 2) (drop 2 bytes)) ≡ Some left → transaction_at left ≡ Some (text, after)
     → (d : List ℕ) → get_or (batch_of bytes) t d ≡ text
 found_there bytes left text after t inside at read d =
     let s = stands_in bytes t inside in
@@ -375,5 +394,40 @@ found_there bytes left text after t inside at read d =
     let both : one ≡ other = some_is one other (sym s.read ∙ ap transaction_at same ∙ read) in
     s.is d ∙ ap (λ (p : List ℕ × List ℕ). p.0) both
 
-pub body_reads : (bytes : List ℕ) → 0 < length (batch_of bytes) → transactions_at (length (batch_of bytes)) (take (length bytes - 2) (drop 2 bytes)) ≡ Some (batch_of bytes, [])
+pub body_reads : (bytes : List ℕ) → 0 < length (batch_of bytes)
+    → transactions_at (length (batch_of bytes)) (take (length bytes - 2) (drop 2 bytes)) ≡ Some (batch_of bytes, [])
 body_reads bytes some = ap (transactions_at (length (batch_of bytes))) (body_is bytes) ∙ (lies bytes some).body
+
+-- ---- what is written
+
+-- each transaction is short
+pub transaction_short : (batch : List (List ℕ)) (k : ℕ) (d : List ℕ) → AllByRecursion IsTransaction batch → k < length batch
+    → length (get_or batch k d) ≤ longest_transaction
+transaction_short [] k d fit inside = absurd (omega arith)
+transaction_short (text ∷ texts) zero d fit inside = fit.0.1
+transaction_short (text ∷ texts) (suc k) d fit inside = transaction_short texts k d fit.1 (omega arith)
+
+transactions_short : (batch : List (List ℕ)) → AllByRecursion IsTransaction batch → length (flat_map transaction_bytes batch) ≤ 258 * length batch
+transactions_short [] fit = omega arith
+transactions_short (text ∷ texts) fit =
+    let more = transactions_short texts fit.1 in
+    omega (arith, length-append (transaction_bytes text) (flat_map transaction_bytes texts), fit.0.1, more)
+
+batch_short : (batch : List (List ℕ)) → IsBatch batch → length (batch_bytes batch) ≤ longest_value
+batch_short batch is =
+    let all = transactions_short batch is.fit in
+    omega (arith, all, is.few)
+
+pub written_back : {E : Type 0} (batch : List (List ℕ)) (out : List ℕ) (r : Result (List ℕ) E) → IsBatch batch → out ≡ batch_bytes batch
+    → IfOk r (λ bytes. bytes ≡ out)
+    → IfOk r (λ bytes. batch_of bytes ≡ batch)
+written_back batch out (Ok bytes) is spelled same = ap batch_of (same ∙ spelled) ∙ read_back batch is
+written_back batch out (Err fault) is spelled same = tt
+
+pub written_value : {E : Type 0} (batch : List (List ℕ)) (out : List ℕ) (r : Result (List ℕ) E) → IsBatch batch → out ≡ batch_bytes batch
+    → AreBytes out → IfOk r (λ bytes. bytes ≡ out)
+    → IfOk r (λ bytes. (length bytes ≤ longest_value) × AreBytes bytes)
+written_value batch out (Ok bytes) is spelled fits same =
+    let size : length bytes ≡ length (batch_bytes batch) = ap length (same ∙ spelled) in
+    (omega (arith, batch_short batch is), subst AreBytes (sym same) fits)
+written_value batch out (Err fault) is spelled fits same = tt

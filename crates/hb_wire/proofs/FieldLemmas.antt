@@ -1,9 +1,14 @@
 -- What a reader of a field gives is spelled so, and what is spelled so it gives.
-use Rattle.std.proofs.Common.{◌≡◌, ℕ, zero, suc, ◌+◌, ◌^◌, ◌<◌, ◌≤◌, Bool, true, false, cond, ltb, ◌||◌, List, [], ◌∷◌, ◌++◌, length, get_or, take, drop, Option, Some, None, refl, sym, ap, subst, ◌∙◌, append_assoc, arith, inl, inr}
+use Rattle.std.proofs.Common.{◌≡◌, ℕ, zero, suc, ◌+◌, ◌^◌, ◌<◌, ◌≤◌, Bool, true, false, cond, ltb, ◌&&◌, ◌||◌, List, [], ◌∷◌, ◌++◌, length, get_or}
+use Rattle.std.proofs.Common.{take, drop, Option, Some, None, refl, sym, ap, subst, ◌∙◌, append_assoc, arith, inl, inr}
+use Rattle.std.specs.List.{list_all}
 use Rattle.std.specs.Int.{w32, from_be_bytes, to_be_bytes}
 use Rattle.std.proofs.lemmas.Bool.{cases_lt, ltb-false, ltb-true, le-ltb, lt-ltb}
-use Rattle.std.proofs.lemmas.List.{take_at, drop_at, take-append-drop, length-append, length-take, length-take-le, get_or-drop, get_or-take, get_or_past}
+use Rattle.std.proofs.lemmas.List.Elements.{All-from_get_or, All-nil, All-cons, All-head, All-tail}
+use Rattle.std.proofs.lemmas.List.{take_at, drop_at, take-append-drop, length-append, length-take, length-take-le, get_or-drop, get_or-take}
+use Rattle.std.proofs.lemmas.List.{get_or_past}
 use Rattle.std.proofs.lemmas.Nat.{be_bytes_4, from_be_bytes-to_be_bytes_4}
+use Rattle.hb_base.specs.ByteLists.{AreBytes}
 use Rattle.hb_wire.specs.declared.vote.Vals.{Vals}
 use Rattle.hb_wire.specs.declared.vote.Vals.TheVariants.{Zero, One, Both}
 use Rattle.hb_wire.specs.Votes.{bit_byte, set_byte, sized_bytes}
@@ -24,6 +29,36 @@ IsBytes-take n bytes h i =
 
 pub IsBytes-rest : (b : ℕ) (bytes : List ℕ) → IsBytes (b ∷ bytes) → IsBytes bytes
 IsBytes-rest b bytes h i = h (suc i)
+
+pub bytes_from : (bytes : List ℕ) → IsBytes bytes → AreBytes bytes
+bytes_from bytes h = All-from_get_or (λ byte. byte < 256) bytes 0 (λ i inside. h i)
+
+pub bytes_at : (bytes : List ℕ) → AreBytes bytes → IsBytes bytes
+bytes_at bytes h i =
+    elim (cases_lt i (length bytes)) [
+      | inl lt ↦ h i 0 lt
+      | inr le ↦ rw (get_or_past bytes i 0 le) (omega arith)
+    ]
+
+-- ---- the test
+
+and_true : (a b : Bool) → (a && b) ≡ true → (a ≡ true) × (b ≡ true)
+and_true true b e = (refl, e)
+and_true false b e = absurd cc
+
+pub bytes_pass : (bytes : List ℕ) → AreBytes bytes → list_all (λ byte. ltb byte 256) bytes ≡ true
+bytes_pass [] fits = refl
+bytes_pass (b ∷ bytes) fits =
+    let first : ltb b 256 ≡ true = lt-ltb b 256 (All-head (λ x. x < 256) b bytes fits) in
+    rw first (bytes_pass bytes (All-tail (λ x. x < 256) b bytes fits))
+
+pub bytes_passed : (bytes : List ℕ) → list_all (λ byte. ltb byte 256) bytes ≡ true → AreBytes bytes
+bytes_passed [] e = All-nil (λ x. x < 256)
+bytes_passed (b ∷ bytes) e =
+    let both = and_true (ltb b 256) (list_all (λ x. ltb x 256) bytes) e in
+    All-cons (λ x. x < 256) b bytes (ltb-true b 256 both.0) (bytes_passed bytes both.1)
+
+-- ---- readers
 
 -- a reader gives x and the rest exactly of the bytes that begin with the spelling of an x that fits
 pub record Reads {X : Type 0} (reader : List ℕ → Option (X × List ℕ)) (spell : X → List ℕ) (Fits : X → Type 0) : Type 0 where
@@ -80,7 +115,8 @@ reads_ended = record {
 
 -- ---- single bytes
 
-byte_takes : (limit : ℕ) (bytes : List ℕ) (b : ℕ) (rest : List ℕ) → IsBytes bytes → byte_at limit bytes ≡ Some (b, rest) → (b < limit) × (bytes ≡ b ∷ rest) × IsBytes rest
+byte_takes : (limit : ℕ) (bytes : List ℕ) (b : ℕ) (rest : List ℕ) → IsBytes bytes → byte_at limit bytes ≡ Some (b, rest)
+    → (b < limit) × (bytes ≡ b ∷ rest) × IsBytes rest
 byte_takes limit [] b rest fits e = absurd cc
 byte_takes limit (first ∷ bytes) b rest fits e =
     let g = test_some (ltb first limit) (Some (first, bytes)) (b, rest) e in
@@ -93,7 +129,8 @@ reads_byte limit = record {
   again = λ b rest fits. let below : ltb b limit ≡ true = lt-ltb b limit fits in rw below refl;
 }
 
-bit_takes : (bytes : List ℕ) (b : Bool) (rest : List ℕ) → IsBytes bytes → bit_at bytes ≡ Some (b, rest) → Unit {0} × (bytes ≡ bit_byte b ∷ rest) × IsBytes rest
+bit_takes : (bytes : List ℕ) (b : Bool) (rest : List ℕ) → IsBytes bytes → bit_at bytes ≡ Some (b, rest)
+    → Unit {0} × (bytes ≡ bit_byte b ∷ rest) × IsBytes rest
 bit_takes [] b rest fits e = absurd cc
 bit_takes (zero ∷ bytes) b rest fits e =
     subst (λ (p : Bool × List ℕ). Unit {0} × (0 ∷ bytes ≡ bit_byte p.0 ∷ p.1) × IsBytes p.1) (some_is (false, bytes) (b, rest) e) (tt, refl, IsBytes-rest 0 bytes fits)
@@ -108,7 +145,8 @@ bit_again false rest fits = refl
 pub reads_bit : Reads bit_at (λ b. bit_byte b ∷ []) (λ _. Unit {0})
 reads_bit = record { takes = bit_takes; again = bit_again }
 
-set_takes : (bytes : List ℕ) (vals : Vals) (rest : List ℕ) → IsBytes bytes → set_at bytes ≡ Some (vals, rest) → Unit {0} × (bytes ≡ set_byte vals ∷ rest) × IsBytes rest
+set_takes : (bytes : List ℕ) (vals : Vals) (rest : List ℕ) → IsBytes bytes → set_at bytes ≡ Some (vals, rest)
+    → Unit {0} × (bytes ≡ set_byte vals ∷ rest) × IsBytes rest
 set_takes [] vals rest fits e = absurd cc
 set_takes (zero ∷ bytes) vals rest fits e = absurd cc
 set_takes (suc zero ∷ bytes) vals rest fits e =
@@ -129,12 +167,15 @@ reads_set = record { takes = set_takes; again = set_again }
 
 -- ---- blocks
 
-pub block_takes : (size : ℕ) (bytes block rest : List ℕ) → IsBytes bytes → block_at size bytes ≡ Some (block, rest) → (length block ≡ size) × (bytes ≡ block ++ rest) × IsBytes rest
+pub block_takes : (size : ℕ) (bytes block rest : List ℕ) → IsBytes bytes → block_at size bytes ≡ Some (block, rest)
+    → ((length block ≡ size) × AreBytes block) × (bytes ≡ block ++ rest) × IsBytes rest
 block_takes size bytes block rest fits e =
     let g = guard_some (ltb (length bytes) size) (Some (take size bytes, drop size bytes)) (block, rest) e in
     let long : size ≤ length bytes = ltb-false (length bytes) size g.0 in
     let same : (take size bytes, drop size bytes) ≡ (block, rest) = some_is (take size bytes, drop size bytes) (block, rest) g.1 in
-    subst (λ (p : List ℕ × List ℕ). (length p.0 ≡ size) × (bytes ≡ p.0 ++ p.1) × IsBytes p.1) same (length-take-le size bytes long, sym (take-append-drop size bytes), IsBytes-drop size bytes fits)
+    let taken : AreBytes (take size bytes) = bytes_from (take size bytes) (IsBytes-take size bytes fits) in
+    subst (λ (p : List ℕ × List ℕ). ((length p.0 ≡ size) × AreBytes p.0) × (bytes ≡ p.0 ++ p.1) × IsBytes p.1) same
+    ((length-take-le size bytes long, taken), sym (take-append-drop size bytes), IsBytes-drop size bytes fits)
 
 pub block_again : (size : ℕ) (block rest : List ℕ) → length block ≡ size → block_at size (block ++ rest) ≡ Some (block, rest)
 block_again size block rest len =
@@ -142,11 +183,15 @@ block_again size block rest len =
     rw (long, take_at block rest size len, drop_at block rest size len) refl
 
 pub reads_block : (size : ℕ) → Reads (block_at size) (λ block. block) (λ block. length block ≡ size)
-reads_block size = record { takes = block_takes size; again = block_again size }
+reads_block size = record {
+  takes = λ bytes block rest fits e. let t = block_takes size bytes block rest fits e in (t.0.0, t.1, t.2);
+  again = block_again size;
+}
 
 -- ---- a length, and that many bytes
 
-length_takes : (bytes : List ℕ) (n : ℕ) (rest : List ℕ) → IsBytes bytes → length_at bytes ≡ Some (n, rest) → (bytes ≡ to_be_bytes w32 n ++ rest) × IsBytes rest
+length_takes : (bytes : List ℕ) (n : ℕ) (rest : List ℕ) → IsBytes bytes → length_at bytes ≡ Some (n, rest)
+    → (bytes ≡ to_be_bytes w32 n ++ rest) × IsBytes rest
 length_takes bytes n rest fits e =
     let g = guard_some (ltb (length bytes) 4) (Some (from_be_bytes w32 (take 4 bytes), drop 4 bytes)) (n, rest) e in
     let long : 4 ≤ length bytes = ltb-false (length bytes) 4 g.0 in
@@ -164,8 +209,11 @@ pub either_false : (a b : Bool) → (a || b) ≡ false → (a ≡ false) × (b �
 either_false true b e = absurd cc
 either_false false b e = (refl, e)
 
+abbrev pub SizedFits : ℕ → ℕ → List ℕ → Type 0
+SizedFits least most text = (least ≤ length text) × (length text ≤ most) × AreBytes text
+
 sized_takes : (least most : ℕ) (bytes text rest : List ℕ) → IsBytes bytes → sized_at least most bytes ≡ Some (text, rest)
-    → ((least ≤ length text) × (length text ≤ most)) × (bytes ≡ sized_bytes text ++ rest) × IsBytes rest
+    → SizedFits least most text × (bytes ≡ sized_bytes text ++ rest) × IsBytes rest
 unfolding sized_at
 sized_takes least most bytes text rest fits e =
     let a = bind_some (length_at bytes) (λ n. cond (ltb n.0 least || ltb most n.0) None (block_at n.0 n.1)) (text, rest) e in
@@ -175,14 +223,15 @@ sized_takes least most bytes text rest fits e =
     let low : least ≤ a.0.0 = ltb-false a.0.0 least within.0 in
     let high : a.0.0 ≤ most = ltb-false most a.0.0 within.1 in
     let u = block_takes a.0.0 a.0.1 text rest t.1 g.1 in
-    let len : length text ≡ a.0.0 = u.0 in
+    let len : length text ≡ a.0.0 = u.0.0 in
     let parts : bytes ≡ sized_bytes text ++ rest =
     t.0 ∙ ap (λ (r : List ℕ). to_be_bytes w32 a.0.0 ++ r) u.1 ∙ sym (append_assoc (to_be_bytes w32 a.0.0) text rest)
     ∙ ap (λ k. (to_be_bytes w32 k ++ text) ++ rest) (sym len)
     in
-    ((omega arith, omega arith), parts, u.2)
+    ((omega arith, omega arith, u.0.1), parts, u.2)
 
-sized_again : (least most : ℕ) (text rest : List ℕ) → most < 2 ^ 32 → (least ≤ length text) × (length text ≤ most) → sized_at least most (sized_bytes text ++ rest) ≡ Some (text, rest)
+sized_again : (least most : ℕ) (text rest : List ℕ) → most < 2 ^ 32 → SizedFits least most text
+    → sized_at least most (sized_bytes text ++ rest) ≡ Some (text, rest)
 unfolding sized_at
 sized_again least most text rest small fits =
     let low : ltb (length text) least ≡ false = le-ltb (length text) least fits.0 in
@@ -192,5 +241,5 @@ sized_again least most text rest small fits =
     ∙ ap (λ (r : Option (ℕ × List ℕ)). r >>= λ n. cond (ltb n.0 least || ltb most n.0) None (block_at n.0 n.1)) (length_again (length text) (text ++ rest) short)
     ∙ rw (low, high) (block_again (length text) text rest refl)
 
-pub reads_sized : (least most : ℕ) → most < 2 ^ 32 → Reads (sized_at least most) sized_bytes (λ text. (least ≤ length text) × (length text ≤ most))
+pub reads_sized : (least most : ℕ) → most < 2 ^ 32 → Reads (sized_at least most) sized_bytes (SizedFits least most)
 reads_sized least most small = record { takes = sized_takes least most; again = λ text rest fits. sized_again least most text rest small fits }

@@ -6,11 +6,12 @@ use Rattle.hb_wire.specs.declared.items.Item.{Item}
 use Rattle.hb_wire.specs.declared.vote.Vote.{Vote}
 use Rattle.hb_wire.specs.Votes.{kind_of, epoch_of, spelling, Spells, item_bytes}
 use Rattle.hb_wire.specs.Reading.{items_in, first_item, first_length}
-use Rattle.hb_wire.specs.Lending.{IsList, listed}
+use Rattle.hb_wire.specs.Lists.{IsList, listed}
 use Rattle.hb_wire.specs.Glances.{IsGlance, IsClosedRest}
 use Rattle.hb_wire.proofs.ListLemmas.{has_items, items_again}
 
-front_seen : (vote : Vote) → IsGlance (spelling vote) vote (get_or (spelling vote) 0 0) (get_or (spelling vote) 1 0) (take (length (spelling vote) - 2) (drop 2 (spelling vote)))
+front_seen : (vote : Vote)
+    → IsGlance (spelling vote) vote (get_or (spelling vote) 0 0) (get_or (spelling vote) 1 0) (take (length (spelling vote) - 2) (drop 2 (spelling vote)))
 front_seen vote = record {
   kind_is = refl;
   epoch_is = refl;
@@ -50,7 +51,8 @@ items_dropped count i left all inside same =
     ap (drop 1) (ap (λ k. items_in k left) (sym step) ∙ same) ∙ drop-drop 1 i all
 
 -- the first of those that are left
-pub item_found : (count i : ℕ) (left : List ℕ) (all : List Item) (d : Item) → i < count → items_in (count - i) left ≡ drop i all → get_or all i d ≡ first_item left
+pub item_found : (count i : ℕ) (left : List ℕ) (all : List Item) (d : Item) → i < count → items_in (count - i) left ≡ drop i all
+    → get_or all i d ≡ first_item left
 unfolding items_in
 item_found count i left all d inside same =
     let step : count - i ≡ suc (count - (i + 1)) = omega arith in

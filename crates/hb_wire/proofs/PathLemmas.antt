@@ -1,14 +1,16 @@
 -- The digests of a branch, one behind the other.
-use Rattle.std.proofs.Common.{◌≡◌, ℕ, zero, suc, ◌+◌, ◌-◌, ◌*◌, ◌<◌, ◌≤◌, List, [], ◌∷◌, ◌++◌, length, take, drop, set, replicate, Option, Some, refl, sym, ap, subst, ◌∙◌, append_assoc, arith}
+use Rattle.std.proofs.Common.{◌≡◌, ℕ, zero, suc, ◌+◌, ◌-◌, ◌*◌, ◌<◌, ◌≤◌, List, [], ◌∷◌, ◌++◌, length, take, drop, set, replicate, Option, Some, refl}
+use Rattle.std.proofs.Common.{sym, ap, subst, ◌∙◌, append_assoc, arith}
 use Rattle.std.specs.List.{flat_map, AllByRecursion}
-use Rattle.std.proofs.lemmas.List.{take_at, drop_at, take-append-drop, length-append, length-take-le, length-drop, length-replicate, length-set, take_more_set, drop-set-lt, drop-drop, drop-replicate, append-nil}
+use Rattle.std.proofs.lemmas.List.{take_at, drop_at, take-append-drop, length-append, length-take-le, length-drop, length-replicate, length-set}
+use Rattle.std.proofs.lemmas.List.{take_more_set, drop-set-lt, drop-drop, drop-replicate, append-nil}
 use Rattle.merkle_branch.specs.declared.Branch.{Branch}
-use Rattle.merkle_branch.specs.Digests.{no_digest, height}
-use Rattle.merkle_branch.specs.Branches.{siblings}
+use Rattle.merkle_branch.specs.Digests.{IsDigest, no_digest, height}
+use Rattle.merkle_branch.specs.Branches.{siblings, IsPath}
 use Rattle.merkle_branch.proofs.HeightLemmas.{height_low}
-use Rattle.hb_wire.specs.Votes.{IsPath}
 use Rattle.hb_wire.specs.Reading.{◌>>=◌, block_at, digests_in, branch_in, path_at}
-use Rattle.hb_wire.proofs.FieldLemmas.{IsBytes, Reads, some, some_is, bind_some, block_takes, block_again}
+use Rattle.hb_wire.proofs.FieldLemmas.{IsBytes, IsBytes-take, IsBytes-drop, bytes_from, bytes_at, Reads, some, some_is, bind_some, block_takes}
+use Rattle.hb_wire.proofs.FieldLemmas.{block_again}
 
 pub length-digests_in : (count : ℕ) (bytes : List ℕ) → length (digests_in count bytes) ≡ count
 length-digests_in zero bytes = refl
@@ -21,23 +23,25 @@ joined (suc count) bytes size =
     ap (λ (xs : List ℕ). take 32 bytes ++ xs) (joined count (drop 32 bytes) (omega (arith, length-drop 32 bytes)))
     ∙ take-append-drop 32 bytes
 
-whole_digests : (count : ℕ) (bytes : List ℕ) → length bytes ≡ 32 * count → AllByRecursion (λ (digest : List ℕ). length digest ≡ 32) (digests_in count bytes)
-whole_digests zero bytes size = tt
-whole_digests (suc count) bytes size =
-    (length-take-le 32 bytes (omega arith), whole_digests count (drop 32 bytes) (omega (arith, length-drop 32 bytes)))
+digests_read : (count : ℕ) (bytes : List ℕ) → length bytes ≡ 32 * count → IsBytes bytes → AllByRecursion IsDigest (digests_in count bytes)
+digests_read zero bytes size fits = tt
+digests_read (suc count) bytes size fits = (
+  record { len = length-take-le 32 bytes (omega arith); bytes = bytes_from (take 32 bytes) (IsBytes-take 32 bytes fits) },
+  digests_read count (drop 32 bytes) (omega (arith, length-drop 32 bytes)) (IsBytes-drop 32 bytes fits),
+)
 
-length-joined : (digests : List (List ℕ)) → AllByRecursion (λ (digest : List ℕ). length digest ≡ 32) digests → length (flat_map (λ digest. digest) digests) ≡ 32 * length digests
+length-joined : (digests : List (List ℕ)) → AllByRecursion IsDigest digests → length (flat_map (λ digest. digest) digests) ≡ 32 * length digests
 length-joined [] whole = refl
 length-joined (digest ∷ digests) whole =
-    let size : length digest ≡ 32 = whole.0 in
+    let size : length digest ≡ 32 = whole.0.len in
     omega (arith, length-append digest (flat_map (λ d. d) digests), length-joined digests whole.1)
 
-split : (digests : List (List ℕ)) → AllByRecursion (λ (digest : List ℕ). length digest ≡ 32) digests → digests_in (length digests) (flat_map (λ digest. digest) digests) ≡ digests
+split : (digests : List (List ℕ)) → AllByRecursion IsDigest digests → digests_in (length digests) (flat_map (λ digest. digest) digests) ≡ digests
 split [] whole = refl
 split (digest ∷ digests) whole =
     let rest = flat_map (λ d. d) digests in
-    ap (λ (xs : List ℕ). xs ∷ digests_in (length digests) (drop 32 (digest ++ rest))) (take_at digest rest 32 whole.0)
-    ∙ ap (λ xs. digest ∷ digests_in (length digests) xs) (drop_at digest rest 32 whole.0)
+    ap (λ (xs : List ℕ). xs ∷ digests_in (length digests) (drop 32 (digest ++ rest))) (take_at digest rest 32 whole.0.len)
+    ∙ ap (λ xs. digest ∷ digests_in (length digests) xs) (drop_at digest rest 32 whole.0.len)
     ∙ ap (λ xs. digest ∷ xs) (split digests whole.1)
 
 -- the branch of digests that were read
@@ -45,9 +49,9 @@ siblings-branch_in : (n : ℕ) (bytes : List ℕ) → siblings (branch_in n byte
 unfolding branch_in
 siblings-branch_in n bytes = take_at _ _ _ (length-digests_in (height n) bytes)
 
-is_path : (n : ℕ) (bytes : List ℕ) → length bytes ≡ 32 * height n → IsPath n (branch_in n bytes)
+is_path : (n : ℕ) (bytes : List ℕ) → length bytes ≡ 32 * height n → IsBytes bytes → IsPath n (branch_in n bytes)
 unfolding branch_in
-is_path n bytes size =
+is_path n bytes size fits =
     let h = height n in
     let low : h ≤ 4 = height_low n in
     let count : length (digests_in h bytes) ≡ h = length-digests_in h bytes in
@@ -58,7 +62,7 @@ is_path n bytes size =
         entries = omega (arith, length-append (digests_in h bytes) (replicate (4 - h) no_digest), length-replicate (4 - h) no_digest);
         rest = drop_at _ _ _ count;
       };
-      digests = subst (AllByRecursion (λ (digest : List ℕ). length digest ≡ 32)) (sym (siblings-branch_in n bytes)) (whole_digests h bytes size);
+      digests = subst (AllByRecursion IsDigest) (sym (siblings-branch_in n bytes)) (digests_read h bytes size fits);
     }
 
 path_takes : (n : ℕ) (bytes : List ℕ) (branch : Branch) (rest : List ℕ) → IsBytes bytes → path_at n bytes ≡ Some (branch, rest)
@@ -67,10 +71,10 @@ unfolding path_at
 path_takes n bytes branch rest fits e =
     let a = bind_some (block_at (32 * height n) bytes) (λ x. Some (branch_in n x.0, x.1)) (branch, rest) e in
     let t = block_takes (32 * height n) bytes a.0.0 a.0.1 fits a.1 in
-    let spelled : flat_map (λ digest. digest) (siblings (branch_in n a.0.0)) ≡ a.0.0 = ap (flat_map (λ digest. digest)) (siblings-branch_in n a.0.0) ∙ joined (height n) a.0.0 t.0 in
+    let spelled : flat_map (λ digest. digest) (siblings (branch_in n a.0.0)) ≡ a.0.0 = ap (flat_map (λ digest. digest)) (siblings-branch_in n a.0.0) ∙ joined (height n) a.0.0 t.0.0 in
     let whole : Branch × List ℕ = (branch_in n a.0.0, a.0.1) in
     subst (λ (w : Branch × List ℕ). IsPath n w.0 × (bytes ≡ flat_map (λ digest. digest) (siblings w.0) ++ w.1) × IsBytes w.1) (some_is whole (branch, rest) a.2)
-    (is_path n a.0.0 t.0, t.1 ∙ ap (λ (xs : List ℕ). xs ++ a.0.1) (sym spelled), t.2)
+    (is_path n a.0.0 t.0.0 (bytes_at a.0.0 t.0.1), t.1 ∙ ap (λ (xs : List ℕ). xs ++ a.0.1) (sym spelled), t.2)
 
 pub length-siblings : (n : ℕ) (branch : Branch) → IsPath n branch → length (siblings branch) ≡ height n
 length-siblings n branch is =
@@ -95,7 +99,8 @@ same_branch n branch is =
     ∙ ap (λ ds. with_digests (height n) ds) (take-append-drop branch.len branch.digests)
     ∙ ap (λ k. with_digests k branch.digests) (sym is.len)
 
-path_again : (n : ℕ) (branch : Branch) (rest : List ℕ) → IsPath n branch → path_at n (flat_map (λ digest. digest) (siblings branch) ++ rest) ≡ Some (branch, rest)
+path_again : (n : ℕ) (branch : Branch) (rest : List ℕ) → IsPath n branch
+    → path_at n (flat_map (λ digest. digest) (siblings branch) ++ rest) ≡ Some (branch, rest)
 unfolding path_at
 path_again n branch rest is =
     let bytes = flat_map (λ digest. digest) (siblings branch) in
@@ -115,7 +120,8 @@ pub record Copies (h level : ℕ) (path rest : List ℕ) (digests : List (List �
   pub free : drop level digests ≡ replicate (4 - level) no_digest
   pub entries : length digests ≡ 4
 
-pub copy_begins : (h : ℕ) (path : List ℕ) (digests : List (List ℕ)) → length path ≡ 32 * h → digests ≡ replicate 4 no_digest → Copies h 0 path path digests
+pub copy_begins : (h : ℕ) (path : List ℕ) (digests : List (List ℕ)) → length path ≡ 32 * h → digests ≡ replicate 4 no_digest
+    → Copies h 0 path path digests
 copy_begins h path digests size zeros =
     let all : h - 0 ≡ h = omega arith in
     record {
@@ -128,7 +134,8 @@ copy_begins h path digests size zeros =
 pub copy_left : (h level : ℕ) (path rest : List ℕ) (digests : List (List ℕ)) → level < h → Copies h level path rest digests → 32 ≤ length rest
 copy_left h level path rest digests below copies = omega (arith, copies.left)
 
-pub copy_goes_on : (h level : ℕ) (path rest digest above : List ℕ) (digests : List (List ℕ)) → level < h → h ≤ 4 → digest ≡ take 32 rest → above ≡ drop 32 rest → Copies h level path rest digests
+pub copy_goes_on : (h level : ℕ) (path rest digest above : List ℕ) (digests : List (List ℕ)) → level < h → h ≤ 4 → digest ≡ take 32 rest
+    → above ≡ drop 32 rest → Copies h level path rest digests
     → Copies h (level + 1) path above (set digests level digest)
 copy_goes_on h level path rest digest above digests below low front back copies =
     let step : h - level ≡ suc (h - (level + 1)) = omega arith in
@@ -151,7 +158,8 @@ copy_goes_on h level path rest digest above digests below low front back copies 
     }
 
 -- the branch is made once all are copied
-pub copy_ends : (n level : ℕ) (path rest : List ℕ) (digests : List (List ℕ)) → level ≡ height n → Copies (height n) level path rest digests → with_digests (height n) digests ≡ branch_in n path
+pub copy_ends : (n level : ℕ) (path rest : List ℕ) (digests : List (List ℕ)) → level ≡ height n → Copies (height n) level path rest digests
+    → with_digests (height n) digests ≡ branch_in n path
 unfolding branch_in
 copy_ends n level path rest digests ends copies =
     let none : height n - level ≡ 0 = omega arith in

@@ -1,7 +1,9 @@
 -- A batch is a list of transactions, and its bytes.
-use Rattle.std.specs.Prelude.{ℕ, zero, suc, ◌≤◌, ◌||◌, ◌==◌, nat_lt, if◌then◌else◌, List, [], ◌∷◌, ◌++◌, length, take, drop, Option, Some, None}
+use Rattle.std.specs.Prelude.{ℕ, zero, suc, ◌≤◌, ◌||◌, ◌==◌, nat_lt, if◌then◌else◌, List, [], ◌∷◌, ◌++◌}
+use Rattle.std.specs.Prelude.{length, take, drop, Option, Some, None}
 use Rattle.std.specs.List.{flat_map, AllByRecursion}
 use Rattle.std.specs.Int.{w16, from_be_bytes, to_be_bytes}
+use Rattle.hb_base.specs.Limits.{most_batch, longest_transaction, IsTransaction}
 use Rattle.hb_wire.specs.Reading.{◌>>=◌, block_at}
 
 -- a length of 2 bytes, and that many bytes
@@ -12,11 +14,8 @@ transaction_bytes transaction = to_be_bytes w16 (length transaction) ++ transact
 abbrev pub batch_bytes : List (List ℕ) → List ℕ
 batch_bytes batch = to_be_bytes w16 (length batch) ++ flat_map transaction_bytes batch
 
-abbrev pub IsTransaction : List ℕ → Type 0
-IsTransaction transaction = (1 ≤ length transaction) × (length transaction ≤ 256)
-
 pub record IsBatch (batch : List (List ℕ)) : Type 0 where
-  pub few : length batch ≤ 64
+  pub few : length batch ≤ most_batch
   pub fit : AllByRecursion IsTransaction batch
 
 -- ---- reading
@@ -25,15 +24,19 @@ abbrev pub short_at : List ℕ → Option (ℕ × List ℕ)
 short_at bytes = if nat_lt (length bytes) 2 then None else Some (from_be_bytes w16 (take 2 bytes), drop 2 bytes)
 
 unfoldable pub transaction_at : List ℕ → Option (List ℕ × List ℕ)
-transaction_at bytes = short_at bytes >>= λ n. if nat_lt n.0 1 || nat_lt 256 n.0 then None else block_at n.0 n.1
+transaction_at bytes = short_at bytes >>= λ n. if nat_lt n.0 1 || nat_lt longest_transaction n.0 then None else block_at n.0 n.1
 
 unfoldable pub transactions_at : ℕ → List ℕ → Option (List (List ℕ) × List ℕ)
 transactions_at zero bytes = Some ([], bytes)
-transactions_at (suc count) bytes = transaction_at bytes >>= λ first. transactions_at count first.1 >>= λ others. Some (first.0 ∷ others.0, others.1)
+transactions_at (suc count) bytes =
+    transaction_at bytes >>= λ first.
+    transactions_at count first.1 >>= λ others. Some (first.0 ∷ others.0, others.1)
 
 -- the batch that the bytes are, if they are one
-unfoldable pub batch_at : List ℕ → Option (List (List ℕ))
-batch_at bytes = short_at bytes >>= λ n. if nat_lt 64 n.0 then None else transactions_at n.0 n.1 >>= λ x. if length x.1 == 0 then Some x.0 else None
+unfoldable pub spelled_batch : List ℕ → Option (List (List ℕ))
+spelled_batch bytes =
+    short_at bytes >>= λ n. if nat_lt most_batch n.0 then None else
+    transactions_at n.0 n.1 >>= λ x. if length x.1 == 0 then Some x.0 else None
 
 abbrev pub or_none : Option (List (List ℕ)) → List (List ℕ)
 or_none None = []
@@ -41,7 +44,7 @@ or_none (Some batch) = batch
 
 -- the transactions of the batch that the bytes are, and none where they are no batch
 abbrev pub batch_of : List ℕ → List (List ℕ)
-batch_of bytes = or_none (batch_at bytes)
+batch_of bytes = or_none (spelled_batch bytes)
 
 -- the bytes behind so many transactions
 unfoldable pub after_transactions : ℕ → List ℕ → Option (List ℕ)
@@ -50,4 +53,6 @@ after_transactions (suc count) bytes = transaction_at bytes >>= λ first. after_
 
 -- the count of the batch that the bytes are
 unfoldable pub count_at : List ℕ → Option ℕ
-count_at bytes = short_at bytes >>= λ n. if nat_lt 64 n.0 then None else after_transactions n.0 n.1 >>= λ rest. if length rest == 0 then Some n.0 else None
+count_at bytes =
+    short_at bytes >>= λ n. if nat_lt most_batch n.0 then None else
+    after_transactions n.0 n.1 >>= λ rest. if length rest == 0 then Some n.0 else None

@@ -1,6 +1,7 @@
 pub mod Votes
 pub mod Addresses
 pub mod Reading
-pub mod Lending
+pub mod Lists
+pub mod Views
 pub mod Glances
 pub mod Batches

@@ -3,16 +3,18 @@
 use Rattle.std.specs.Prelude.{◌≡◌, ℕ, ◌+◌, ◌<◌, ◌≤◌, Bool, List, [], ◌∷◌, ◌++◌, length, if◌then◌else◌}
 use Rattle.std.specs.List.{flat_map, AllByRecursion}
 use Rattle.std.specs.Int.{w32, to_be_bytes}
+use Rattle.hb_base.specs.Limits.{most_epochs, most_rounds, longest_shard, longest_value, latest_version}
 use Rattle.merkle_branch.specs.declared.Branch.{Branch}
-use Rattle.merkle_branch.specs.Digests.{height}
-use Rattle.merkle_branch.specs.Branches.{siblings, IsPadded}
+use Rattle.hb_base.specs.ByteLists.{AreBytes}
+use Rattle.merkle_branch.specs.Branches.{siblings, IsPath}
 use Rattle.hb_wire.specs.declared.items.Item.{Item}
 use Rattle.hb_wire.specs.declared.vote.Vals.{Vals}
 use Rattle.hb_wire.specs.declared.vote.Vals.TheVariants.{Zero, One, Both}
 use Rattle.hb_wire.specs.declared.vote.To.{To}
-use Rattle.hb_wire.specs.declared.vote.To.TheVariants.{Book, Home, All, Node}
+use Rattle.hb_wire.specs.declared.vote.To.TheVariants as address
 use Rattle.hb_wire.specs.declared.vote.Vote.{Vote}
 use Rattle.hb_wire.specs.declared.vote.Vote.TheVariants.{Val, Echo, Ready, Delivered, Est, Bval, Aux, Pick, Coin, Decided, Propose, NoMore, Closed}
+use Rattle.hb_wire.specs.declared.vote.Vote.TheVariants.{Conf}
 
 -- a field of a vote, with what limits its value
 pub data Field : Type 0 where
@@ -36,28 +38,33 @@ pub record Row : Type 0 where
   pub to : To
   pub fields : List Field
 
--- the longest shard and the longest value of a broadcast
-abbrev pub most_shard : ℕ
-most_shard = 16520
+abbrev pub entry : ℕ → ℕ → To → List Field → Row
+entry kind epoch to fields = record { kind = kind; epoch = epoch; to = to; fields = fields }
 
-abbrev pub most_value : ℕ
-most_value = 16514
+-- what shows a shard of a broadcast
+abbrev pub shard_fields : List ℕ → List ℕ → Branch → List Field
+shard_fields root shard branch = block 32 root ∷ sized 1 longest_shard shard ∷ path branch ∷ []
+
+-- what shows a share of a coin
+abbrev pub share_fields : ℕ → List ℕ → Branch → List Field
+share_fields share salt branch = byte share ∷ block 16 salt ∷ path branch ∷ []
 
 -- the table of votes
 abbrev pub row : Vote → Row
-row (Val epoch target root shard branch) = record { kind = 0x01; epoch = epoch; to = Node target; fields = node target ∷ block 32 root ∷ sized 1 most_shard shard ∷ path branch ∷ [] }
-row (Echo epoch root shard branch) = record { kind = 0x02; epoch = epoch; to = All; fields = block 32 root ∷ sized 1 most_shard shard ∷ path branch ∷ [] }
-row (Ready epoch root) = record { kind = 0x03; epoch = epoch; to = All; fields = block 32 root ∷ [] }
-row (Delivered epoch value) = record { kind = 0x04; epoch = epoch; to = Home; fields = sized 0 most_value value ∷ [] }
-row (Est epoch r b) = record { kind = 0x05; epoch = epoch; to = Book; fields = round r ∷ bit b ∷ [] }
-row (Bval epoch r b) = record { kind = 0x06; epoch = epoch; to = All; fields = round r ∷ bit b ∷ [] }
-row (Aux epoch r b) = record { kind = 0x07; epoch = epoch; to = All; fields = round r ∷ bit b ∷ [] }
-row (Pick epoch r vals) = record { kind = 0x08; epoch = epoch; to = Book; fields = round r ∷ set vals ∷ [] }
-row (Coin epoch r share salt branch) = record { kind = 0x09; epoch = epoch; to = All; fields = round r ∷ byte share ∷ block 16 salt ∷ path branch ∷ [] }
-row (Decided epoch b) = record { kind = 0x0A; epoch = epoch; to = Home; fields = bit b ∷ [] }
-row (Propose epoch value) = record { kind = 0x10; epoch = epoch; to = Home; fields = sized 0 most_value value ∷ [] }
-row (NoMore epoch) = record { kind = 0x11; epoch = epoch; to = Home; fields = [] }
-row (Closed epoch items) = record { kind = 0x12; epoch = epoch; to = Book; fields = list items ∷ [] }
+row (Val epoch target root shard branch) = entry 0x01 epoch (address.Node target) (node target ∷ shard_fields root shard branch)
+row (Echo epoch root shard branch) = entry 0x02 epoch address.All (shard_fields root shard branch)
+row (Ready epoch root) = entry 0x03 epoch address.All (block 32 root ∷ [])
+row (Delivered epoch value) = entry 0x04 epoch address.Home (sized 0 longest_value value ∷ [])
+row (Est epoch r b) = entry 0x05 epoch address.Book (round r ∷ bit b ∷ [])
+row (Bval epoch r b) = entry 0x06 epoch address.All (round r ∷ bit b ∷ [])
+row (Aux epoch r b) = entry 0x07 epoch address.All (round r ∷ bit b ∷ [])
+row (Pick epoch r vals) = entry 0x08 epoch address.Book (round r ∷ set vals ∷ [])
+row (Coin epoch r share salt branch) = entry 0x09 epoch address.All (round r ∷ share_fields share salt branch)
+row (Decided epoch b) = entry 0x0A epoch address.Home (bit b ∷ [])
+row (Conf epoch r vals) = entry 0x0B epoch address.All (round r ∷ set vals ∷ [])
+row (Propose epoch value) = entry 0x10 epoch address.Home (sized 0 longest_value value ∷ [])
+row (NoMore epoch) = entry 0x11 epoch address.Home []
+row (Closed epoch items) = entry 0x12 epoch address.Book (list items ∷ [])
 
 -- the first byte of a vote's spelling
 abbrev pub kind_of : Vote → ℕ
@@ -66,6 +73,11 @@ kind_of vote = (row vote).kind
 -- the epoch that a vote is about, its second byte
 abbrev pub epoch_of : Vote → ℕ
 epoch_of vote = (row vote).epoch
+
+-- the first version of the rules that has the vote
+abbrev pub first_version : Vote → ℕ
+first_version (Conf epoch r vals) = 2
+first_version _ = 1
 
 -- where a vote goes
 abbrev pub address_of : Vote → To
@@ -96,48 +108,41 @@ field_bytes (bit b) = bit_byte b ∷ []
 field_bytes (set vals) = set_byte vals ∷ []
 field_bytes (block size bytes) = bytes
 field_bytes (sized least most bytes) = sized_bytes bytes
-field_bytes (path branch) = flat_map (λ digest. digest) (siblings branch)
+field_bytes (path branch) = flat_map (λ bytes. bytes) (siblings branch)
 field_bytes (list items) = length items ∷ flat_map item_bytes items
 
 -- ---- bounds
 
--- the branch has as many digests, of 32 bytes each, as the tree of n leaves is high
-pub record IsPath (n : ℕ) (branch : Branch) : Type 0 where
-  pub len : branch.len ≡ height n
-  pub padded : IsPadded branch
-  pub digests : AllByRecursion (λ digest. length digest ≡ 32) (siblings branch)
-
 -- the items' nodes rise strictly, from low on and below n
 abbrev pub AreItems : ℕ → ℕ → List Item → Type 0
 AreItems n low [] = Unit {0}
-AreItems n low (item ∷ items) = (low ≤ item.node) × (item.node < n) × (length item.value ≤ most_value) × AreItems n (item.node + 1) items
+AreItems n low (item ∷ items) =
+    (low ≤ item.node) × (item.node < n) × (length item.value ≤ longest_value) × AreBytes item.value × AreItems n (item.node + 1) items
 
 abbrev pub FieldFits : ℕ → Field → Type 0
 FieldFits n (node m) = m < n
-FieldFits n (round r) = r < 32
+FieldFits n (round r) = r < most_rounds
 FieldFits n (byte b) = b < 256
 FieldFits n (bit b) = Unit {0}
 FieldFits n (set vals) = Unit {0}
 FieldFits n (block size bytes) = length bytes ≡ size
-FieldFits n (sized least most bytes) = (least ≤ length bytes) × (length bytes ≤ most)
+FieldFits n (sized least most bytes) = (least ≤ length bytes) × (length bytes ≤ most) × AreBytes bytes
 FieldFits n (path branch) = IsPath n branch
 FieldFits n (list items) = (length items ≤ n) × AreItems n 0 items
 
--- what has a spelling among n nodes
-pub record IsVote (n : ℕ) (vote : Vote) : Type 0 where
-  pub epoch : epoch_of vote < 32
+-- a vote of this version of the rules, within its bounds among n nodes
+pub record IsVote (n version : ℕ) (vote : Vote) : Type 0 where
+  pub begun : first_version vote ≤ version
+  pub built : version ≤ latest_version
+  pub epoch : epoch_of vote < most_epochs
   pub fields : AllByRecursion (FieldFits n) (row vote).fields
 
 -- the one spelling of a vote
 abbrev pub spelling : Vote → List ℕ
 spelling vote = kind_of vote ∷ epoch_of vote ∷ flat_map field_bytes (row vote).fields
 
--- the versions of the rules that are built
-abbrev pub IsBuilt : ℕ → Type 0
-IsBuilt version = version ≡ 1
-
 -- under this version of the rules the bytes spell the vote, among n nodes
 pub record Spells (n version : ℕ) (bytes : List ℕ) (vote : Vote) : Type 0 where
-  pub built : IsBuilt version
-  pub fits : IsVote n vote
+  pub are_bytes : AreBytes bytes
+  pub fits : IsVote n version vote
   pub spelled : bytes ≡ spelling vote

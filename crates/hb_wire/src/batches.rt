@@ -1,20 +1,18 @@
 //! Batches of transactions as bytes.
 
-ghost use Rattle.std.specs.Prelude.{◌≡◌, ℕ, ◌++◌, ◌∷◌, ◌≤◌, ◌<◌, ◌^◌, List, [], length, drop, take, slice_index_or, IfOk, OnOk, IfSome};
+ghost use Rattle.std.specs.Prelude.{◌≡◌, ℕ, ◌++◌, ◌≤◌, ◌<◌, ◌^◌, List, length, slice_index_or, IfOk, OnOk, IfSome};
 ghost use Rattle.std.specs.List.{flat_map};
 ghost use Rattle.std.specs.Int.{w16, to_be_bytes};
+ghost use Rattle.hb_base.specs.Limits.{longest_value};
+ghost use Rattle.hb_base.specs.ByteLists.{AreBytes};
 ghost use Rattle.hb_wire.specs.Reading.{Shows};
-ghost use Rattle.hb_wire.specs.Batches.{IsBatch, batch_bytes, transaction_bytes, short_at, transaction_at, transactions_at, after_transactions, count_at, batch_of};
+ghost use Rattle.hb_wire.specs.Batches.{IsBatch, batch_bytes, transaction_bytes, short_at, transaction_at, transactions_at, after_transactions};
+ghost use Rattle.hb_wire.specs.Batches.{count_at, batch_of};
 
-use crate::scanning::block_of;
+use crate::fields::block_of;
 use hb_base::Bytes;
+use hb_base::limits::{LONGEST_TRANSACTION, MOST_BATCH};
 use std::alloc::{AllocError, Global};
-
-/// The most transactions of a batch.
-pub const MAX_BATCH: u16 = 64;
-
-/// The longest transaction, in bytes.
-pub const MAX_TRANSACTION: u16 = 256;
 
 // A number of 2 bytes, and the bytes after it.
 fn short_of(bytes: &[u8]) -> Option<(u16, &[u8])>
@@ -33,10 +31,11 @@ fn transaction_of(bytes: &[u8]) -> Option<(&[u8], &[u8])>
     ensures { Shows (λ x. (x.0.now, x.1.now)) result (transaction_at bytes.now) }
 {
     let (len, rest) = short_of(bytes)?;
-    if len < 1 || MAX_TRANSACTION < len {
+    let len = len as usize;
+    if len < 1 || LONGEST_TRANSACTION < len {
         return None;
     }
-    block_of(len as usize, rest)
+    block_of(len, rest)
 }
 
 // The bytes behind so many transactions.
@@ -59,7 +58,7 @@ fn count_of(bytes: &[u8]) -> Option<u16>
     ensures few { IfSome result (λ count. count ≤ 64) }
 {
     let (count, rest) = short_of(bytes)?;
-    if MAX_BATCH < count {
+    if (MOST_BATCH as u16) < count {
         return None;
     }
     let rest = after_transactions_of(count, rest)?;
@@ -120,25 +119,36 @@ pub fn read_batch(alloc: Global, bytes: &[u8]) -> Result<Vec<Bytes>, AllocError>
     }
 }
 
-/// The bytes of a batch, from which the same transactions are read.
+fn put_transaction(out: &mut Vec<u8>, transaction: &[u8]) -> Result<(), AllocError>
+    requires { length transaction.now < 2 ^ 16 }
+    ensures { OnOk result (out.new.items ≡ out.old.items ++ transaction_bytes transaction.now) }
+{
+    out.extend_from_slice(&(transaction.len() as u16).to_be_bytes())?;
+    out.extend_from_slice(transaction)
+}
+
+fn put_batch(out: &mut Vec<u8>, batch: &[Bytes]) -> Result<(), AllocError>
+    requires { IsBatch batch.now }
+    ensures spelled { OnOk result (out.new.items ≡ out.old.items ++ batch_bytes batch.now) }
+    ensures bytes { OnOk result (AreBytes out.new.items) }
+{
+    out.extend_from_slice(&(batch.len() as u16).to_be_bytes())?;
+    for transaction in batch {
+        put_transaction(out, transaction.as_slice())?;
+    }
+    Ok(())
+}
+
+/// The bytes of a batch, from which the same transactions are read. They can be proposed as a value.
 pub fn write_batch(alloc: Global, batch: &[Bytes]) -> Result<Bytes, AllocError>
     requires { IsBatch batch.now }
     ensures spelled { IfOk result (λ bytes. bytes ≡ batch_bytes batch.now) }
     ensures read_back { IfOk result (λ bytes. batch_of bytes ≡ batch.now) }
+    ensures value { IfOk result (λ bytes. (length bytes ≤ longest_value) × AreBytes bytes) }
 {
-    let mut size: usize = 2;
-    for transaction in batch {
-        size = size
-            .saturating_add(2)
-            .saturating_add(transaction.as_slice().len());
-    }
-    let mut out = Vec::with_capacity(alloc, size)?;
-    out.extend_from_slice(&(batch.len() as u16).to_be_bytes())?;
-    'transactions: for transaction in batch {
-        out.extend_from_slice(&(transaction.as_slice().len() as u16).to_be_bytes())?;
-        out.extend_from_slice(transaction.as_slice())?;
-    }
-    Ok(Bytes::from(out))
+    let mut out = Vec::new(alloc);
+    put_batch(&mut out, batch)?;
+    Bytes::from_vec(out)
 }
 
 /// A batch is read from its spelling.

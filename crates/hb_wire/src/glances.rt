@@ -1,33 +1,32 @@
 //! What can be seen of a vote's bytes without a copy.
 
-ghost use Rattle.std.specs.Prelude.{◌≡◌, ℕ, ◌∷◌, ◌≤◌, ◌<◌, List, length, slice_index_or, IfSome, IfNone, IsSomeAnd};
+ghost use Rattle.std.specs.Prelude.{◌≡◌, ℕ, ◌≤◌, ◌<◌, List, slice_index_or, IsSomeAnd, IfSome, IfNone, None};
 ghost use Rattle.hb_wire.specs.declared.items.Item.{Item};
-ghost use Rattle.hb_wire.specs.declared.vote.Vote.{Vote};
-ghost use Rattle.hb_wire.specs.declared.vote.Vote.TheVariants.{Closed};
-ghost use Rattle.hb_wire.specs.Votes.{Spells, kind_of, epoch_of};
+ghost use Rattle.hb_wire.specs.Reading.{vote_at};
 ghost use Rattle.hb_wire.specs.Glances.{IsGlance, HasItemAt, IsClosedRest};
-ghost use Rattle.hb_wire.specs.Lending.{item as item_of, IsList, listed};
+ghost use Rattle.hb_wire.specs.Lists.{item as item_of, IsList, listed};
 
 use crate::glimpse::Glance;
-use crate::reading::front_item;
-use crate::scanning::scan;
+use crate::items_view::front_item;
+use crate::reading::view;
 
 /// What stands at the front of the bytes, if they spell a vote among n nodes under this version.
 pub fn glance<'a>(n: u8, version: u8, bytes: &'a [u8]) -> Option<Glance<'a>>
     requires some { 1 ≤ n }
     requires few { n ≤ 16 }
-    ensures found { IfSome result (λ g. (vote : Vote) × Spells n version bytes.now vote × IsGlance bytes.now vote g.kind g.epoch g.rest.now) }
-
-    // Each vote that is spelled is seen.
-    ensures only { (vote : Vote) → Spells n version bytes.now vote → IsSomeAnd result (λ g. IsGlance bytes.now vote g.kind g.epoch g.rest.now) }
+    ensures none { IfNone result (vote_at n version bytes.now ≡ None) }
+    ensures seen { IfSome result (λ g. IsSomeAnd (vote_at n version bytes.now) (λ vote. IsGlance bytes.now vote g.kind g.epoch g.rest.now)) }
 {
-    match scan(n, version, bytes) {
-        None => None,
-        Some(_) => Some(Glance {
-            kind: bytes[0],
-            epoch: bytes[1],
-            rest: &bytes[2..],
-        }),
+    match bytes {
+        [kind, epoch, rest @ ..] => match view(n, version, bytes) {
+            None => None,
+            Some(_) => Some(Glance {
+                kind: *kind,
+                epoch: *epoch,
+                rest,
+            }),
+        },
+        _ => None,
     }
 }
 

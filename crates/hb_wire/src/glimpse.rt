@@ -1,7 +1,7 @@
 //! The type of what a glance gives.
 
 /// The kind and the epoch of a vote, and the bytes behind them.
-#[derive(Clone, Copy, Debug)]
+#[derive(Clone, Copy, Debug, PartialEq, Eq)]
 pub struct Glance<'a> {
     pub kind: u8,
     pub epoch: u8,

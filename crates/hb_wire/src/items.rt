@@ -1,6 +1,9 @@
 //! The batches that a closed epoch accepts.
 
 ghost use Rattle.std.specs.Prelude.{◌≡◌, List, [], ◌∷◌, ◌++◌, OnOk, OnErr};
+ghost use Rattle.std.specs.Cmp.{partial_equiv_from_equiv};
+ghost use Rattle.std.specs.Cmp.Lexicographic.{pointwise, lists_per, lists_equiv};
+ghost use Rattle.hb_wire.specs.Lists.{same_item, same_item_equiv};
 
 use hb_base::Bytes;
 use std::alloc::{AllocError, Global};
@@ -37,6 +40,21 @@ impl Model for Items {
     ghost Value = { List Item };
 
     ghost view = { λ list. list.items.items };
+}
+
+// Lists compare as their items do, one by one.
+impl PartialEq for Items {
+    ghost eq = { pointwise same_item };
+
+    ghost laws = { lists_per (partial_equiv_from_equiv same_item_equiv) };
+
+    fn eq(&self, other: &Items) -> bool {
+        self.as_slice() == other.as_slice()
+    }
+}
+
+impl Eq for Items {
+    ghost laws = { lists_equiv same_item_equiv };
 }
 
 impl Items {

@@ -1,39 +1,43 @@
 //! Votes of HoneyBadgerBFT as bytes, and where they go: one spelling for each vote, read and written.
 #![tactic(auto)]
 
-ghost use Rattle.std.specs.Prelude.{◌≡◌, ℕ, List, ◌++◌};
+ghost use Rattle.std.specs.Prelude.{◌≡◌, ◌↔◌, ℕ, List, ◌++◌, Some};
 ghost use Rattle.hb_wire.specs.declared.vote.Vote.{Vote};
 ghost use Rattle.hb_wire.specs.Votes.{Spells};
+ghost use Rattle.hb_wire.specs.Reading.{vote_at};
 
 mod batches;
 mod fault;
+mod fields;
 mod glances;
 mod glimpse;
 mod items;
-mod lent;
+mod items_view;
+mod kinds;
 mod post;
 mod reading;
-mod scanning;
 #[cfg(test)]
 mod tests;
 mod vote;
+mod vote_view;
 mod writing;
 
-pub use batches::{
-    MAX_BATCH, MAX_TRANSACTION, batch_at, batch_len, one_batch, read_batch, write_batch,
-};
+pub use batches::{batch_at, batch_len, one_batch, read_batch, write_batch};
 pub use fault::WireFault;
 pub use glances::{glance, item};
 pub use glimpse::Glance;
 pub use items::{Item, Items};
+pub use items_view::ItemsView;
 pub use post::{Lie, Post, reaches};
-pub use reading::read;
-pub use scanning::{MAX_SHARD, MAX_VALUE};
+pub use reading::{read, view};
 pub use vote::{To, Vals, Vote};
+pub use vote_view::VoteView;
 pub use writing::write;
 
-/// No spelling goes on as another, and no bytes spell two votes: where two spellings begin the same
-/// bytes they are equal, and so are the votes.
-pub fn one_spelling()
-    ensures { (n version : ℕ) (a b x y : List ℕ) (v w : Vote) → Spells n version a v → Spells n version b w → a ++ x ≡ b ++ y → (a ≡ b) × (v ≡ w) }
+/// What is read of a byte string is the one vote that it spells. No spelling goes on as another, and no
+/// bytes spell two votes: where two spellings begin the same bytes they are equal, and so are the votes.
+pub fn spelling_laws()
+    ensures read { (n version : ℕ) (bytes : List ℕ) (vote : Vote) → (vote_at n version bytes ≡ Some vote) ↔ Spells n version bytes vote }
+    ensures one { (n version : ℕ) (a b x y : List ℕ) (v w : Vote) → Spells n version a v → Spells n version b w
+        → a ++ x ≡ b ++ y → (a ≡ b) × (v ≡ w) }
 {}

@@ -47,7 +47,7 @@ pub enum To {
 
 /// One vote of an actor. Epochs and rounds are 0 to 31, a target is a node. `root` is the root of the
 /// Merkle tree over the shards of a value, and `branch` leads from the shard or the share to a root.
-#[derive(Debug, Drop)]
+#[derive(Debug, PartialEq, Eq, Drop)]
 pub enum Vote {
     /// The sender of a broadcast hands one node its shard (CCS 2016, figure 2).
     Val {
@@ -110,6 +110,13 @@ pub enum Vote {
     Decided {
         epoch: u8,
         bit: bool,
+    },
+    /// The bits for which a node has gathered support in a round, confirmed to all before it shows its share
+    /// of the round's coin. A vote of version 2 of the rules alone.
+    Conf {
+        epoch: u8,
+        round: u8,
+        vals: Vals,
     },
     /// A desk proposes a value to its own node's lane.
     Propose {
@@ -201,6 +208,11 @@ impl Clone for Vote {
                 epoch: *epoch,
                 bit: *bit,
             },
+            Vote::Conf { epoch, round, vals } => Vote::Conf {
+                epoch: *epoch,
+                round: *round,
+                vals: *vals,
+            },
             Vote::Propose { epoch, value } => Vote::Propose {
                 epoch: *epoch,
                 value: value.clone()?,
@@ -229,6 +241,7 @@ impl Vote {
             | Vote::Ready { .. }
             | Vote::Bval { .. }
             | Vote::Aux { .. }
+            | Vote::Conf { .. }
             | Vote::Coin { .. } => To::All,
             Vote::Val { target, .. } => To::Node(*target),
         }
@@ -249,6 +262,7 @@ impl Vote {
             | Vote::Pick { epoch, .. }
             | Vote::Coin { epoch, .. }
             | Vote::Decided { epoch, .. }
+            | Vote::Conf { epoch, .. }
             | Vote::Propose { epoch, .. }
             | Vote::NoMore { epoch }
             | Vote::Closed { epoch, .. } => *epoch,
@@ -270,6 +284,7 @@ impl Vote {
             Vote::Pick { .. } => 0x08,
             Vote::Coin { .. } => 0x09,
             Vote::Decided { .. } => 0x0A,
+            Vote::Conf { .. } => 0x0B,
             Vote::Propose { .. } => 0x10,
             Vote::NoMore { .. } => 0x11,
             Vote::Closed { .. } => 0x12,

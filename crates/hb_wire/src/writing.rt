@@ -1,9 +1,11 @@
 //! Votes to bytes.
 
-ghost use Rattle.std.specs.Prelude.{◌≡◌, ◌++◌, [], ◌∷◌, ◌<◌, ◌≤◌, ◌^◌, length, OnOk, IfOk};
+ghost use Rattle.std.specs.Prelude.{◌≡◌, ◌++◌, [], ◌∷◌, Some, ◌<◌, ◌≤◌, ◌^◌, length, OnOk, IfOk};
 ghost use Rattle.std.specs.List.{flat_map};
 ghost use Rattle.merkle_branch.specs.Branches.{siblings};
-ghost use Rattle.hb_wire.specs.Votes.{IsVote, Spells, AreItems, row, field_bytes, sized_bytes, item_bytes};
+ghost use Rattle.hb_base.specs.ByteLists.{AreBytes};
+ghost use Rattle.hb_wire.specs.Votes.{IsVote, Spells, AreItems, spelling, row, shard_fields, share_fields, field_bytes, sized_bytes, item_bytes};
+ghost use Rattle.hb_wire.specs.Reading.{vote_at};
 
 use crate::items::Item;
 use crate::vote::Vote;
@@ -45,7 +47,7 @@ fn put_items(out: &mut Vec<u8>, n: u8, items: &[Item]) -> Result<(), AllocError>
     Ok(())
 }
 
-// What a node shows of its shard.
+// What shows a shard.
 fn put_shard(
     out: &mut Vec<u8>,
     root: &[u8; 32],
@@ -54,15 +56,47 @@ fn put_shard(
 ) -> Result<(), AllocError>
     requires short { length shard.now < 2 ^ 32 }
     requires low { branch.now.len ≤ 4 }
-    ensures { OnOk result (out.new.items ≡ out.old.items ++ (root.now ++ (sized_bytes shard.now ++ (flat_map (λ digest. digest) (siblings branch.now) ++ [])))) }
+    ensures { OnOk result (out.new.items ≡ out.old.items ++ flat_map field_bytes (shard_fields root.now shard.now branch.now)) }
 {
     out.extend_from_slice(root)?;
     put_sized(out, shard.as_slice())?;
     put_branch(out, branch)
 }
 
-fn put_fields(out: &mut Vec<u8>, n: u8, vote: &Vote) -> Result<(), AllocError>
-    requires { IsVote n vote.now }
+// A node, and what shows its shard.
+fn put_val(
+    out: &mut Vec<u8>,
+    target: u8,
+    root: &[u8; 32],
+    shard: &Bytes,
+    branch: &Branch,
+) -> Result<(), AllocError>
+    requires short { length shard.now < 2 ^ 32 }
+    requires low { branch.now.len ≤ 4 }
+    ensures { OnOk result (out.new.items ≡ out.old.items ++ target ∷ flat_map field_bytes (shard_fields root.now shard.now branch.now)) }
+{
+    out.push(target)?;
+    put_shard(out, root, shard, branch)
+}
+
+// A round, and what shows a share of its coin.
+fn put_share(
+    out: &mut Vec<u8>,
+    round: u8,
+    share: u8,
+    salt: &[u8; 16],
+    branch: &Branch,
+) -> Result<(), AllocError>
+    requires { branch.now.len ≤ 4 }
+    ensures { OnOk result (out.new.items ≡ out.old.items ++ round ∷ flat_map field_bytes (share_fields share salt.now branch.now)) }
+{
+    out.extend_from_slice(&[round, share])?;
+    out.extend_from_slice(salt)?;
+    put_branch(out, branch)
+}
+
+fn put_fields(out: &mut Vec<u8>, n: u8, version: u8, vote: &Vote) -> Result<(), AllocError>
+    requires { IsVote n version vote.now }
     ensures { OnOk result (out.new.items ≡ out.old.items ++ flat_map field_bytes (row vote.now).fields) }
 {
     match vote {
@@ -72,91 +106,53 @@ fn put_fields(out: &mut Vec<u8>, n: u8, vote: &Vote) -> Result<(), AllocError>
             shard,
             branch,
             ..
-        } => {
-            out.push(*target)?;
-            put_shard(out, root, shard, branch)?;
-        }
+        } => put_val(out, *target, root, shard, branch),
         Vote::Echo {
             root,
             shard,
             branch,
             ..
-        } => put_shard(out, root, shard, branch)?,
-        Vote::Ready { root, .. } => out.extend_from_slice(root)?,
+        } => put_shard(out, root, shard, branch),
+        Vote::Ready { root, .. } => out.extend_from_slice(root),
         Vote::Delivered { value, .. } | Vote::Propose { value, .. } => put_sized(
             out,
             value.as_slice(),
-        )?,
+        ),
         Vote::Est { round, bit, .. }
         | Vote::Bval { round, bit, .. }
-        | Vote::Aux { round, bit, .. } => {
-            out.extend_from_slice(&[*round, *bit as u8])?;
+        | Vote::Aux { round, bit, .. } => out.extend_from_slice(&[*round, *bit as u8]),
+        Vote::Pick { round, vals, .. } | Vote::Conf { round, vals, .. } => {
+            out.extend_from_slice(&[*round, vals.byte()])
         }
-        Vote::Pick { round, vals, .. } => out.extend_from_slice(&[*round, vals.byte()])?,
         Vote::Coin {
             round,
             share,
             salt,
             branch,
             ..
-        } => {
-            out.extend_from_slice(&[*round, *share])?;
-            out.extend_from_slice(salt)?;
-            put_branch(out, branch)?;
-        }
-        Vote::Decided { bit, .. } => out.push(*bit as u8)?,
-        Vote::NoMore { .. } => {}
-        Vote::Closed { list, .. } => put_items(out, n, list.as_slice())?,
+        } => put_share(out, *round, *share, salt, branch),
+        Vote::Decided { bit, .. } => out.extend_from_slice(&[*bit as u8]),
+        Vote::NoMore { .. } => Ok(()),
+        Vote::Closed { list, .. } => put_items(out, n, list.as_slice()),
     }
-    Ok(())
 }
 
-/// The one spelling of the vote among n nodes.
-pub fn write(alloc: Global, n: u8, vote: &Vote) -> Result<Bytes, AllocError>
-    requires some { 1 ≤ n }
-    requires few { n ≤ 16 }
-    requires fits { IsVote n vote.now }
-    ensures { IfOk result (λ bytes. Spells n 1 bytes vote.now) }
+fn put_vote(out: &mut Vec<u8>, n: u8, version: u8, vote: &Vote) -> Result<(), AllocError>
+    requires { IsVote n version vote.now }
+    ensures spelled { OnOk result (out.new.items ≡ out.old.items ++ spelling vote.now) }
+    ensures bytes { OnOk result (AreBytes out.new.items) }
 {
-    let mut out = Vec::with_capacity(alloc, spelled_len(vote))?;
-    out.push(vote.kind())?;
-    out.push(vote.epoch())?;
-    put_fields(&mut out, n, vote)?;
-    Ok(Bytes::from(out))
+    out.extend_from_slice(&[vote.kind(), vote.epoch()])?;
+    put_fields(out, n, version, vote)
 }
 
-// How many bytes the vote's spelling has.
-fn spelled_len(vote: &Vote) -> usize {
-    let fields = match vote {
-        Vote::Val { shard, branch, .. } => sized_len(shard, branch).saturating_add(33),
-        Vote::Echo { shard, branch, .. } => sized_len(shard, branch).saturating_add(32),
-        Vote::Ready { .. } => 32,
-        Vote::Delivered { value, .. } | Vote::Propose { value, .. } => value
-            .as_slice()
-            .len()
-            .saturating_add(4),
-        Vote::Est { .. } | Vote::Bval { .. } | Vote::Aux { .. } | Vote::Pick { .. } => 2,
-        Vote::Coin { branch, .. } => 18 + 32 * branch.len as usize,
-        Vote::Decided { .. } => 1,
-        Vote::NoMore { .. } => 0,
-        Vote::Closed { list, .. } => items_len(list.as_slice()),
-    };
-    fields.saturating_add(2)
-}
-
-fn sized_len(bytes: &Bytes, branch: &Branch) -> usize {
-    bytes
-        .as_slice()
-        .len()
-        .saturating_add(4 + 32 * branch.len as usize)
-}
-
-fn items_len(items: &[Item]) -> usize {
-    let mut len: usize = 1;
-    for item in items {
-        len = len
-            .saturating_add(5)
-            .saturating_add(item.value.as_slice().len());
-    }
-    len
+/// The one spelling of the vote among n nodes under this version of the rules.
+pub fn write(alloc: Global, n: u8, version: u8, vote: &Vote) -> Result<Bytes, AllocError>
+    requires { IsVote n version vote.now }
+    ensures spelled { IfOk result (λ bytes. Spells n version bytes vote.now) }
+    ensures meant { IfOk result (λ bytes. vote_at n version bytes ≡ Some vote.now) }
+{
+    let mut out = Vec::new(alloc);
+    put_vote(&mut out, n, version, vote)?;
+    Bytes::from_vec(out)
 }

@@ -1,6 +1,6 @@
 use Rattle.std.proofs.Common.{◌≡◌, ◌<◌, ◌+◌, ◌-◌, get_or, sym, ap, subst, ◌∙◌, arith}
 use Rattle.hb_wire.specs.Reading.{items_in}
-use Rattle.hb_wire.specs.Lending.{HasItems, listed}
+use Rattle.hb_wire.specs.Lists.{HasItems, listed}
 use Rattle.hb_wire.proofs.ListLemmas.{has_more}
 use Rattle.hb_wire.proofs.GlanceLemmas.{items_dropped, item_found}
 use Rattle.hb_wire.proofs.glances.nth_item.Goals as goal

@@ -1,6 +1,6 @@
 use Rattle.std.proofs.Common.{◌≡◌, ◌-◌, drop, get_or}
 use Rattle.hb_wire.specs.Reading.{items_in}
-use Rattle.hb_wire.specs.Lending.{HasItems, listed}
+use Rattle.hb_wire.specs.Lists.{HasItems, listed}
 use Rattle.hb_wire.proofs.glances.nth_item.Given as goal
 
 -- what is left has the items from here on

@@ -1,5 +1,0 @@
-use Rattle.hb_wire.proofs.PathLemmas.{Copies}
-use Rattle.hb_wire.proofs.reading.branch_of.Given as goal
-
-abbrev pub invariant-loop-level : goal.invariant-loop-level
-invariant-loop-level l = Copies l.len l.level l.path l.rest l.digests

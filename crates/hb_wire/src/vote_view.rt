@@ -1,0 +1,150 @@
+//! Votes whose byte strings are still where they were read.
+
+ghost use Rattle.std.specs.Prelude.{◌≡◌, IfOk};
+ghost use Rattle.hb_wire.specs.Views.{vote_of};
+
+use crate::items_view::ItemsView;
+use crate::vote::{Vals, Vote};
+use hb_base::Bytes;
+use merkle_branch::Branch;
+use std::alloc::{AllocError, Global};
+
+/// A vote, with its byte strings lent. Its variants and fields are those of `Vote`.
+#[derive(Debug, Drop)]
+pub enum VoteView<'a> {
+    Val {
+        epoch: u8,
+        target: u8,
+        root: [u8; 32],
+        shard: &'a [u8],
+        branch: Branch,
+    },
+    Echo {
+        epoch: u8,
+        root: [u8; 32],
+        shard: &'a [u8],
+        branch: Branch,
+    },
+    Ready {
+        epoch: u8,
+        root: [u8; 32],
+    },
+    Delivered {
+        epoch: u8,
+        value: &'a [u8],
+    },
+    Est {
+        epoch: u8,
+        round: u8,
+        bit: bool,
+    },
+    Bval {
+        epoch: u8,
+        round: u8,
+        bit: bool,
+    },
+    Aux {
+        epoch: u8,
+        round: u8,
+        bit: bool,
+    },
+    Pick {
+        epoch: u8,
+        round: u8,
+        vals: Vals,
+    },
+    Coin {
+        epoch: u8,
+        round: u8,
+        share: u8,
+        salt: [u8; 16],
+        branch: Branch,
+    },
+    Decided {
+        epoch: u8,
+        bit: bool,
+    },
+    Conf {
+        epoch: u8,
+        round: u8,
+        vals: Vals,
+    },
+    Propose {
+        epoch: u8,
+        value: &'a [u8],
+    },
+    NoMore {
+        epoch: u8,
+    },
+    Closed {
+        epoch: u8,
+        list: ItemsView<'a>,
+    },
+}
+
+impl VoteView<'_> {
+    /// The vote, with a copy of each byte string.
+    pub fn to_vote(self, alloc: Global) -> Result<Vote, AllocError>
+        ensures { IfOk result (λ vote. vote ≡ vote_of self.entry) }
+    {
+        Ok(match self {
+            VoteView::Val {
+                epoch,
+                target,
+                root,
+                shard,
+                branch,
+            } => Vote::Val {
+                epoch,
+                target,
+                root,
+                shard: Bytes::copy(alloc, shard)?,
+                branch,
+            },
+            VoteView::Echo {
+                epoch,
+                root,
+                shard,
+                branch,
+            } => Vote::Echo {
+                epoch,
+                root,
+                shard: Bytes::copy(alloc, shard)?,
+                branch,
+            },
+            VoteView::Ready { epoch, root } => Vote::Ready { epoch, root },
+            VoteView::Delivered { epoch, value } => Vote::Delivered {
+                epoch,
+                value: Bytes::copy(alloc, value)?,
+            },
+            VoteView::Est { epoch, round, bit } => Vote::Est { epoch, round, bit },
+            VoteView::Bval { epoch, round, bit } => Vote::Bval { epoch, round, bit },
+            VoteView::Aux { epoch, round, bit } => Vote::Aux { epoch, round, bit },
+            VoteView::Pick { epoch, round, vals } => Vote::Pick { epoch, round, vals },
+            VoteView::Coin {
+                epoch,
+                round,
+                share,
+                salt,
+                branch,
+            } => Vote::Coin {
+                epoch,
+                round,
+                share,
+                salt,
+                branch,
+            },
+            VoteView::Decided { epoch, bit } => Vote::Decided { epoch, bit },
+            VoteView::Conf { epoch, round, vals } => Vote::Conf { epoch, round, vals },
+            VoteView::Propose { epoch, value } => Vote::Propose {
+                epoch,
+                value: Bytes::copy(alloc, value)?,
+            },
+            VoteView::NoMore { epoch } => Vote::NoMore { epoch },
+            VoteView::Closed { epoch, list } => Vote::Closed {
+                epoch,
+                list: list.to_items(alloc)?,
+            },
+        })
+    }
+}
