@@ -24,10 +24,18 @@ outside_push (first ∷ spans) span k h out =
 -- an offset outside of a range lies before it or behind it
 pub outside_span : (at n k : ℕ) → is_in (record { at = at; len = n }) k ≡ false → (k < at) ⊎ (at + n ≤ k)
 outside_span at n k h =
-    ⊎_elim (λ l. inl l) (λ from. ⊎_elim (λ short. absurd (both_ways _ h (and_from _ _ (le-leb at k from) (lt-ltb k (at + n) short)))) (λ past. inr past) (cases_lt k (at + n))) (cases_lt k at)
+    ⊎_elim (λ l. inl l) (λ from. ⊎_elim (λ short. absurd (both_ways _ h (and_from _ _ (le-leb at k from) (lt-ltb k (at + n) short))))
+    (λ past. inr past) (cases_lt k (at + n))) (cases_lt k at)
 
 pub write_keeps : (area : AreaState) (at : ℕ) (bytes : List ℕ) → IsKept area → at ≤ length area.content
-    → IsKept (record { content = overwritten at bytes area.content; synced = area.synced; written = area.written ++ record { at = at; len = length bytes } ∷ []; least = area.least; most = max area.most (at + length bytes) })
+    → IsKept (record {
+      content = overwritten at bytes area.content;
+      synced = area.synced;
+      written =
+          area.written ++ record { at = at; len = length bytes } ∷ [];
+      least = area.least;
+      most = max area.most (at + length bytes);
+    })
 write_keeps area at bytes kept h =
     let long = length-overwritten at bytes area.content h in
     record {
@@ -37,11 +45,14 @@ write_keeps area at bytes kept h =
       synced_most = omega (arith, kept.synced_most);
       agree = λ k l out.
           let parts = outside_more area.written (record { at = at; len = length bytes }) k out in
-          kept.agree k l parts.0 ∙ sym (⊎_elim (overwritten_below at bytes area.content k h) (overwritten_above at bytes area.content k h) (outside_span at (length bytes) k parts.1));
+          kept.agree k l parts.0 ∙ sym (⊎_elim (overwritten_below at bytes area.content k h) (overwritten_above at bytes area.content k h)
+          (outside_span at (length bytes) k parts.1));
     }
 
 -- the same, once the four fields are known to be these
-pub write_made : (area : AreaState) (at : ℕ) (bytes : List ℕ) (content synced : List ℕ) (written : List Span) (most : ℕ) → IsKept area → at ≤ length area.content
-    → content ≡ overwritten at bytes area.content → synced ≡ area.synced → written ≡ area.written ++ record { at = at; len = length bytes } ∷ [] → most ≡ max area.most (at + length bytes)
+pub write_made : (area : AreaState) (at : ℕ) (bytes : List ℕ) (content synced : List ℕ) (written : List Span) (most : ℕ) → IsKept area
+    → at ≤ length area.content
+    → content ≡ overwritten at bytes area.content → synced ≡ area.synced → written ≡ area.written ++ record { at = at; len = length bytes } ∷ []
+    → most ≡ max area.most (at + length bytes)
     → IsKept (record { content = content; synced = synced; written = written; least = area.least; most = most })
 write_made area at bytes content synced written most kept h e1 e2 e3 e4 = rw (e1, e2, e3, e4) (write_keeps area at bytes kept h)

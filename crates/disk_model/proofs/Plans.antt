@@ -1,10 +1,13 @@
 -- What a call by the plan leaves, by what it meets.
-use Rattle.std.proofs.Common.{◌≡◌, ◌≤◌, ◌<◌, ◌+◌, ◌^◌, ◌==◌, ◌⊎◌, inl, inr, ⊎_elim, cond, length, suc, ℕ, List, [], ◌∷◌, Bool, true, false, nat_lt, Option, Some, None, Result, Ok, Err, IsErrOf, OnOk, is_some, if◌then◌else◌, refl, sym, ◌∙◌, ap, subst, arith}
+use Rattle.std.proofs.Common.{◌≡◌, ◌≤◌, ◌<◌, ◌+◌, ◌^◌, ◌==◌, ◌⊎◌, inl, inr, ⊎_elim, cond, length, suc, ℕ, List, [], ◌∷◌, Bool, true, false}
+use Rattle.std.proofs.Common.{nat_lt, Option, Some, None, Result, Ok, Err, IsErrOf, OnOk, is_some, if◌then◌else◌, refl, sym, ◌∙◌, ap, subst}
+use Rattle.std.proofs.Common.{arith}
 use Rattle.std.specs.List.{list_any, Contains}
 use Rattle.std.proofs.lemmas.List.Sums.{sum_by-cons}
 use Rattle.std.proofs.lemmas.Bool.{cases_lt, cases_Bool, cond-true, cond-false, lt-ltb, le-ltb, ltb-true, eqb-true, or_cases, both_ways}
 use Rattle.disk_model.specs.declared.disk.DiskFault.{DiskFault}
-use Rattle.disk_model.specs.declared.disk.DiskFault.TheVariants.{Failed}
+use Rattle.disk_model.specs.declared.disk.DiskFault.TheVariants.{Failed, Memory}
+use Rattle.hb_base.specs.Outside.{HasCauseOf}
 use Rattle.disk_model.specs.declared.halves.Halves.{Halves}
 use Rattle.disk_model.specs.declared.plan.Leave.{Leave}
 use Rattle.disk_model.specs.declared.plan.Stop.{Stop}
@@ -12,8 +15,9 @@ use Rattle.disk_model.specs.declared.met.Met.{Met}
 use Rattle.disk_model.specs.declared.met.Met.TheVariants.{Nothing, Fault, Stops, Off}
 use Rattle.disk_model.specs.declared.disk.Half.{Half}
 use Rattle.disk_model.specs.Image.{half_of}
-use Rattle.disk_model.specs.Disk.{Only, Follows, Keeps, OnHalf, Torn, Cut}
+use Rattle.disk_model.specs.Disk.{Only, Follows, Keeps, OnHalf, TornWrite, Cut}
 use Rattle.disk_model.specs.Area.{after_write, after_cut}
+use Rattle.disk_model.specs.Faults.{is_failed}
 use Rattle.disk_model.specs.Supply.{Draws, IsNamed}
 use Rattle.disk_model.specs.Halves.{HalvesMayLeave, content_of, on_half, settled}
 use Rattle.disk_model.specs.Memory.{MemoryState, one_more, stop_at, met_at, met_by, met_of, IsDisk, AnswersAs, AnswersOrMemory, stops_after, supply_of}
@@ -29,22 +33,56 @@ stops_after_later m n [] h = omega arith
 stops_after_later m n (stop ∷ stops) h =
     let rest = stops_after_later m n stops h in
     ⊎_elim
-    (λ later. omega (arith, rest, stops_after_step n stop stops, stops_after_step m stop stops, cond-true {A = ℕ} (nat_lt n stop.call) 1 0 (lt-ltb n stop.call later), cond-true {A = ℕ} (nat_lt m stop.call) 1 0 (lt-ltb m stop.call (omega (arith, later, h)))))
-    (λ past. omega (arith, rest, stops_after_step n stop stops, stops_after_step m stop stops, cond-false {A = ℕ} (nat_lt n stop.call) 1 0 (le-ltb n stop.call past)))
+    (λ later. omega (
+      arith,
+      rest,
+      stops_after_step n stop stops,
+      stops_after_step m stop stops,
+      cond-true {A = ℕ} (nat_lt n stop.call) 1 0 (lt-ltb n stop.call later),
+      cond-true {A = ℕ} (nat_lt m stop.call) 1 0 (lt-ltb m stop.call (omega (arith, later, h))),
+    ))
+    (λ past. omega (
+      arith,
+      rest,
+      stops_after_step n stop stops,
+      stops_after_step m stop stops,
+      cond-false {A = ℕ} (nat_lt n stop.call) 1 0 (le-ltb n stop.call past),
+    ))
     (cases_lt n stop.call)
 
 -- and one fewer where there is a stop at it
-pub stops_after_met : (m call : ℕ) (stops : List Stop) (leave : Leave) → stop_at call stops ≡ Some leave → m < call → stops_after call stops < stops_after m stops
+pub stops_after_met : (m call : ℕ) (stops : List Stop) (leave : Leave) → stop_at call stops ≡ Some leave → m < call
+    → stops_after call stops < stops_after m stops
 stops_after_met m call [] leave met h = absurd (cc)
 stops_after_met m call (stop ∷ stops) leave met h =
     ⊎_elim
     (λ here. let at : stop.call ≡ call = eqb-true stop.call call here in
-    omega (arith, stops_after_step call stop stops, stops_after_step m stop stops, stops_after_later m call stops (omega (arith, h)), cond-false {A = ℕ} (nat_lt call stop.call) 1 0 (le-ltb call stop.call (omega (arith, at))), cond-true {A = ℕ} (nat_lt m stop.call) 1 0 (lt-ltb m stop.call (omega (arith, at, h)))))
+    omega (
+      arith,
+      stops_after_step call stop stops,
+      stops_after_step m stop stops,
+      stops_after_later m call stops (omega (arith, h)),
+      cond-false {A = ℕ} (nat_lt call stop.call) 1 0 (le-ltb call stop.call (omega (arith, at))),
+      cond-true {A = ℕ} (nat_lt m stop.call) 1 0 (lt-ltb m stop.call (omega (arith, at, h))),
+    ))
     (λ elsewhere.
     let rest = stops_after_met m call stops leave (sym (cond-false (stop.call == call) (Some stop.leave) (stop_at call stops) elsewhere) ∙ met) h in
     ⊎_elim
-    (λ later. omega (arith, rest, stops_after_step call stop stops, stops_after_step m stop stops, cond-true {A = ℕ} (nat_lt call stop.call) 1 0 (lt-ltb call stop.call later), cond-true {A = ℕ} (nat_lt m stop.call) 1 0 (lt-ltb m stop.call (omega (arith, later, h)))))
-    (λ past. omega (arith, rest, stops_after_step call stop stops, stops_after_step m stop stops, cond-false {A = ℕ} (nat_lt call stop.call) 1 0 (le-ltb call stop.call past)))
+    (λ later. omega (
+      arith,
+      rest,
+      stops_after_step call stop stops,
+      stops_after_step m stop stops,
+      cond-true {A = ℕ} (nat_lt call stop.call) 1 0 (lt-ltb call stop.call later),
+      cond-true {A = ℕ} (nat_lt m stop.call) 1 0 (lt-ltb m stop.call (omega (arith, later, h))),
+    ))
+    (λ past. omega (
+      arith,
+      rest,
+      stops_after_step call stop stops,
+      stops_after_step m stop stops,
+      cond-false {A = ℕ} (nat_lt call stop.call) 1 0 (le-ltb call stop.call past),
+    ))
     (cases_lt call stop.call))
     (cases_Bool (stop.call == call))
 
@@ -56,17 +94,20 @@ fault_is true (Some leave) fails met = absurd (cc)
 fault_is false stop fails met = absurd (cc)
 
 -- so is a stop
-stop_is : (small : Bool) (stop : Option Leave) (fails : Bool) (leave : Leave) → (if small then met_at stop fails else Nothing) ≡ Stops leave → (small ≡ true) × (stop ≡ Some leave)
+stop_is : (small : Bool) (stop : Option Leave) (fails : Bool) (leave : Leave) → (if small then met_at stop fails else Nothing) ≡ Stops leave
+    → (small ≡ true) × (stop ≡ Some leave)
 stop_is true None true leave met = absurd (cc)
 stop_is true None false leave met = absurd (cc)
 stop_is true (Some first) fails leave met = (refl, cc)
 stop_is false stop fails leave met = absurd (cc)
 
-fault_met : (off : Option Leave) (call : ℕ) (stops : List Stop) (planned : List ℕ) → met_by off call stops planned ≡ Fault → (call < 2 ^ 32) × (list_any (λ fault. fault == call) planned ≡ true)
+fault_met : (off : Option Leave) (call : ℕ) (stops : List Stop) (planned : List ℕ) → met_by off call stops planned ≡ Fault
+    → (call < 2 ^ 32) × (list_any (λ fault. fault == call) planned ≡ true)
 fault_met (Some leave) call stops planned met = absurd (cc)
 fault_met None call stops planned met = let is = fault_is _ _ _ met in (ltb-true _ _ is.0, is.1)
 
-stop_met : (off : Option Leave) (call : ℕ) (stops : List Stop) (planned : List ℕ) (leave : Leave) → met_by off call stops planned ≡ Stops leave → (call < 2 ^ 32) × (stop_at call stops ≡ Some leave)
+stop_met : (off : Option Leave) (call : ℕ) (stops : List Stop) (planned : List ℕ) (leave : Leave) → met_by off call stops planned ≡ Stops leave
+    → (call < 2 ^ 32) × (stop_at call stops ≡ Some leave)
 stop_met (Some left) call stops planned leave met = absurd (cc)
 stop_met None call stops planned leave met = let is = stop_is _ _ _ _ met in (ltb-true _ _ is.0, is.1)
 
@@ -89,13 +130,15 @@ named_among (fault ∷ planned) call found =
     (λ later. let rest = named_among planned call later in (suc rest.0, omega (arith, rest.1), rest.2))
     (or_cases (fault == call) (list_any (λ x. x == call) planned) found)
 
-pub explained_by : {T : Type 0} (met : Met) (done cut_off : Halves) (old new : MemoryState) (result : Result T DiskFault) → met_of old ≡ met → AnswersAs met done cut_off old new result
+pub explained_by : {T : Type 0} (met : Met) (done cut_off : Halves) (old new : MemoryState) (result : Result T DiskFault) → met_of old ≡ met
+    → AnswersAs met done cut_off old new result
     → IsErrOf result Failed → IsNamed (supply_of new)
 explained_by Nothing done cut_off old new (Ok x) is answers failed = absurd (cc)
 explained_by Nothing done cut_off old new (Err e) is answers failed = absurd (cc (answers.0))
 explained_by Fault done cut_off old new result is answers failed =
     let met = fault_met old.off (one_more old.calls) old.stops old.planned is in
-    subst (λ (d : MemoryState). IsNamed (supply_of d)) (sym answers.1) (inr (one_more old.calls, named_among old.planned (one_more old.calls) met.1, omega (arith, met.0)))
+    subst (λ (d : MemoryState). IsNamed (supply_of d)) (sym answers.1)
+    (inr (one_more old.calls, named_among old.planned (one_more old.calls) met.1, omega (arith, met.0)))
 explained_by (Stops leave) done cut_off old new result is answers failed = subst (λ (d : MemoryState). IsNamed (supply_of d)) (sym answers.1) (inl refl)
 explained_by Off done cut_off old new result is answers failed =
     subst (λ (d : MemoryState). IsNamed (supply_of d)) (sym answers.1) (inl (off_met old.off (one_more old.calls) old.stops old.planned is))
@@ -133,8 +176,29 @@ draws_by Off done cut_off old new result is small answers = subst (λ (d : Memor
   calls = omega arith;
 })
 
+-- a failure is counted once, and nothing else is
+abbrev IsCounted : {T : Type 0} → MemoryState → MemoryState → Result T DiskFault → Type 0
+IsCounted old new result = HasCauseOf is_failed old.faults new.faults result
+
+counted : {T : Type 0} (old new : MemoryState) (result : Result T DiskFault) → IsErrOf result Failed → new.faults ≡ one_more old.faults
+    → old.faults < 2 ^ 64 → IsCounted old new result
+counted old new (Ok x) failed more small = absurd (cc failed)
+counted old new (Err Failed) failed more small = record { later = omega (arith, more, small); failed = omega (arith, more); quiet = tt }
+counted old new (Err Memory) failed more small = absurd (cc failed)
+
+pub cause_by : {T : Type 0} (met : Met) (done cut_off : Halves) (old new : MemoryState) (result : Result T DiskFault) → old.faults < 2 ^ 64
+    → AnswersAs met done cut_off old new result → IsCounted old new result
+cause_by Nothing done cut_off old new (Ok x) small answers =
+    let same : new.faults ≡ old.faults = ap (λ (d : MemoryState). d.faults) answers.1 in
+    record { later = omega (arith, same); failed = tt; quiet = same }
+cause_by Nothing done cut_off old new (Err e) small answers = absurd (cc (answers.0))
+cause_by Fault done cut_off old new result small answers = counted old new result answers.0 (ap (λ (d : MemoryState). d.faults) answers.1) small
+cause_by (Stops leave) done cut_off old new result small answers = counted old new result answers.0 (ap (λ (d : MemoryState). d.faults) answers.1) small
+cause_by Off done cut_off old new result small answers = counted old new result answers.0 (ap (λ (d : MemoryState). d.faults) answers.1) small
+
 -- the halves are those of the call once it is done, or as before
-pub halves_by : {T : Type 0} (met : Met) (done : Halves) (old new : MemoryState) (result : Result T DiskFault) → AnswersAs met done done old new result → (new.halves ≡ done) ⊎ (new.halves ≡ old.halves)
+pub halves_by : {T : Type 0} (met : Met) (done : Halves) (old new : MemoryState) (result : Result T DiskFault)
+    → AnswersAs met done done old new result → (new.halves ≡ done) ⊎ (new.halves ≡ old.halves)
 halves_by Nothing done old new result answers = inl (ap (λ (d : MemoryState). d.halves) answers.1)
 halves_by Fault done old new result answers = inr (ap (λ (d : MemoryState). d.halves) answers.1)
 halves_by (Stops leave) done old new result answers = inl (ap (λ (d : MemoryState). d.halves) answers.1)
@@ -154,16 +218,20 @@ durable_by Off old new (Ok x) answers = absurd (cc (answers.0))
 durable_by Off old new (Err e) answers = tt
 
 -- what a cut may leave
-pub cut_by : {T : Type 0} (met : Met) (half : Half) (len : ℕ) (old new : MemoryState) (result : Result T DiskFault) → len ≤ length (half_of half (content_of old.halves))
-    → AnswersAs met (on_half half (after_cut len) old.halves) (on_half half (after_cut len) old.halves) old new result → Follows (OnHalf half (Cut len)) (HalvesMayLeave old.halves) (HalvesMayLeave new.halves)
+pub cut_by : {T : Type 0} (met : Met) (half : Half) (len : ℕ) (old new : MemoryState) (result : Result T DiskFault)
+    → len ≤ length (half_of half (content_of old.halves))
+    → AnswersAs met (on_half half (after_cut len) old.halves) (on_half half (after_cut len) old.halves) old new result
+    → Follows (OnHalf half (Cut len)) (HalvesMayLeave old.halves) (HalvesMayLeave new.halves)
 cut_by met half len old new result fits answers = λ c left.
     ⊎_elim
     (λ done. half_cut_follows half len old.halves c fits (subst (λ (h : Halves). HalvesMayLeave h c) done left))
     (λ same. (c, subst (λ (h : Halves). HalvesMayLeave h c) same left, half_cut_same half len c))
     (halves_by met (on_half half (after_cut len) old.halves) old new result answers)
 
-pub cut_kept_by : {T : Type 0} (met : Met) (half : Half) (len : ℕ) (old new : MemoryState) (result : Result T DiskFault) → IsDisk old → len ≤ length (half_of half (content_of old.halves))
-    → AnswersAs met (on_half half (after_cut len) old.halves) (on_half half (after_cut len) old.halves) old new result → Keeps (HalvesMayLeave old.halves) (HalvesMayLeave new.halves)
+pub cut_kept_by : {T : Type 0} (met : Met) (half : Half) (len : ℕ) (old new : MemoryState) (result : Result T DiskFault) → IsDisk old
+    → len ≤ length (half_of half (content_of old.halves))
+    → AnswersAs met (on_half half (after_cut len) old.halves) (on_half half (after_cut len) old.halves) old new result
+    → Keeps (HalvesMayLeave old.halves) (HalvesMayLeave new.halves)
 cut_kept_by met half len old new result kept fits answers = λ c left.
     ⊎_elim
     (λ done. subst (λ (h : Halves). HalvesMayLeave h c) (sym done) (half_cut_grows half len old.halves c kept.a kept.b fits left))
@@ -171,31 +239,47 @@ cut_kept_by met half len old new result kept fits answers = λ c left.
     (halves_by met (on_half half (after_cut len) old.halves) old new result answers)
 
 -- a write that may also find no memory
-written_halves : {T : Type 0} (done : Halves) (old new : MemoryState) (result : Result T DiskFault) → AnswersOrMemory done done old new result → (new.halves ≡ done) ⊎ (new.halves ≡ old.halves)
+written_halves : {T : Type 0} (done : Halves) (old new : MemoryState) (result : Result T DiskFault) → AnswersOrMemory done done old new result
+    → (new.halves ≡ done) ⊎ (new.halves ≡ old.halves)
 written_halves done old new result (inl answers) = halves_by (met_of old) done old new result answers
 written_halves done old new result (inr none) = inr (ap (λ (d : MemoryState). d.halves) none.1)
 
-pub write_by : {T : Type 0} (half : Half) (at : ℕ) (bytes : List ℕ) (old new : MemoryState) (result : Result T DiskFault) → at ≤ length (half_of half (content_of old.halves))
-    → AnswersOrMemory (on_half half (after_write at bytes) old.halves) (on_half half (after_write at bytes) old.halves) old new result → Follows (OnHalf half (Torn at (length bytes))) (HalvesMayLeave old.halves) (HalvesMayLeave new.halves)
+pub write_by : {T : Type 0} (half : Half) (at : ℕ) (bytes : List ℕ) (old new : MemoryState) (result : Result T DiskFault)
+    → at ≤ length (half_of half (content_of old.halves))
+    → AnswersOrMemory (on_half half (after_write at bytes) old.halves) (on_half half (after_write at bytes) old.halves) old new result
+    → Follows (OnHalf half (TornWrite at (length bytes))) (HalvesMayLeave old.halves) (HalvesMayLeave new.halves)
 write_by half at bytes old new result fits answers = λ c left.
     ⊎_elim
     (λ done. half_write_follows half at bytes old.halves c fits (subst (λ (h : Halves). HalvesMayLeave h c) done left))
     (λ same. (c, subst (λ (h : Halves). HalvesMayLeave h c) same left, half_write_same half at (length bytes) c))
     (written_halves (on_half half (after_write at bytes) old.halves) old new result answers)
 
-pub write_kept_by : {T : Type 0} (half : Half) (at : ℕ) (bytes : List ℕ) (old new : MemoryState) (result : Result T DiskFault) → IsDisk old → at ≤ length (half_of half (content_of old.halves))
-    → AnswersOrMemory (on_half half (after_write at bytes) old.halves) (on_half half (after_write at bytes) old.halves) old new result → Keeps (HalvesMayLeave old.halves) (HalvesMayLeave new.halves)
+pub write_kept_by : {T : Type 0} (half : Half) (at : ℕ) (bytes : List ℕ) (old new : MemoryState) (result : Result T DiskFault) → IsDisk old
+    → at ≤ length (half_of half (content_of old.halves))
+    → AnswersOrMemory (on_half half (after_write at bytes) old.halves) (on_half half (after_write at bytes) old.halves) old new result
+    → Keeps (HalvesMayLeave old.halves) (HalvesMayLeave new.halves)
 write_kept_by half at bytes old new result kept fits answers = λ c left.
     ⊎_elim
     (λ done. subst (λ (h : Halves). HalvesMayLeave h c) (sym done) (half_write_grows half at bytes old.halves c kept.a kept.b fits left))
     (λ same. subst (λ (h : Halves). HalvesMayLeave h c) (sym same) left)
     (written_halves (on_half half (after_write at bytes) old.halves) old new result answers)
 
-pub write_explained : {T : Type 0} (done : Halves) (old new : MemoryState) (result : Result T DiskFault) → AnswersOrMemory done done old new result → IsErrOf result Failed → IsNamed (supply_of new)
+pub write_explained : {T : Type 0} (done : Halves) (old new : MemoryState) (result : Result T DiskFault) → AnswersOrMemory done done old new result
+    → IsErrOf result Failed → IsNamed (supply_of new)
 write_explained done old new result (inl answers) failed = explained_by (met_of old) done done old new result refl answers failed
 write_explained done old new result (inr none) failed = absurd (cc (none.0, failed))
 
-pub write_draws : {T : Type 0} (done : Halves) (old new : MemoryState) (result : Result T DiskFault) → old.calls < 2 ^ 64 → AnswersOrMemory done done old new result → Draws (supply_of old) (supply_of new)
+pub write_cause : {T : Type 0} (done : Halves) (old new : MemoryState) (result : Result T DiskFault) → old.faults < 2 ^ 64
+    → AnswersOrMemory done done old new result → IsCounted old new result
+write_cause done old new result small (inl answers) = cause_by (met_of old) done done old new result small answers
+write_cause done old new (Ok x) small (inr none) = absurd (cc (none.0))
+write_cause done old new (Err Failed) small (inr none) = absurd (cc (none.0))
+write_cause done old new (Err Memory) small (inr none) =
+    let same : new.faults ≡ old.faults = ap (λ (d : MemoryState). d.faults) none.1 in
+    record { later = omega (arith, same); failed = same; quiet = tt }
+
+pub write_draws : {T : Type 0} (done : Halves) (old new : MemoryState) (result : Result T DiskFault) → old.calls < 2 ^ 64
+    → AnswersOrMemory done done old new result → Draws (supply_of old) (supply_of new)
 write_draws done old new result small (inl answers) = draws_by (met_of old) done done old new result refl small answers
 write_draws done old new result small (inr none) = subst (λ (d : MemoryState). Draws (supply_of old) (supply_of d)) (sym none.1) (record {
   stays_off = λ h. h;
@@ -206,11 +290,14 @@ write_draws done old new result small (inr none) = subst (λ (d : MemoryState). 
 })
 
 -- what a call meets while the disk is on, where its number fits a u32
-pub met_by_small : (off : Option Leave) (number call : ℕ) (stops stops' : List Stop) (planned planned' : List ℕ) (stop : Option Leave) (fails : Bool) (met : Met) → off ≡ None → number < 2 ^ 32 → call ≡ number
-    → stops' ≡ stops → planned' ≡ planned → stop ≡ stop_at call stops' → fails ≡ list_any (λ fault. fault == call) planned' → met ≡ met_at stop fails → met ≡ met_by off number stops planned
+pub met_by_small : (off : Option Leave) (number call : ℕ) (stops stops' : List Stop) (planned planned' : List ℕ) (stop : Option Leave)
+    (fails : Bool) (met : Met) → off ≡ None → number < 2 ^ 32 → call ≡ number
+    → stops' ≡ stops → planned' ≡ planned → stop ≡ stop_at call stops' → fails ≡ list_any (λ fault. fault == call) planned'
+    → met ≡ met_at stop fails → met ≡ met_by off number stops planned
 met_by_small off number call stops stops' planned planned' stop fails met none small e1 e2 e3 s f m =
     m
     ∙ ap (λ (x : Option Leave). met_at x fails) (s ∙ ap (λ (xs : List Stop). stop_at call xs) e2 ∙ ap (λ (n : ℕ). stop_at n stops) e1)
-    ∙ ap (λ (b : Bool). met_at (stop_at number stops) b) (f ∙ ap (λ (xs : List ℕ). list_any (λ x. x == call) xs) e3 ∙ ap (λ (n : ℕ). list_any (λ x. x == n) planned) e1)
+    ∙ ap (λ (b : Bool). met_at (stop_at number stops) b) (f ∙ ap (λ (xs : List ℕ). list_any (λ x. x == call) xs) e3
+    ∙ ap (λ (n : ℕ). list_any (λ x. x == n) planned) e1)
     ∙ sym (cond-true (nat_lt number (2 ^ 32)) (met_at (stop_at number stops) (list_any (λ x. x == number) planned)) Nothing (lt-ltb number (2 ^ 32) small))
     ∙ ap (λ (o : Option Leave). met_by o number stops planned) (sym none)

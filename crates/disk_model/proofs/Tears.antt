@@ -1,5 +1,6 @@
 -- Tearing a list of bytes, one range after another.
-use Rattle.std.proofs.Common.{◌≡◌, ◌<◌, ◌+◌, ◌%◌, ◌==◌, ◌&&◌, ◌||◌, length, ℕ, List, [], ◌∷◌, Bool, true, false, suc, zero, if◌then◌else◌, slice_index, nat_lt, refl, sym, ◌∙◌, ap, arith}
+use Rattle.std.proofs.Common.{◌≡◌, ◌<◌, ◌+◌, ◌%◌, ◌==◌, ◌&&◌, ◌||◌, length, ℕ, List, [], ◌∷◌, Bool, true, false, suc, zero, if◌then◌else◌}
+use Rattle.std.proofs.Common.{slice_index, nat_lt, refl, sym, ◌∙◌, ap, arith}
 use Rattle.std.proofs.lemmas.List.{ext_get_or}
 use Rattle.disk_model.specs.declared.span.Span.{Span}
 use Rattle.disk_model.specs.Area.{is_in, is_written, torn_from}

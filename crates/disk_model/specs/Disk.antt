@@ -13,7 +13,7 @@ pub record Reads (bytes : List ℕ) (at : ℕ) (before after : List ℕ) (n : �
   pub is : after ≡ take n (drop at bytes) ++ drop n before
 
 -- After a write of n bytes that a crash cuts short: any bytes in the range and past the old end, the same elsewhere.
-pub record Torn (at n : ℕ) (old new : List ℕ) : Type 0 where
+pub record TornWrite (at n : ℕ) (old new : List ℕ) : Type 0 where
   pub no_shorter : length old ≤ length new
   pub no_longer : length new ≤ max (length old) (at + n)
   pub below : (k : ℕ) → k < length old → k < at → slice_index new k ≡ slice_index old k

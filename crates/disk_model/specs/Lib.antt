@@ -1,6 +1,6 @@
 pub mod Image
 pub mod Disk
-pub mod Cause
+pub mod Faults
 pub mod Supply
 pub mod Area
 pub mod Halves

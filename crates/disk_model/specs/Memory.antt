@@ -1,5 +1,6 @@
 -- A disk in memory: its states, and what each call makes of them by its plan.
-use Rattle.std.specs.Prelude.{◌≡◌, ◌⊎◌, ◌≤◌, ◌<◌, ◌+◌, ◌-◌, ◌^◌, ◌==◌, ℕ, Bool, true, false, List, [], ◌∷◌, length, min, nat_lt, if◌then◌else◌, Option, Some, None, is_some, Result, IsOk, IsErrOf, count_by}
+use Rattle.std.specs.Prelude.{◌≡◌, ◌⊎◌, ◌≤◌, ◌<◌, ◌+◌, ◌-◌, ◌^◌, ◌==◌, ℕ, Bool, true, false, List, [], ◌∷◌, length, min, nat_lt}
+use Rattle.std.specs.Prelude.{if◌then◌else◌, Option, Some, None, is_some, Result, IsOk, IsErrOf, count_by}
 use Rattle.std.specs.List.{list_any}
 use Rattle.disk_model.specs.declared.disk.DiskFault.{DiskFault}
 use Rattle.disk_model.specs.declared.disk.DiskFault.TheVariants.{Failed, Memory}
@@ -8,6 +9,7 @@ use Rattle.disk_model.specs.declared.plan.Leave.{Leave}
 use Rattle.disk_model.specs.declared.plan.Stop.{Stop}
 use Rattle.disk_model.specs.declared.met.Met.{Met}
 use Rattle.disk_model.specs.declared.met.Met.TheVariants.{Nothing, Fault, Stops, Off}
+use Rattle.hb_base.specs.Limits.{most_stops}
 use Rattle.disk_model.specs.Image.{Image}
 use Rattle.disk_model.specs.Supply.{Supply}
 use Rattle.disk_model.specs.Area.{at_rest, IsKept}
@@ -49,23 +51,63 @@ met_of disk = met_by disk.off (one_more disk.calls) disk.stops disk.planned
 
 -- after a call that went well, with these halves
 abbrev pub passed : Halves → MemoryState → MemoryState
-passed halves disk = record { halves = halves; past = disk.halves ∷ disk.past; stops = disk.stops; planned = disk.planned; calls = one_more disk.calls; faults = disk.faults; off = disk.off }
+passed halves disk = record {
+  halves = halves;
+  past = disk.halves ∷ disk.past;
+  stops = disk.stops;
+  planned = disk.planned;
+  calls = one_more disk.calls;
+  faults = disk.faults;
+  off = disk.off;
+}
 
 -- after one at which the power went off
 abbrev pub stopped : Halves → Leave → MemoryState → MemoryState
-stopped halves leave disk = record { halves = halves; past = disk.halves ∷ disk.past; stops = disk.stops; planned = disk.planned; calls = one_more disk.calls; faults = one_more disk.faults; off = Some leave }
+stopped halves leave disk = record {
+  halves = halves;
+  past = disk.halves ∷ disk.past;
+  stops = disk.stops;
+  planned = disk.planned;
+  calls = one_more disk.calls;
+  faults = one_more disk.faults;
+  off = Some leave;
+}
 
 -- after one that failed by the plan and changed nothing
 abbrev pub faulted : MemoryState → MemoryState
-faulted disk = record { halves = disk.halves; past = disk.past; stops = disk.stops; planned = disk.planned; calls = one_more disk.calls; faults = one_more disk.faults; off = disk.off }
+faulted disk = record {
+  halves = disk.halves;
+  past = disk.past;
+  stops = disk.stops;
+  planned = disk.planned;
+  calls = one_more disk.calls;
+  faults = one_more disk.faults;
+  off = disk.off;
+}
 
 -- after one while the disk was off
 abbrev pub refused : MemoryState → MemoryState
-refused disk = record { halves = disk.halves; past = disk.past; stops = disk.stops; planned = disk.planned; calls = disk.calls; faults = one_more disk.faults; off = disk.off }
+refused disk = record {
+  halves = disk.halves;
+  past = disk.past;
+  stops = disk.stops;
+  planned = disk.planned;
+  calls = disk.calls;
+  faults = one_more disk.faults;
+  off = disk.off;
+}
 
 -- after it was switched on
 abbrev pub restarted : Leave → MemoryState → MemoryState
-restarted leave disk = record { halves = restored leave disk.halves; past = disk.halves ∷ disk.past; stops = disk.stops; planned = disk.planned; calls = disk.calls; faults = disk.faults; off = None }
+restarted leave disk = record {
+  halves = restored leave disk.halves;
+  past = disk.halves ∷ disk.past;
+  stops = disk.stops;
+  planned = disk.planned;
+  calls = disk.calls;
+  faults = disk.faults;
+  off = None;
+}
 
 -- What a call answers and leaves, by what it meets: the halves once it is done, and those at a stop.
 abbrev pub AnswersAs : {T : Type 0} → Met → Halves → Halves → MemoryState → MemoryState → Result T DiskFault → Type 0
@@ -99,12 +141,20 @@ supply_of disk = record { off = is_some disk.off; stops = stops_after disk.calls
 
 -- a disk that is empty and on
 abbrev pub new_disk : List Stop → List ℕ → MemoryState
-new_disk stops planned = record { halves = record { a = at_rest []; b = at_rest [] }; past = []; stops = stops; planned = planned; calls = 0; faults = 0; off = None }
+new_disk stops planned = record {
+  halves = record { a = at_rest []; b = at_rest [] };
+  past = [];
+  stops = stops;
+  planned = planned;
+  calls = 0;
+  faults = 0;
+  off = None;
+}
 
 -- what the type of a disk in memory keeps
 pub record IsDisk (disk : MemoryState) : Type 0 where
   pub a : IsKept disk.halves.a
   pub b : IsKept disk.halves.b
-  pub few : length disk.stops ≤ 4
+  pub few : length disk.stops ≤ most_stops
   pub calls : disk.calls < 2 ^ 64
   pub faults : disk.faults < 2 ^ 64

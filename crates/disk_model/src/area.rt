@@ -1,4 +1,4 @@
-// One half of a disk in memory.
+//! One half of a disk in memory.
 ghost use Rattle.std.specs.Prelude.{◌≡◌, ◌≤◌, ◌<◌, ◌+◌, ◌%◌, ◌^◌, ◌==◌, ◌&&◌, [], length, IfOk, OnOk, OnErr, ℕ, false, slice_index, if◌then◌else◌};
 ghost use Rattle.std.specs.Vec.{vec_capacity};
 ghost use Rattle.disk_model.specs.Disk.{overwritten, Reads};

@@ -1,9 +1,11 @@
-// The contract of a disk, and of one that can lose its power.
+//! The contract of a disk, and of one that can lose its power.
 ghost use Rattle.std.specs.Prelude.{◌≡◌, ◌≤◌, ◌<◌, ◌+◌, ◌^◌, true, false, List, ℕ, length, take, IfOk, OnOk, OnErr, IsErrOf};
 ghost use Rattle.disk_model.specs.declared.disk.DiskFault.TheVariants.{Memory};
 ghost use Rattle.disk_model.specs.Image.{Image, half_of, with_half};
-ghost use Rattle.disk_model.specs.Disk.{overwritten, Reads, Torn, Cut, OnHalf, Follows, Only, Keeps, Elapses};
-ghost use Rattle.disk_model.specs.Cause.{HasCause};
+ghost use Rattle.disk_model.specs.Disk.{overwritten, Reads, TornWrite, Cut, OnHalf, Follows, Only, Keeps, Elapses};
+ghost use Rattle.hb_base.specs.Limits.{most_stops};
+ghost use Rattle.hb_base.specs.Outside.{HasCauseOf};
+ghost use Rattle.disk_model.specs.Faults.{is_failed};
 ghost use Rattle.disk_model.specs.Supply.{Supply, mains, Draws, IsNamed};
 
 use crate::Note;
@@ -80,7 +82,7 @@ pub trait Disk {
         ensures crash { Keeps (may_leave self.new) (may_leave self.old) }
         ensures kept { Keeps (may_leave self.old) (may_leave self.new) }
         ensures time { Elapses (moment self.old) (moment self.new) (left_since self.old) (left_since self.new) (may_leave self.new) }
-        ensures cause { HasCause (faults self.old) (faults self.new) result }
+        ensures cause { HasCauseOf is_failed (faults self.old) (faults self.new) result }
         ensures explained { IsErrOf result DiskFault.Failed → explains self.new }
         ensures supply { Draws (supply self.old) (supply self.new) };
 
@@ -90,10 +92,10 @@ pub trait Disk {
         requires { at ≤ length (half_of half (seen self.old)) }
         ensures written { OnOk result (seen self.new ≡ with_half half (overwritten at bytes.now (half_of half (seen self.old))) (seen self.old)) }
         ensures small { OnOk result (at + length bytes.now < 2 ^ 63) }
-        ensures crash { Follows (OnHalf half (Torn at (length bytes.now))) (may_leave self.old) (may_leave self.new) }
+        ensures crash { Follows (OnHalf half (TornWrite at (length bytes.now))) (may_leave self.old) (may_leave self.new) }
         ensures kept { Keeps (may_leave self.old) (may_leave self.new) }
         ensures time { Elapses (moment self.old) (moment self.new) (left_since self.old) (left_since self.new) (may_leave self.new) }
-        ensures cause { HasCause (faults self.old) (faults self.new) result }
+        ensures cause { HasCauseOf is_failed (faults self.old) (faults self.new) result }
         ensures explained { IsErrOf result DiskFault.Failed → explains self.new }
         ensures supply { Draws (supply self.old) (supply self.new) };
 
@@ -104,7 +106,7 @@ pub trait Disk {
         ensures crash { Follows (OnHalf half (Cut len)) (may_leave self.old) (may_leave self.new) }
         ensures kept { Keeps (may_leave self.old) (may_leave self.new) }
         ensures time { Elapses (moment self.old) (moment self.new) (left_since self.old) (left_since self.new) (may_leave self.new) }
-        ensures cause { HasCause (faults self.old) (faults self.new) result }
+        ensures cause { HasCauseOf is_failed (faults self.old) (faults self.new) result }
         ensures explained { IsErrOf result DiskFault.Failed → explains self.new }
         ensures supply { Draws (supply self.old) (supply self.new) };
 
@@ -115,7 +117,7 @@ pub trait Disk {
         ensures crash { Keeps (may_leave self.new) (may_leave self.old) }
         ensures kept { OnErr result (Keeps (may_leave self.old) (may_leave self.new)) }
         ensures time { Elapses (moment self.old) (moment self.new) (left_since self.old) (left_since self.new) (may_leave self.new) }
-        ensures cause { HasCause (faults self.old) (faults self.new) result }
+        ensures cause { HasCauseOf is_failed (faults self.old) (faults self.new) result }
         ensures explained { IsErrOf result DiskFault.Failed → explains self.new }
         ensures supply { Draws (supply self.old) (supply self.new) };
 
@@ -138,7 +140,7 @@ pub trait Power: Disk {
     /// How many stops of the plan are at calls that are still to come: at most 4, and never more than before.
     fn stops_left(&self) -> u8
         ensures stops { result ≡ (Self.supply self.now).stops }
-        ensures few { result ≤ 4 };
+        ensures few { result ≤ most_stops };
 
     /// The number of the last numbered call.
     fn note(&self) -> Note

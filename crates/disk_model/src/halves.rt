@@ -1,4 +1,4 @@
-// The two halves of a disk in memory.
+//! The two halves of a disk in memory.
 ghost use Rattle.std.specs.Prelude.{◌≡◌, ◌≤◌, ◌<◌, ◌+◌, ◌^◌, [], ◌∷◌, length, IfOk, OnOk, OnErr};
 ghost use Rattle.disk_model.specs.Image.{half_of};
 ghost use Rattle.disk_model.specs.Disk.{Reads};

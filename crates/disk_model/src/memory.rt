@@ -1,15 +1,18 @@
-// A disk in memory, which fails and loses its power by a plan.
+//! A disk in memory, which fails and loses its power by a plan.
 ghost use Rattle.std.specs.Prelude.{◌≡◌, ◌≤◌, ◌<◌, ◌+◌, ◌^◌, ◌==◌, ◌∷◌, true, false, Some, length, take, IfOk, OnOk, OnErr, IsErrOf, IsSomeAnd};
 ghost use Rattle.std.specs.List.{list_any};
 ghost use Rattle.std.proofs.Common.{inl};
 ghost use Rattle.disk_model.specs.declared.disk.DiskFault.TheVariants.{Failed};
 ghost use Rattle.disk_model.specs.Image.{half_of, with_half};
-ghost use Rattle.disk_model.specs.Disk.{overwritten, Reads, Torn, Cut, OnHalf, Follows, Only, Keeps, Elapses};
-ghost use Rattle.disk_model.specs.Cause.{HasCause};
+ghost use Rattle.disk_model.specs.Disk.{overwritten, Reads, TornWrite, Cut, OnHalf, Follows, Only, Keeps, Elapses};
+ghost use Rattle.hb_base.specs.Limits.{most_stops};
+ghost use Rattle.hb_base.specs.Outside.{HasCauseOf};
+ghost use Rattle.disk_model.specs.Faults.{is_failed};
 ghost use Rattle.disk_model.specs.Supply.{Draws, IsNamed};
 ghost use Rattle.disk_model.specs.Area.{after_write, after_cut};
 ghost use Rattle.disk_model.specs.Halves.{HalvesMayLeave, content_of, on_half, settled};
-ghost use Rattle.disk_model.specs.Memory.{IsDisk, LeftSince, met_of, met_by, met_at, one_more, refused, faulted, restarted, Answers, AnswersOrMemory, stop_at, stops_after, supply_of, new_disk};
+ghost use Rattle.disk_model.specs.Memory.{IsDisk, LeftSince, met_of, met_by, met_at, stop_at, stops_after, supply_of, new_disk};
+ghost use Rattle.disk_model.specs.Memory.{one_more, refused, faulted, restarted, Answers, AnswersOrMemory};
 ghost use Rattle.disk_model.specs.Laws.{seen_stays, only_now_left};
 
 use crate::disk::{Disk, DiskFault, Half, Power};
@@ -36,19 +39,28 @@ pub struct MemoryDisk {
 
 impl Model for MemoryDisk {
     ghost use Rattle.std.specs.Prelude.{◌≤◌, length};
+    ghost use Rattle.hb_base.specs.Limits.{most_stops};
     ghost use Rattle.disk_model.specs.Memory.{MemoryState};
 
     ghost Value = { MemoryState };
 
-    ghost view = { λ d. record { halves = d.halves; past = d.past.states; stops = d.plan.stops.items; planned = d.plan.faults.items; calls = d.calls; faults = d.faults; off = d.off } };
+    ghost view = { λ d. record {
+      halves = d.halves;
+      past = d.past.states;
+      stops = d.plan.stops.items;
+      planned = d.plan.faults.items;
+      calls = d.calls;
+      faults = d.faults;
+      off = d.off;
+    } };
 
-    ghost invariant = { λ d. length d.plan.stops.items ≤ 4 };
+    ghost invariant = { λ d. length d.plan.stops.items ≤ most_stops };
 }
 
 impl MemoryDisk {
     /// An empty disk that will meet this plan, with nothing pending. It takes no memory.
     pub fn new(alloc: Global, plan: Plan) -> MemoryDisk
-        requires { length plan.stops.items ≤ 4 }
+        requires { length plan.stops.items ≤ most_stops }
         ensures { result ≡ new_disk plan.stops.items plan.faults.items }
     {
         MemoryDisk {
@@ -112,7 +124,12 @@ impl MemoryDisk {
     // Fails by the plan, and the power goes off.
     fn stop(&mut self, past: Past, leave: Leave) -> DiskFault
         ensures fault { result ≡ Failed }
-        ensures after { self.new ≡ record self.old { past = past.states; calls = one_more self.old.calls; faults = one_more self.old.faults; off = Some leave } }
+        ensures after { self.new ≡ record self.old {
+          past = past.states;
+          calls = one_more self.old.calls;
+          faults = one_more self.old.faults;
+          off = Some leave;
+        } }
     {
         self.pass(past);
         self.off = Some(leave);
@@ -229,7 +246,7 @@ impl Disk for MemoryDisk {
         ensures crash { Keeps (HalvesMayLeave self.new.halves) (HalvesMayLeave self.old.halves) }
         ensures kept { Keeps (HalvesMayLeave self.old.halves) (HalvesMayLeave self.new.halves) }
         ensures time { Elapses (length self.old.past) (length self.new.past) (LeftSince self.old) (LeftSince self.new) (HalvesMayLeave self.new.halves) }
-        ensures cause { HasCause self.old.faults self.new.faults result }
+        ensures cause { HasCauseOf is_failed self.old.faults self.new.faults result }
         ensures explained { IsErrOf result DiskFault.Failed → IsNamed (supply_of self.new) }
         ensures supply { Draws (supply_of self.old) (supply_of self.new) }
 
@@ -242,12 +259,13 @@ impl Disk for MemoryDisk {
 
     fn write_at(&mut self, half: Half, at: u64, bytes: &[u8]) -> Result<(), DiskFault>
         requires { at ≤ length (half_of half (content_of self.old.halves)) }
-        ensures written { OnOk result (content_of self.new.halves ≡ with_half half (overwritten at bytes.now (half_of half (content_of self.old.halves))) (content_of self.old.halves)) }
+        ensures written { OnOk result (content_of self.new.halves
+            ≡ with_half half (overwritten at bytes.now (half_of half (content_of self.old.halves))) (content_of self.old.halves)) }
         ensures small { OnOk result (at + length bytes.now < 2 ^ 63) }
-        ensures crash { Follows (OnHalf half (Torn at (length bytes.now))) (HalvesMayLeave self.old.halves) (HalvesMayLeave self.new.halves) }
+        ensures crash { Follows (OnHalf half (TornWrite at (length bytes.now))) (HalvesMayLeave self.old.halves) (HalvesMayLeave self.new.halves) }
         ensures kept { Keeps (HalvesMayLeave self.old.halves) (HalvesMayLeave self.new.halves) }
         ensures time { Elapses (length self.old.past) (length self.new.past) (LeftSince self.old) (LeftSince self.new) (HalvesMayLeave self.new.halves) }
-        ensures cause { HasCause self.old.faults self.new.faults result }
+        ensures cause { HasCauseOf is_failed self.old.faults self.new.faults result }
         ensures explained { IsErrOf result DiskFault.Failed → IsNamed (supply_of self.new) }
         ensures supply { Draws (supply_of self.old) (supply_of self.new) }
 
@@ -260,11 +278,12 @@ impl Disk for MemoryDisk {
 
     fn cut(&mut self, half: Half, len: u64) -> Result<(), DiskFault>
         requires { len ≤ length (half_of half (content_of self.old.halves)) }
-        ensures cut { OnOk result (content_of self.new.halves ≡ with_half half (take len (half_of half (content_of self.old.halves))) (content_of self.old.halves)) }
+        ensures cut { OnOk result (content_of self.new.halves
+            ≡ with_half half (take len (half_of half (content_of self.old.halves))) (content_of self.old.halves)) }
         ensures crash { Follows (OnHalf half (Cut len)) (HalvesMayLeave self.old.halves) (HalvesMayLeave self.new.halves) }
         ensures kept { Keeps (HalvesMayLeave self.old.halves) (HalvesMayLeave self.new.halves) }
         ensures time { Elapses (length self.old.past) (length self.new.past) (LeftSince self.old) (LeftSince self.new) (HalvesMayLeave self.new.halves) }
-        ensures cause { HasCause self.old.faults self.new.faults result }
+        ensures cause { HasCauseOf is_failed self.old.faults self.new.faults result }
         ensures explained { IsErrOf result DiskFault.Failed → IsNamed (supply_of self.new) }
         ensures supply { Draws (supply_of self.old) (supply_of self.new) }
 
@@ -281,7 +300,7 @@ impl Disk for MemoryDisk {
         ensures crash { Keeps (HalvesMayLeave self.new.halves) (HalvesMayLeave self.old.halves) }
         ensures kept { OnErr result (Keeps (HalvesMayLeave self.old.halves) (HalvesMayLeave self.new.halves)) }
         ensures time { Elapses (length self.old.past) (length self.new.past) (LeftSince self.old) (LeftSince self.new) (HalvesMayLeave self.new.halves) }
-        ensures cause { HasCause self.old.faults self.new.faults result }
+        ensures cause { HasCauseOf is_failed self.old.faults self.new.faults result }
         ensures explained { IsErrOf result DiskFault.Failed → IsNamed (supply_of self.new) }
         ensures supply { Draws (supply_of self.old) (supply_of self.new) }
 
@@ -335,9 +354,9 @@ impl Power for MemoryDisk {
 
 // How many stops are at calls still to come.
 fn count_after(stops: &[Stop], calls: u64) -> u8
-    requires { length stops.now ≤ 4 }
+    requires { length stops.now ≤ most_stops }
     ensures count { result ≡ stops_after calls stops.now }
-    ensures few { result ≤ 4 }
+    ensures few { result ≤ most_stops }
 {
     let mut count = 0;
     for stop in stops {

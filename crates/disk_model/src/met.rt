@@ -1,4 +1,4 @@
-// What a device call meets.
+//! What a device call meets.
 use crate::plan::Leave;
 
 #[derive(Clone, Copy)]

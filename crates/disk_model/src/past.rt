@@ -1,4 +1,4 @@
-// What a disk has held, for clauses alone.
+//! What a disk has held, for clauses alone.
 ghost use Rattle.std.specs.Prelude.{◌≡◌, List, [], ◌∷◌};
 ghost use Rattle.std.specs.Borrow.{ftrue};
 ghost use Rattle.disk_model.specs.declared.halves.Halves.{Halves as Held};

@@ -1,4 +1,4 @@
-// What is to happen to a disk in memory.
+//! What is to happen to a disk in memory.
 ghost use Rattle.std.specs.Prelude.{◌≡◌, ℕ};
 
 use std::marker::Model;

@@ -1,3 +1,4 @@
+//! Disks by hand: what a stop, a fault and a cut leave, call by call.
 ghost use Rattle.std.specs.Prelude.{◌≡◌, IfOk};
 
 use crate::{Disk, DiskFault, Half, Leave, MemoryDisk, Plan, Power, Stop};

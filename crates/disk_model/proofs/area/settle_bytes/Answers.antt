@@ -10,4 +10,6 @@ returns-clause-same c =
     let went = c.is_err.ensures.negation ∙ ap not c.if-is_err.false in
     joined c.args.least c.loop-span.synced.items c.args.content.now.items c.truncate.new.self.items _ c.extend_from_slice.new.self.items
     c.deref-2.ensures.value c.truncate.ensures.items (c.extend_from_slice.ensures.items ∙ cond-true _ _ _ went)
-    c.loop-span.invariant.long c.requires.least.0 (λ k h. c.loop-span.invariant.same k h (ap (λ spans. is_written spans k) (drop_all c.loop-span.span-index c.args.written.now c.loop-span-test.false)))
+    c.loop-span.invariant.long c.requires.least.0
+    (λ k h. c.loop-span.invariant.same k h
+    (ap (λ spans. is_written spans k) (drop_all c.loop-span.span-index c.args.written.now c.loop-span-test.false)))
