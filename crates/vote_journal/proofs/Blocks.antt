@@ -1,8 +1,9 @@
--- The entries of a half that is spelled, and what writes that a crash cuts short leave of them.
-use Rattle.std.proofs.Common.{◌≡◌, ◌≤◌, ◌/◌, ◌%◌, ◌==◌, inl, inr, ℕ, true, false, zero, suc, List, [], ◌∷◌, ◌++◌, length, take, drop, slice_index, refl, sym, ◌∙◌, ap, arith}
+-- The entries that a half holds, and what writes that a crash cuts short leave of them.
+use Rattle.std.proofs.Common.{◌≡◌, ◌≤◌, ◌/◌, ◌%◌, ◌==◌, inl, inr, ℕ, true, false, zero, suc, List, [], ◌∷◌, ◌++◌, length, take, drop}
+use Rattle.std.proofs.Common.{slice_index, refl, sym, ◌∙◌, ap, arith}
 use Rattle.std.proofs.lemmas.Bool.{cond-true, cond-false, and_left, and_from, lt-ltb}
 use Rattle.std.proofs.lemmas.List.{length-append, append_assoc, take_at, drop_at, length-drop}
-use Rattle.vote_journal.specs.Text.{size_of, has_entry, payload_of, behind, entries_in, rest_in, size_bytes, blocks, Spells, HalfHas}
+use Rattle.vote_journal.specs.Text.{size_of, has_entry, payload_of, behind, entries_in, rest_in, size_bytes, blocks, HoldsEntries, HalfHas}
 
 -- a closed gate has no entry
 closed_entry : (gate : ℕ) (tail : List ℕ) → (gate == 0x5A) ≡ false → has_entry (gate ∷ tail) ≡ false
@@ -57,38 +58,43 @@ block_first : (entry : List ℕ) (entries : List (List ℕ)) (gate : ℕ) (tail 
 block_first entry entries gate tail g r e =
     ap (λ (xs : List ℕ). 0x5A ∷ size_bytes (length entry) ++ xs) (append_assoc entry (blocks entries) (gate ∷ tail) ∙ ap (λ (xs : List ℕ). entry ++ xs) e)
 
-pub spelled_in : (entries : List (List ℕ)) (gate : ℕ) (tail : List ℕ) (most : ℕ) → (gate == 0x5A) ≡ false → length entries ≤ most → entries_in most (blocks entries ++ gate ∷ tail) ≡ entries
-spelled_in [] gate tail most closed h = closed_in gate tail most closed
-spelled_in (entry ∷ entries) gate tail zero closed h = absurd (omega (arith, h))
-spelled_in (entry ∷ entries) gate tail (suc most) closed h =
+pub held_in : (entries : List (List ℕ)) (gate : ℕ) (tail : List ℕ) (most : ℕ) → (gate == 0x5A) ≡ false → length entries ≤ most
+    → entries_in most (blocks entries ++ gate ∷ tail) ≡ entries
+held_in [] gate tail most closed h = closed_in gate tail most closed
+held_in (entry ∷ entries) gate tail zero closed h = absurd (omega (arith, h))
+held_in (entry ∷ entries) gate tail (suc most) closed h =
     let f = gate_first entries gate tail in
     ap (entries_in (suc most)) (block_first entry entries gate tail f.0 f.1 f.2) ∙ opened_in entry f.0 f.1 most
-    ∙ ap (λ (xs : List ℕ). entry ∷ entries_in most xs) (sym f.2) ∙ ap (λ (es : List (List ℕ)). entry ∷ es) (spelled_in entries gate tail most closed (omega (arith, h)))
+    ∙ ap (λ (xs : List ℕ). entry ∷ entries_in most xs) (sym f.2)
+    ∙ ap (λ (es : List (List ℕ)). entry ∷ es) (held_in entries gate tail most closed (omega (arith, h)))
 
-spelled_rest : (entries : List (List ℕ)) (gate : ℕ) (tail : List ℕ) (most : ℕ) → (gate == 0x5A) ≡ false → length entries ≤ most → rest_in most (blocks entries ++ gate ∷ tail) ≡ gate ∷ tail
-spelled_rest [] gate tail most closed h = closed_rest gate tail most closed
-spelled_rest (entry ∷ entries) gate tail zero closed h = absurd (omega (arith, h))
-spelled_rest (entry ∷ entries) gate tail (suc most) closed h =
+held_rest : (entries : List (List ℕ)) (gate : ℕ) (tail : List ℕ) (most : ℕ) → (gate == 0x5A) ≡ false → length entries ≤ most
+    → rest_in most (blocks entries ++ gate ∷ tail) ≡ gate ∷ tail
+held_rest [] gate tail most closed h = closed_rest gate tail most closed
+held_rest (entry ∷ entries) gate tail zero closed h = absurd (omega (arith, h))
+held_rest (entry ∷ entries) gate tail (suc most) closed h =
     let f = gate_first entries gate tail in
     ap (rest_in (suc most)) (block_first entry entries gate tail f.0 f.1 f.2) ∙ opened_rest entry f.0 f.1 most
-    ∙ ap (rest_in most) (sym f.2) ∙ spelled_rest entries gate tail most closed (omega (arith, h))
+    ∙ ap (rest_in most) (sym f.2) ∙ held_rest entries gate tail most closed (omega (arith, h))
 
 -- blocks are no fewer bytes than entries
 pub length-blocks : (entries : List (List ℕ)) → length entries ≤ length (blocks entries)
 length-blocks [] = omega arith
 length-blocks (entry ∷ entries) = omega (arith, length-blocks entries, length-append entry (blocks entries))
 
-pub spells_has : (half : List ℕ) (entries : List (List ℕ)) → Spells half entries → HalfHas half entries
-spells_has half entries spells =
-    let bytes = blocks entries ++ spells.gate ∷ spells.tail in
-    let long : length entries ≤ length half = omega (arith, length-blocks entries, ap length spells.is, length-append (blocks entries) (spells.gate ∷ spells.tail)) in
-    let is : drop 8 half ≡ bytes = ap (drop 8) spells.is in
+pub holds_has : (half : List ℕ) (entries : List (List ℕ)) → HoldsEntries half entries → HalfHas half entries
+holds_has half entries holds =
+    let bytes = blocks entries ++ holds.gate ∷ holds.tail in
+    let long : length entries ≤ length half =
+    omega (arith, length-blocks entries, ap length holds.is, length-append (blocks entries) (holds.gate ∷ holds.tail)) in
+    let is : drop 8 half ≡ bytes = ap (drop 8) holds.is in
     record {
       sound = inr (
-        ap (take 8) spells.is,
-        ap (λ (g : ℕ). g == 0x5A) (ap (λ (xs : List ℕ). slice_index xs 0) (ap (rest_in (length half)) is ∙ spelled_rest entries spells.gate spells.tail (length half) spells.closed long)) ∙ spells.closed,
+        ap (take 8) holds.is,
+        ap (λ (g : ℕ). g == 0x5A) (ap (λ (xs : List ℕ). slice_index xs 0) (ap (rest_in (length half)) is
+            ∙ held_rest entries holds.gate holds.tail (length half) holds.closed long)) ∙ holds.closed,
       );
-      has = ap (entries_in (length half)) is ∙ spelled_in entries spells.gate spells.tail (length half) spells.closed long;
+      has = ap (entries_in (length half)) is ∙ held_in entries holds.gate holds.tail (length half) holds.closed long;
     }
 
 no_room : (bytes : List ℕ) (most : ℕ) → length bytes ≤ 1 → entries_in most bytes ≡ []

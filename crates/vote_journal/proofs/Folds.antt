@@ -6,41 +6,45 @@ use Rattle.disk_model.specs.declared.disk.Half.{Half}
 use Rattle.disk_model.specs.declared.disk.Half.TheVariants.{A, B}
 use Rattle.disk_model.specs.Image.{Image, half_of, other, with_half}
 use Rattle.disk_model.specs.Disk.{Reads, overwritten}
-use Rattle.vote_journal.specs.Text.{magic, blocks, entries_in, entries_of, is_some_entry, text_of, Spells, SaysOnly}
+use Rattle.vote_journal.specs.Text.{magic, blocks, entries_in, half_entries, is_some_entry, text_of, HoldsEntries, SaysOnly}
 use Rattle.vote_journal.specs.Steps.{MayGain, MayLose, MayShut, Folded}
-use Rattle.vote_journal.proofs.Blocks.{spells_has, spelled_in, length-blocks}
-use Rattle.vote_journal.proofs.Says.{spelled_says, text_is, alone, beside_all}
+use Rattle.vote_journal.proofs.Blocks.{holds_has, held_in, length-blocks}
+use Rattle.vote_journal.proofs.Says.{held_says, text_is, alone, beside_all}
 use Rattle.vote_journal.proofs.Tears.{gate_shut, cut_done}
 use Rattle.vote_journal.proofs.Gains.{half_with, other_with, loses_first, loses_second}
 
 -- the bytes of a half up to its closed gate
-pub read_entries : (half before after rest : List ℕ) (entries : List (List ℕ)) (n : ℕ) → Spells half entries → length before ≡ 9 + length (blocks entries) → Reads half 0 before after n → rest ≡ drop 8 after
+pub read_entries : (half before after rest : List ℕ) (entries : List (List ℕ)) (n : ℕ) → HoldsEntries half entries
+    → length before ≡ 9 + length (blocks entries) → Reads half 0 before after n → rest ≡ drop 8 after
     → entries_in (length rest) rest ≡ entries
-read_entries half before after rest entries n spells room reads behind =
-    let gate : List ℕ = spells.gate ∷ [] in
+read_entries half before after rest entries n holds room reads behind =
+    let gate : List ℕ = holds.gate ∷ [] in
     let front : List ℕ = magic ++ (blocks entries ++ gate) in
-    let whole : half ≡ front ++ spells.tail =
-    spells.is ∙ ap (λ (xs : List ℕ). magic ++ xs) (sym (append_assoc (blocks entries) gate spells.tail)) ∙ sym (append_assoc magic (blocks entries ++ gate) spells.tail) in
+    let whole : half ≡ front ++ holds.tail =
+    holds.is ∙ ap (λ (xs : List ℕ). magic ++ xs) (sym (append_assoc (blocks entries) gate holds.tail))
+    ∙ sym (append_assoc magic (blocks entries ++ gate) holds.tail) in
     let long : length front ≡ 9 + length (blocks entries) = omega (arith, length-append magic (blocks entries ++ gate), length-append (blocks entries) gate) in
-    let all : length half ≡ length front + length spells.tail = ap length whole ∙ length-append front spells.tail in
+    let all : length half ≡ length front + length holds.tail = ap length whole ∙ length-append front holds.tail in
     let count : n ≡ length front = omega (arith, reads.count, room, long, all) in
     let is : after ≡ front =
-    reads.is ∙ ap (λ (k : ℕ). take k half ++ drop k before) count ∙ ap (λ (xs : List ℕ). take (length front) half ++ xs) (drop_all (length front) before (omega (arith, room, long)))
-    ∙ append-nil (take (length front) half) ∙ ap (take (length front)) whole ∙ take_at front spells.tail (length front) refl in
+    reads.is ∙ ap (λ (k : ℕ). take k half ++ drop k before) count
+    ∙ ap (λ (xs : List ℕ). take (length front) half ++ xs) (drop_all (length front) before (omega (arith, room, long)))
+    ∙ append-nil (take (length front) half) ∙ ap (take (length front)) whole ∙ take_at front holds.tail (length front) refl in
     let rest_is : rest ≡ blocks entries ++ gate = behind ∙ ap (drop 8) is in
     let enough : length entries ≤ length (blocks entries ++ gate) = omega (arith, length-blocks entries, length-append (blocks entries) gate) in
-    ap (λ (xs : List ℕ). entries_in (length xs) xs) rest_is ∙ spelled_in entries spells.gate [] (length (blocks entries ++ gate)) spells.closed enough
+    ap (λ (xs : List ℕ). entries_in (length xs) xs) rest_is ∙ held_in entries holds.gate [] (length (blocks entries ++ gate)) holds.closed enough
 
 -- a half with no entry has those that it has
-pub none_spelled : (half : List ℕ) → Spells half [] → Spells half (entries_of half)
-none_spelled half spells = subst (λ (es : List (List ℕ)). Spells half es) (sym (spells_has half [] spells).has) spells
+pub none_held : (half : List ℕ) → HoldsEntries half [] → HoldsEntries half (half_entries half)
+none_held half holds = subst (λ (es : List (List ℕ)). HoldsEntries half es) (sym (holds_has half [] holds).has) holds
 
-pub none_gate : (half : List ℕ) → Spells half [] → 8 ≡ 8 + length (blocks (entries_of half))
-none_gate half spells = omega (arith, ap (λ (es : List (List ℕ)). length (blocks es)) (spells_has half [] spells).has)
+pub none_gate : (half : List ℕ) → HoldsEntries half [] → 8 ≡ 8 + length (blocks (half_entries half))
+none_gate half holds = omega (arith, ap (λ (es : List (List ℕ)). length (blocks es)) (holds_has half [] holds).has)
 
-pub folds_here : (live : Half) (image c : Image) (es : List (List ℕ)) → Spells (half_of live image) es → Spells (half_of (other live) image) [] → c ≡ image → SaysOnly (text_of image) c
+pub folds_here : (live : Half) (image c : Image) (es : List (List ℕ)) → HoldsEntries (half_of live image) es → HoldsEntries (half_of (other live) image) []
+    → c ≡ image → SaysOnly (text_of image) c
 folds_here live image c es a b is =
-    let s = spelled_says live image es [] (concat es) a b (alone es) in
+    let s = held_says live image es [] (concat es) a b (alone es) in
     subst (λ (i : Image). SaysOnly (text_of image) i) (sym is) (record { sound = s.sound; says = refl })
 
 other_twice : (half : Half) → other (other half) ≡ half
@@ -48,39 +52,47 @@ other_twice A = refl
 other_twice B = refl
 
 -- while the one entry is put into the other half
-pub fold_gain : (live spare : Half) (image c : Image) (es : List (List ℕ)) (text : List ℕ) → spare ≡ other live → Spells (half_of live image) es → Spells (half_of spare image) [] → text ≡ concat es → is_some_entry es ≡ true
-    → MayGain spare (entries_of (half_of spare image)) text (half_of (other spare) image) c → SaysOnly (text_of image) c
+pub fold_gain : (live spare : Half) (image c : Image) (es : List (List ℕ)) (text : List ℕ) → spare ≡ other live → HoldsEntries (half_of live image) es
+    → HoldsEntries (half_of spare image) [] → text ≡ concat es → is_some_entry es ≡ true
+    → MayGain spare (half_entries (half_of spare image)) text (half_of (other spare) image) c → SaysOnly (text_of image) c
 fold_gain live spare image c es text e a b t some may =
-    let none : entries_of (half_of spare image) ≡ [] = (spells_has (half_of spare image) [] b).has in
+    let none : half_entries (half_of spare image) ≡ [] = (holds_has (half_of spare image) [] b).has in
     let back : other spare ≡ live = ap other e ∙ other_twice live in
     let there : half_of live c ≡ half_of live image = subst (λ (h : Half). half_of h c ≡ half_of h image) back may.there in
-    let lives : Spells (half_of live c) es = subst (λ (xs : List ℕ). Spells xs es) (sym there) a in
-    let was : text_of image ≡ concat es = text_is live image es a (subst (λ (h : Half). Spells (half_of h image) []) e b) in
+    let lives : HoldsEntries (half_of live c) es = subst (λ (xs : List ℕ). HoldsEntries xs es) (sym there) a in
+    let was : text_of image ≡ concat es = text_is live image es a (subst (λ (h : Half). HoldsEntries (half_of h image) []) e b) in
     let P : List ℕ → Type 0 = λ xs. SaysOnly xs c in
     subst P (sym was) (⊎_elim
-    (λ same. spelled_says live c es [] (concat es) lives (subst (λ (h : Half). Spells (half_of h c) []) e (subst (λ (xs : List (List ℕ)). Spells (half_of spare c) xs) none same)) (alone es))
-    (λ more. spelled_says live c es (text ∷ []) (concat es) lives (subst (λ (h : Half). Spells (half_of h c) (text ∷ [])) e (subst (λ (xs : List (List ℕ)). Spells (half_of spare c) (xs ++ text ∷ [])) none more)) (beside_all es text t some))
+    (λ same. held_says live c es [] (concat es) lives
+    (subst (λ (h : Half). HoldsEntries (half_of h c) []) e (subst (λ (xs : List (List ℕ)). HoldsEntries (half_of spare c) xs) none same)) (alone es))
+    (λ more. held_says live c es (text ∷ []) (concat es) lives
+    (subst (λ (h : Half). HoldsEntries (half_of h c) (text ∷ [])) e
+    (subst (λ (xs : List (List ℕ)). HoldsEntries (half_of spare c) (xs ++ text ∷ [])) none more)) (beside_all es text t some))
     may.here)
 
 -- and while the old ones are given up
-module _ (live spare : Half) (image mid : Image) (es : List (List ℕ)) (text : List ℕ) (e : spare ≡ other live) (a : Spells (half_of live image) es) (b : Spells (half_of spare image) []) (t : text ≡ concat es)
-    (some : is_some_entry es ≡ true) (added : Spells (half_of spare mid) (entries_of (half_of spare image) ++ text ∷ [])) (kept : half_of (other spare) mid ≡ half_of (other spare) image) where
-  one : Spells (half_of (other live) mid) (text ∷ [])
-  one = subst (λ (h : Half). Spells (half_of h mid) (text ∷ [])) e (subst (λ (xs : List (List ℕ)). Spells (half_of spare mid) (xs ++ text ∷ [])) (spells_has (half_of spare image) [] b).has added)
+module _ (live spare : Half) (image mid : Image) (es : List (List ℕ)) (text : List ℕ) (e : spare ≡ other live) (a : HoldsEntries (half_of live image) es)
+    (b : HoldsEntries (half_of spare image) []) (t : text ≡ concat es)
+    (some : is_some_entry es ≡ true) (added : HoldsEntries (half_of spare mid) (half_entries (half_of spare image) ++ text ∷ []))
+    (kept : half_of (other spare) mid ≡ half_of (other spare) image) where
+  one : HoldsEntries (half_of (other live) mid) (text ∷ [])
+  one = subst (λ (h : Half). HoldsEntries (half_of h mid) (text ∷ [])) e
+      (subst (λ (xs : List (List ℕ)). HoldsEntries (half_of spare mid) (xs ++ text ∷ [])) (holds_has (half_of spare image) [] b).has added)
 
-  still : Spells (half_of live mid) es
-  still = subst (λ (xs : List ℕ). Spells xs es) (sym (subst (λ (h : Half). half_of h mid ≡ half_of h image) (ap other e ∙ other_twice live) kept)) a
+  still : HoldsEntries (half_of live mid) es
+  still = subst (λ (xs : List ℕ). HoldsEntries xs es) (sym (subst (λ (h : Half). half_of h mid ≡ half_of h image) (ap other e ∙ other_twice live) kept)) a
 
   was : text_of image ≡ concat es
-  was = text_is live image es a (subst (λ (h : Half). Spells (half_of h image) []) e b)
+  was = text_is live image es a (subst (λ (h : Half). HoldsEntries (half_of h image) []) e b)
 
   lose : (c : Image) → MayLose live es (half_of (other live) mid) c → SaysOnly (text_of image) c
   lose c may =
-      let there : Spells (half_of (other live) c) (text ∷ []) = subst (λ (xs : List ℕ). Spells xs (text ∷ [])) (sym may.there) one in
+      let there : HoldsEntries (half_of (other live) c) (text ∷ []) = subst (λ (xs : List ℕ). HoldsEntries xs (text ∷ [])) (sym may.there) one in
       let P : List ℕ → Type 0 = λ xs. SaysOnly xs c in
       subst P (sym was) (⊎_elim
-      (λ same. spelled_says live c es (text ∷ []) (concat es) same there (beside_all es text t some))
-      (λ gone. spelled_says live c [] (text ∷ []) (concat es) gone there (record { first = λ h. absurd (cc); second = λ _. append-nil text ∙ t; none = λ h k. absurd (cc) }))
+      (λ same. held_says live c es (text ∷ []) (concat es) same there (beside_all es text t some))
+      (λ gone. held_says live c [] (text ∷ []) (concat es) gone there
+      (record { first = λ h. absurd (cc); second = λ _. append-nil text ∙ t; none = λ h k. absurd (cc) }))
       may.here)
 
   pub fold_lose : (c : Image) → MayShut live mid c → SaysOnly (text_of image) c
@@ -91,21 +103,22 @@ module _ (live spare : Half) (image mid : Image) (es : List (List ℕ)) (text : 
   folded new shut =
       let bytes = take 9 (overwritten 8 (0 ∷ []) (half_of live mid)) in
       subst (λ (i : Image). Folded live text i) (sym shut) (record {
-        one = subst (λ (xs : List ℕ). Spells xs (text ∷ [])) (sym (other_with live bytes mid)) one;
-        gone = subst (λ (xs : List ℕ). Spells xs []) (sym (half_with live bytes mid)) (cut_done (overwritten 8 (0 ∷ []) (half_of live mid)) (gate_shut (half_of live mid) es still));
+        one = subst (λ (xs : List ℕ). HoldsEntries xs (text ∷ [])) (sym (other_with live bytes mid)) one;
+        gone = subst (λ (xs : List ℕ). HoldsEntries xs []) (sym (half_with live bytes mid))
+            (cut_done (overwritten 8 (0 ∷ []) (half_of live mid)) (gate_shut (half_of live mid) es still));
       })
 
 -- the half that is live then
 pub record FoldOpens (spare : Half) (new : Image) (text : List ℕ) : Type 0 where
-  pub live : Spells (half_of spare new) (entries_of (half_of spare new))
-  pub spare_none : Spells (half_of (other spare) new) []
-  pub same : entries_of (half_of spare new) ≡ text ∷ []
+  pub live : HoldsEntries (half_of spare new) (half_entries (half_of spare new))
+  pub spare_none : HoldsEntries (half_of (other spare) new) []
+  pub same : half_entries (half_of spare new) ≡ text ∷ []
 
 pub fold_opens : (live spare : Half) (new : Image) (text : List ℕ) → spare ≡ other live → Folded live text new → FoldOpens spare new text
 fold_opens live spare new text e folded =
-    let has : entries_of (half_of (other live) new) ≡ text ∷ [] = (spells_has (half_of (other live) new) (text ∷ []) folded.one).has in
+    let has : half_entries (half_of (other live) new) ≡ text ∷ [] = (holds_has (half_of (other live) new) (text ∷ []) folded.one).has in
     subst (λ (h : Half). FoldOpens h new text) (sym e) (record {
-      live = subst (λ (es : List (List ℕ)). Spells (half_of (other live) new) es) (sym has) folded.one;
-      spare_none = subst (λ (h : Half). Spells (half_of h new) []) (sym (other_twice live)) folded.gone;
+      live = subst (λ (es : List (List ℕ)). HoldsEntries (half_of (other live) new) es) (sym has) folded.one;
+      spare_none = subst (λ (h : Half). HoldsEntries (half_of h new) []) (sym (other_twice live)) folded.gone;
       same = has;
     })

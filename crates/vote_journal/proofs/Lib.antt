@@ -5,7 +5,7 @@ pub mod Tears
 pub mod Gains
 pub mod Says
 pub mod Walk
-pub mod Spelled
+pub mod Holding
 pub mod Starts
 pub mod Arranges
 pub mod Folds

@@ -4,9 +4,9 @@ use Rattle.std.specs.List.{concat}
 use Rattle.std.proofs.lemmas.List.{append-nil, append_assoc, length-append}
 use Rattle.disk_model.specs.declared.disk.Half.{Half}
 use Rattle.disk_model.specs.Image.{Image, half_of, other}
-use Rattle.vote_journal.specs.Text.{AreBytes, blocks, is_some_entry, entries_of, text_of, size_bytes, SaysOnly, SaysMaybe, Spells, Agree}
+use Rattle.vote_journal.specs.Text.{HasBytes, blocks, is_some_entry, half_entries, text_of, size_bytes, SaysOnly, SaysMaybe, HoldsEntries, Agree}
 use Rattle.vote_journal.specs.Steps.{MayGain, IsFoundIn}
-use Rattle.vote_journal.proofs.Blocks.{spells_has}
+use Rattle.vote_journal.proofs.Blocks.{holds_has}
 use Rattle.vote_journal.proofs.Images.{image_says}
 
 pub concat_more : (es : List (List ℕ)) (p : List ℕ) → concat (es ++ p ∷ []) ≡ concat es ++ p
@@ -22,21 +22,25 @@ alone (e ∷ es) = record { first = λ _. refl; second = λ h. absurd (cc); none
 pub beside_all : (es : List (List ℕ)) (text : List ℕ) → text ≡ concat es → is_some_entry es ≡ true → Agree es (text ∷ []) (concat es)
 beside_all es text t some = record { first = λ _. refl; second = λ _. append-nil text ∙ t; none = λ h _. absurd (cc (some, h)) }
 
-pub spelled_says : (half : Half) (image : Image) (es fs : List (List ℕ)) (text : List ℕ) → Spells (half_of half image) es → Spells (half_of (other half) image) fs → Agree es fs text → SaysOnly text image
-spelled_says half image es fs text a b agree = image_says half image es fs text (spells_has (half_of half image) es a) (spells_has (half_of (other half) image) fs b) agree
+pub held_says : (half : Half) (image : Image) (es fs : List (List ℕ)) (text : List ℕ) → HoldsEntries (half_of half image) es
+    → HoldsEntries (half_of (other half) image) fs → Agree es fs text → SaysOnly text image
+held_says half image es fs text a b agree =
+    image_says half image es fs text (holds_has (half_of half image) es a) (holds_has (half_of (other half) image) fs b) agree
 
 -- the text of a journal that may be used
-pub text_is : (half : Half) (image : Image) (es : List (List ℕ)) → Spells (half_of half image) es → Spells (half_of (other half) image) [] → text_of image ≡ concat es
-text_is half image es a b = (spelled_says half image es [] (concat es) a b (alone es)).says
+pub text_is : (half : Half) (image : Image) (es : List (List ℕ)) → HoldsEntries (half_of half image) es → HoldsEntries (half_of (other half) image) []
+    → text_of image ≡ concat es
+text_is half image es a b = (held_says half image es [] (concat es) a b (alone es)).says
 
-pub gain_says : (half : Half) (image c : Image) (es : List (List ℕ)) (payload : List ℕ) → Spells (half_of half image) es → Spells (half_of (other half) image) [] → MayGain half es payload (half_of (other half) image) c
+pub gain_says : (half : Half) (image c : Image) (es : List (List ℕ)) (payload : List ℕ) → HoldsEntries (half_of half image) es
+    → HoldsEntries (half_of (other half) image) [] → MayGain half es payload (half_of (other half) image) c
     → SaysMaybe (text_of image) payload c
 gain_says half image c es payload a b may =
-    let spare : Spells (half_of (other half) c) [] = subst (λ (bytes : List ℕ). Spells bytes []) (sym may.there) b in
+    let spare : HoldsEntries (half_of (other half) c) [] = subst (λ (bytes : List ℕ). HoldsEntries bytes []) (sym may.there) b in
     let was = text_is half image es a b in
     ⊎_elim
-    (λ same. let s = spelled_says half c es [] (concat es) same spare (alone es) in record { sound = s.sound; says = inl (s.says ∙ sym was) })
-    (λ more. let s = spelled_says half c (es ++ payload ∷ []) [] (concat (es ++ payload ∷ [])) more spare (alone (es ++ payload ∷ [])) in
+    (λ same. let s = held_says half c es [] (concat es) same spare (alone es) in record { sound = s.sound; says = inl (s.says ∙ sym was) })
+    (λ more. let s = held_says half c (es ++ payload ∷ []) [] (concat (es ++ payload ∷ [])) more spare (alone (es ++ payload ∷ [])) in
     record { sound = s.sound; says = inr (s.says ∙ concat_more es payload ∙ ap (λ (xs : List ℕ). xs ++ payload) (sym was)) })
     may.here
 
@@ -46,7 +50,8 @@ length-blocks_more (e ∷ es) p = omega (arith, length-blocks_more es p, length-
 
 -- a journal whose live half has one entry more
 module _ (old new es : List (List ℕ)) (payload framed : List ℕ) (has : new ≡ es ++ payload ∷ []) (was : old ≡ es) where
-  pub gate_more : (gate gate' n : ℕ) → gate ≡ 8 + length (blocks old) → framed ≡ size_bytes (length payload) ++ (payload ++ 0 ∷ []) → gate' ≡ gate + length framed → gate' ≡ 8 + length (blocks new)
+  pub gate_more : (gate gate' n : ℕ) → gate ≡ 8 + length (blocks old) → framed ≡ size_bytes (length payload) ++ (payload ++ 0 ∷ [])
+      → gate' ≡ gate + length framed → gate' ≡ 8 + length (blocks new)
   gate_more gate gate' n g f e =
       let a = ap (λ (xs : List (List ℕ)). length (blocks xs)) has in
       let b = ap (λ (xs : List (List ℕ)). length (blocks xs)) was in
@@ -55,23 +60,27 @@ module _ (old new es : List (List ℕ)) (payload framed : List ℕ) (has : new �
   pub count_more : (n m : ℕ) → n ≡ min (length old) (2 ^ 32 - 1) → m ≡ min (n + 1) (2 ^ 32 - 1) → m ≡ min (length new) (2 ^ 32 - 1)
   count_more n m h e = omega (arith, h, e, ap length has, ap length was, length-append es (payload ∷ []))
 
-  pub bytes_more : (n m : ℕ) → n ≡ min (length (concat old)) (2 ^ 64 - 1) → m ≡ min (n + length payload) (2 ^ 64 - 1) → m ≡ min (length (concat new)) (2 ^ 64 - 1)
+  pub bytes_more : (n m : ℕ) → n ≡ min (length (concat old)) (2 ^ 64 - 1) → m ≡ min (n + length payload) (2 ^ 64 - 1)
+      → m ≡ min (length (concat new)) (2 ^ 64 - 1)
   bytes_more n m h e =
       let a = ap (λ (xs : List (List ℕ)). length (concat xs)) has in
       let b = ap (λ (xs : List (List ℕ)). length (concat xs)) was in
       omega (arith, h, e, a, b, ap length (concat_more es payload), length-append (concat es) payload)
 
-pub seen_maybe : (half : Half) (image c : Image) (es : List (List ℕ)) (payload : List ℕ) → Spells (half_of half image) es → Spells (half_of (other half) image) [] → c ≡ image → SaysMaybe (text_of image) payload c
-seen_maybe half image c es payload a b is = subst (λ (i : Image). SaysMaybe (text_of image) payload i) (sym is) (gain_says half image image es payload a b (record { here = inl a; there = refl }))
+pub seen_maybe : (half : Half) (image c : Image) (es : List (List ℕ)) (payload : List ℕ) → HoldsEntries (half_of half image) es
+    → HoldsEntries (half_of (other half) image) [] → c ≡ image → SaysMaybe (text_of image) payload c
+seen_maybe half image c es payload a b is =
+    subst (λ (i : Image). SaysMaybe (text_of image) payload i) (sym is) (gain_says half image image es payload a b (record { here = inl a; there = refl }))
 
 -- what was found in a copy of a half was found in it
-pub found_in : (copy half : List ℕ) (entries : List (List ℕ)) (gate bytes len : ℕ) → copy ≡ half → AreBytes copy → entries ≡ entries_of copy → gate ≡ length (blocks (entries_of copy)) → bytes ≡ length (concat (entries_of copy)) → 8 + gate < 2 ^ 63
+pub found_in : (copy half : List ℕ) (entries : List (List ℕ)) (gate bytes len : ℕ) → copy ≡ half → HasBytes copy → entries ≡ half_entries copy
+    → gate ≡ length (blocks (half_entries copy)) → bytes ≡ length (concat (half_entries copy)) → 8 + gate < 2 ^ 63
     → len ≡ length half → IsFoundIn half entries gate bytes (nat_le len 9)
 found_in copy half entries gate bytes len same are e g b small l = record {
-  are_bytes = subst AreBytes same are;
-  is = e ∙ ap entries_of same;
-  ends = g ∙ ap (λ (xs : List ℕ). length (blocks (entries_of xs))) same;
-  total = b ∙ ap (λ (xs : List ℕ). length (concat (entries_of xs))) same;
+  are_bytes = subst HasBytes same are;
+  is = e ∙ ap half_entries same;
+  ends = g ∙ ap (λ (xs : List ℕ). length (blocks (half_entries xs))) same;
+  total = b ∙ ap (λ (xs : List ℕ). length (concat (half_entries xs))) same;
   small = small;
   is_short = ap (λ (n : ℕ). nat_le n 9) l;
 }

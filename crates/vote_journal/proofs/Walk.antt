@@ -30,9 +30,16 @@ enough (suc m) (suc n) bytes h k =
     ⊎_elim
     (λ (present : has_entry bytes ≡ true).
     let shorter = (lengths bytes present).0 in
-    let rest = enough m n (behind bytes) (omega (arith, shorter, h)) (omega (arith, shorter, k)) in
-    (cond-true _ _ _ present ∙ ap (λ (es : List (List ℕ)). payload_of bytes ∷ es) rest.0 ∙ sym (cond-true _ _ _ present), cond-true _ _ _ present ∙ rest.1 ∙ sym (cond-true _ _ _ present)))
-    (λ (no_entry : has_entry bytes ≡ false). (cond-false _ _ _ no_entry ∙ sym (cond-false _ _ _ no_entry), cond-false _ _ _ no_entry ∙ sym (cond-false _ _ _ no_entry)))
+    let rest = enough m n (behind bytes) (omega (arith, shorter, h)) (omega (arith, shorter, k)) in (
+      cond-true _ _ _ present ∙ ap (λ (es : List (List ℕ)). payload_of bytes ∷ es) rest.0 ∙ sym (cond-true _ _ _ present),
+      cond-true _ _ _ present
+          ∙ rest.1 ∙ sym (cond-true _ _ _ present),
+    ))
+    (λ (no_entry : has_entry bytes ≡ false). (
+      cond-false _ _ _ no_entry ∙ sym (cond-false _ _ _ no_entry),
+      cond-false _ _ _ no_entry
+          ∙ sym (cond-false _ _ _ no_entry),
+    ))
     (cases_Bool (has_entry bytes))
 
 pub entries_enough : (m : ℕ) (bytes : List ℕ) → length bytes ≤ m → entries_in m bytes ≡ entries_in (length bytes) bytes
@@ -41,7 +48,8 @@ entries_enough m bytes h = (enough m (length bytes) bytes h (omega arith)).0
 pub rest_enough : (m : ℕ) (bytes : List ℕ) → length bytes ≤ m → rest_in m bytes ≡ rest_in (length bytes) bytes
 rest_enough m bytes h = (enough m (length bytes) bytes h (omega arith)).1
 
-one_turn : (n : ℕ) (bytes : List ℕ) → has_entry bytes ≡ true → (entries_in (suc n) bytes ≡ payload_of bytes ∷ entries_in n (behind bytes)) × (rest_in (suc n) bytes ≡ rest_in n (behind bytes))
+one_turn : (n : ℕ) (bytes : List ℕ) → has_entry bytes ≡ true → (entries_in (suc n) bytes ≡ payload_of bytes ∷ entries_in n (behind bytes))
+    × (rest_in (suc n) bytes ≡ rest_in n (behind bytes))
 unfolding entries_in rest_in
 one_turn n bytes present = (cond-true _ _ _ present, cond-true _ _ _ present)
 
@@ -51,7 +59,8 @@ last_turn zero bytes no_entry = (refl, refl)
 last_turn (suc n) bytes no_entry = (cond-false _ _ _ no_entry, cond-false _ _ _ no_entry)
 
 pub step : (bytes : List ℕ) → has_entry bytes ≡ true
-    → (entries_in (length bytes) bytes ≡ payload_of bytes ∷ entries_in (length (behind bytes)) (behind bytes)) × (rest_in (length bytes) bytes ≡ rest_in (length (behind bytes)) (behind bytes))
+    → (entries_in (length bytes) bytes ≡ payload_of bytes ∷ entries_in (length (behind bytes)) (behind bytes))
+    × (rest_in (length bytes) bytes ≡ rest_in (length (behind bytes)) (behind bytes))
 step bytes present =
     let l = lengths bytes present in
     let n : ℕ = length (behind bytes) + (4 + length (payload_of bytes)) in
@@ -75,27 +84,31 @@ concat_push : (es : List (List ℕ)) (p : List ℕ) → length (concat (es ++ p 
 concat_push [] p = omega (arith, length-append p [])
 concat_push (e ∷ es) p = omega (arith, concat_push es p, length-append e (concat es), length-append e (concat (es ++ p ∷ [])))
 
-pub walk_on : (bytes rest after payload : List ℕ) (found found' : List (List ℕ)) (total total' : ℕ) → Walks bytes rest found total → has_entry rest ≡ true → payload ≡ payload_of rest → after ≡ behind rest → found' ≡ found ++ payload ∷ [] → total' ≡ total + length payload
+pub walk_on : (bytes rest after payload : List ℕ) (found found' : List (List ℕ)) (total total' : ℕ) → Walks bytes rest found total
+    → has_entry rest ≡ true → payload ≡ payload_of rest → after ≡ behind rest → found' ≡ found ++ payload ∷ [] → total' ≡ total + length payload
     → Walks bytes after found' total'
 walk_on bytes rest after payload found found' total total' walks present p a f t =
     let s = step rest present in
     let l = lengths rest present in
     let e : found' ≡ found ++ payload_of rest ∷ [] = f ∙ ap (λ (x : List ℕ). found ++ x ∷ []) p in
     subst (λ (xs : List ℕ). Walks bytes xs found' total') (sym a) (record {
-      entries = ap (λ (es : List (List ℕ)). es ++ entries_in (length (behind rest)) (behind rest)) e ∙ append_assoc found (payload_of rest ∷ []) (entries_in (length (behind rest)) (behind rest))
+      entries = ap (λ (es : List (List ℕ)). es ++ entries_in (length (behind rest)) (behind rest)) e
+          ∙ append_assoc found (payload_of rest ∷ []) (entries_in (length (behind rest)) (behind rest))
           ∙ ap (λ (es : List (List ℕ)). found ++ es) (sym s.0) ∙ walks.entries;
       end = sym s.1 ∙ walks.end;
       total_is = omega (arith, t, walks.total_is, ap length p, concat_push found (payload_of rest), ap (λ (es : List (List ℕ)). length (concat es)) e);
       room = omega (arith, t, l.0, walks.room, ap length p);
     })
 
-pub walk_ends : (bytes rest : List ℕ) (found : List (List ℕ)) (total : ℕ) → Walks bytes rest found total → has_entry rest ≡ false → (found ≡ entries_in (length bytes) bytes) × (rest ≡ rest_in (length bytes) bytes)
+pub walk_ends : (bytes rest : List ℕ) (found : List (List ℕ)) (total : ℕ) → Walks bytes rest found total → has_entry rest ≡ false
+    → (found ≡ entries_in (length bytes) bytes) × (rest ≡ rest_in (length bytes) bytes)
 walk_ends bytes rest found total walks no_entry =
     let l = none_left rest no_entry in
     (sym (append-nil found) ∙ ap (λ (es : List (List ℕ)). found ++ es) (sym l.0) ∙ walks.entries, sym l.1 ∙ walks.end)
 
 -- gathering the payloads of a walk
-pub gather_on : (text text' payload rest after all : List ℕ) → text ++ concat (entries_in (length rest) rest) ≡ all → has_entry rest ≡ true → payload ≡ payload_of rest → after ≡ behind rest → text' ≡ text ++ payload
+pub gather_on : (text text' payload rest after all : List ℕ) → text ++ concat (entries_in (length rest) rest) ≡ all → has_entry rest ≡ true
+    → payload ≡ payload_of rest → after ≡ behind rest → text' ≡ text ++ payload
     → text' ++ concat (entries_in (length after) after) ≡ all
 gather_on text text' payload rest after all kept present p a t =
     let s = step rest present in

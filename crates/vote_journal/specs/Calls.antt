@@ -19,12 +19,14 @@ pub record IsEmpty {D : Type 0} (seen : D → Image) (may_leave : D → Image �
   pub durable : Only (seen disk) (may_leave disk)
 
 -- the disk holds one of the images that the crash may leave, and nothing is pending
-pub record ComesBack {D : Type 0} (seen : D → Image) (may_leave : D → Image → Type 0) (moment : D → ℕ) (left_since : D → ℕ → Image → Type 0) (old new : D) : Type 0 where
+pub record ComesBack {D : Type 0} (seen : D → Image) (may_leave : D → Image → Type 0) (moment : D → ℕ) (left_since : D → ℕ → Image → Type 0)
+    (old new : D) : Type 0 where
   pub image : may_leave old (seen new)
   pub durable : Only (seen new) (may_leave new)
   pub time : Elapses (moment old) (moment new) (left_since old) (left_since new) (may_leave new)
 
-module _ {D : Type 0} (seen : D → Image) (may_leave : D → Image → Type 0) (moment : D → ℕ) (left_since : D → ℕ → Image → Type 0) (faults : D → ℕ) (supply : D → Supply) where
+module _ {D : Type 0} (seen : D → Image) (may_leave : D → Image → Type 0) (moment : D → ℕ) (left_since : D → ℕ → Image → Type 0)
+    (faults : D → ℕ) (supply : D → Supply) where
   -- What a call's clauses say of the disk before it and after it, whether it ended well or failed: of `recover` the
   -- clause `pending`, of `append` and `fold` the clause `runs`, of `switch_on` those on its image and on time.
   abbrev pub Did : JournalCall → D → D → Type 0

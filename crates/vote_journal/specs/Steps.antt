@@ -3,22 +3,22 @@ use Rattle.std.specs.Prelude.{◌≡◌, ◌⊎◌, ◌≤◌, ◌<◌, ◌+◌,
 use Rattle.std.specs.List.{concat}
 use Rattle.disk_model.specs.declared.disk.Half.{Half}
 use Rattle.disk_model.specs.Image.{Image, half_of, other, with_half}
-use Rattle.disk_model.specs.Disk.{Torn, Cut, OnHalf, overwritten}
-use Rattle.vote_journal.specs.Text.{magic, entries_of, blocks, AreBytes, Spells}
+use Rattle.disk_model.specs.Disk.{TornWrite, Cut, OnHalf, overwritten}
+use Rattle.vote_journal.specs.Text.{magic, half_entries, blocks, HasBytes, HoldsEntries}
 
 -- one half has these entries, with or without one more, and the other is as it was
 pub record MayGain (half : Half) (entries : List (List ℕ)) (payload spare : List ℕ) (c : Image) : Type 0 where
-  pub here : Spells (half_of half c) entries ⊎ Spells (half_of half c) (entries ++ payload ∷ [])
+  pub here : HoldsEntries (half_of half c) entries ⊎ HoldsEntries (half_of half c) (entries ++ payload ∷ [])
   pub there : half_of (other half) c ≡ spare
 
 -- one half has these entries or none, and the other is as it was
 pub record MayLose (half : Half) (entries : List (List ℕ)) (spare : List ℕ) (c : Image) : Type 0 where
-  pub here : Spells (half_of half c) entries ⊎ Spells (half_of half c) []
+  pub here : HoldsEntries (half_of half c) entries ⊎ HoldsEntries (half_of half c) []
   pub there : half_of (other half) c ≡ spare
 
 -- the first gate of one half is being closed, or what stands behind it is being cut off
 abbrev pub MayShut : Half → Image → Image → Type 0
-MayShut half old c = OnHalf half (Torn 8 1) old c ⊎ OnHalf half (Cut 9) (with_half half (overwritten 8 (0 ∷ []) (half_of half old)) old) c
+MayShut half old c = OnHalf half (TornWrite 8 1) old c ⊎ OnHalf half (Cut 9) (with_half half (overwritten 8 (0 ∷ []) (half_of half old)) old) c
 
 -- the magic and a closed gate
 abbrev pub begun : List ℕ
@@ -30,8 +30,8 @@ begun_half half = if nat_le (length half) 9 then begun else half
 
 -- both halves are being begun
 pub record BothTorn (old c : Image) : Type 0 where
-  pub a : Torn 0 9 old.a c.a
-  pub b : Torn 0 9 old.b c.b
+  pub a : TornWrite 0 9 old.a c.a
+  pub b : TornWrite 0 9 old.b c.b
 
 -- a half is as it was, or it had at most 9 bytes and has no more
 abbrev pub MayStart : List ℕ → List ℕ → Type 0
@@ -43,10 +43,10 @@ pub record MayBegin (old c : Image) : Type 0 where
 
 -- what was found in a half
 pub record IsFoundIn (half : List ℕ) (entries : List (List ℕ)) (gate bytes : ℕ) (short : Bool) : Type 0 where
-  pub are_bytes : AreBytes half
-  pub is : entries ≡ entries_of half
-  pub ends : gate ≡ length (blocks (entries_of half))
-  pub total : bytes ≡ length (concat (entries_of half))
+  pub are_bytes : HasBytes half
+  pub is : entries ≡ half_entries half
+  pub ends : gate ≡ length (blocks (half_entries half))
+  pub total : bytes ≡ length (concat (half_entries half))
   pub small : 8 + gate < 2 ^ 63
   pub is_short : short ≡ nat_le (length half) 9
 
@@ -65,10 +65,10 @@ MayArrange both spare old c = MayBegin old c ⊎ ((both ≡ true) × MayShut spa
 
 -- one half has its entries, and the other none
 pub record Arranged (live : Half) (image new : Image) : Type 0 where
-  pub live_spells : Spells (half_of live new) (entries_of (half_of live image))
-  pub spare_spells : Spells (half_of (other live) new) []
+  pub live_holds : HoldsEntries (half_of live new) (half_entries (half_of live image))
+  pub spare_holds : HoldsEntries (half_of (other live) new) []
 
 -- the other half has one entry of all the payloads, and the one that was live has none
 pub record Folded (live : Half) (text : List ℕ) (new : Image) : Type 0 where
-  pub one : Spells (half_of (other live) new) (text ∷ [])
-  pub gone : Spells (half_of live new) []
+  pub one : HoldsEntries (half_of (other live) new) (text ∷ [])
+  pub gone : HoldsEntries (half_of live new) []

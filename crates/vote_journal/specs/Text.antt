@@ -1,5 +1,6 @@
 -- What the bytes of a journal stand for.
-use Rattle.std.specs.Prelude.{◌≡◌, ◌⊎◌, ◌≤◌, ◌<◌, ◌+◌, ◌*◌, ◌/◌, ◌%◌, ◌^◌, ◌==◌, ◌&&◌, ℕ, Bool, true, false, not, zero, suc, List, [], ◌∷◌, ◌++◌, length, take, drop, nat_lt, nat_le, nat_eq, slice_index, if◌then◌else◌}
+use Rattle.std.specs.Prelude.{◌≡◌, ◌⊎◌, ◌≤◌, ◌<◌, ◌+◌, ◌*◌, ◌/◌, ◌%◌, ◌^◌, ◌==◌, ◌&&◌, ℕ, Bool, true, false, not, zero, suc, List, [], ◌∷◌}
+use Rattle.std.specs.Prelude.{◌++◌, length, take, drop, nat_lt, nat_le, nat_eq, slice_index, if◌then◌else◌}
 use Rattle.std.specs.List.{concat, starts_with}
 use Rattle.disk_model.specs.declared.disk.Half.{Half}
 use Rattle.disk_model.specs.declared.disk.Half.TheVariants.{A, B}
@@ -39,8 +40,8 @@ rest_in zero bytes = bytes
 rest_in (suc most) bytes = if has_entry bytes then rest_in most (behind bytes) else bytes
 
 -- the entries of a half: their payloads in order. The first gate stands behind the magic
-abbrev pub entries_of : List ℕ → List (List ℕ)
-entries_of half = entries_in (length half) (drop 8 half)
+abbrev pub half_entries : List ℕ → List (List ℕ)
+half_entries half = entries_in (length half) (drop 8 half)
 
 -- the gate after them
 abbrev pub gate_of : List ℕ → ℕ
@@ -60,14 +61,14 @@ is_some_entry (entry ∷ entries) = true
 
 -- the payloads, put together, of the entries of a half that has entries
 abbrev pub text_of : Image → List ℕ
-text_of image = if is_some_entry (entries_of image.a) then concat (entries_of image.a) else concat (entries_of image.b)
+text_of image = if is_some_entry (half_entries image.a) then concat (half_entries image.a) else concat (half_entries image.b)
 
 -- both halves are sound, and where both have entries these say the same
 pub record IsSound (image : Image) : Type 0 where
   pub a : IsSoundHalf image.a
   pub b : IsSoundHalf image.b
-  pub agree : is_some_entry (entries_of image.a) ≡ true → is_some_entry (entries_of image.b) ≡ true
-      → concat (entries_of image.a) ≡ concat (entries_of image.b)
+  pub agree : is_some_entry (half_entries image.a) ≡ true → is_some_entry (half_entries image.b) ≡ true
+      → concat (half_entries image.a) ≡ concat (half_entries image.b)
 
 -- the half with entries: where both have some the one with fewer, or A where they have as many or none
 abbrev pub live_by : List (List ℕ) → List (List ℕ) → Half
@@ -77,11 +78,11 @@ live_by (entry ∷ entries) [] = A
 live_by (entry ∷ entries) (entry' ∷ entries') = if nat_le (length entries) (length entries') then A else B
 
 abbrev pub live_half : Image → Half
-live_half image = live_by (entries_of image.a) (entries_of image.b)
+live_half image = live_by (half_entries image.a) (half_entries image.b)
 
 -- the entries of the disk
 abbrev pub live_entries : Image → List (List ℕ)
-live_entries image = entries_of (half_of (live_half image) image)
+live_entries image = half_entries (half_of (live_half image) image)
 
 -- a sound image of this text
 pub record SaysOnly (text : List ℕ) (image : Image) : Type 0 where
@@ -102,12 +103,13 @@ abbrev pub blocks : List (List ℕ) → List ℕ
 blocks [] = []
 blocks (entry ∷ entries) = 0x5A ∷ size_bytes (length entry) ++ (entry ++ blocks entries)
 
+-- the length of each fits four bytes
 abbrev pub AreShort : List (List ℕ) → Type 0
 AreShort [] = Unit {0}
 AreShort (entry ∷ entries) = (length entry < 2 ^ 32) × AreShort entries
 
 -- the half is the magic, open entries of these payloads, and a closed gate with anything behind it
-pub record Spells (half : List ℕ) (entries : List (List ℕ)) : Type 0 where
+pub record HoldsEntries (half : List ℕ) (entries : List (List ℕ)) : Type 0 where
   pub gate : ℕ
   pub tail : List ℕ
   pub is : half ≡ magic ++ (blocks entries ++ gate ∷ tail)
@@ -117,7 +119,7 @@ pub record Spells (half : List ℕ) (entries : List (List ℕ)) : Type 0 where
 -- a half that is sound and has these entries
 pub record HalfHas (half : List ℕ) (entries : List (List ℕ)) : Type 0 where
   pub sound : IsSoundHalf half
-  pub has : entries_of half ≡ entries
+  pub has : half_entries half ≡ entries
 
 -- entries of two halves that stand for this text
 pub record Agree (entries others : List (List ℕ)) (text : List ℕ) : Type 0 where
@@ -126,5 +128,5 @@ pub record Agree (entries others : List (List ℕ)) (text : List ℕ) : Type 0 w
   pub none : is_some_entry entries ≡ false → is_some_entry others ≡ false → text ≡ []
 
 -- each is a byte
-pub record AreBytes (bytes : List ℕ) : Type 0 where
+pub record HasBytes (bytes : List ℕ) : Type 0 where
   pub each : (k : ℕ) → slice_index bytes k < 256

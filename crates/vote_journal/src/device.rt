@@ -1,8 +1,8 @@
-// Calls of a disk that are made together.
+//! Calls of a disk that are made together.
 ghost use Rattle.std.specs.Prelude.{◌≡◌, ◌≤◌, ◌<◌, ◌+◌, ◌^◌, length, take, OnOk, IfErr};
 ghost use Rattle.disk_model.specs.Image.{half_of, with_half};
-ghost use Rattle.disk_model.specs.Disk.{overwritten, Torn, Cut, OnHalf, Only};
-ghost use Rattle.vote_journal.specs.Runs.{Runs, HasReason};
+ghost use Rattle.disk_model.specs.Disk.{overwritten, TornWrite, Cut, OnHalf, Only};
+ghost use Rattle.vote_journal.specs.Runs.{IsStep};
 
 use crate::JournalFault;
 use disk_model::{Disk, Half};
@@ -18,10 +18,8 @@ pub(crate) fn write_through<D: Disk>(
     requires durable { Only (D.seen disk.old) (D.may_leave disk.old) }
     ensures written { OnOk result (D.seen disk.new ≡ with_half half (overwritten at bytes.now (half_of half (D.seen disk.old))) (D.seen disk.old)) }
     ensures small { OnOk result (at + length bytes.now < 2 ^ 63) }
-    ensures durable { OnOk result (Only (D.seen disk.new) (D.may_leave disk.new)) }
-    ensures runs { Runs D.moment D.left_since D.faults D.supply disk.old disk.new (OnHalf half (Torn at (length bytes.now)) (D.seen disk.old)) }
-    ensures failed { IfErr result (HasReason D.faults D.explains disk.old disk.new) }
-    ensures no_other { IfErr result (λ e. e ≡ JournalFault.NotAJournal → ⊥) }
+    ensures step { IsStep D.seen D.may_leave D.moment D.left_since D.faults D.supply D.explains disk.old disk.new
+        (OnHalf half (TornWrite at (length bytes.now)) (D.seen disk.old)) result }
 {
     disk.write_at(half, at, bytes)?;
     disk.sync()?;
@@ -33,10 +31,8 @@ pub(crate) fn cut_through<D: Disk>(disk: &mut D, half: Half, len: u64) -> Result
     requires fits { len ≤ length (half_of half (D.seen disk.old)) }
     requires durable { Only (D.seen disk.old) (D.may_leave disk.old) }
     ensures cut { OnOk result (D.seen disk.new ≡ with_half half (take len (half_of half (D.seen disk.old))) (D.seen disk.old)) }
-    ensures durable { OnOk result (Only (D.seen disk.new) (D.may_leave disk.new)) }
-    ensures runs { Runs D.moment D.left_since D.faults D.supply disk.old disk.new (OnHalf half (Cut len) (D.seen disk.old)) }
-    ensures failed { IfErr result (HasReason D.faults D.explains disk.old disk.new) }
-    ensures no_other { IfErr result (λ e. e ≡ JournalFault.NotAJournal → ⊥) }
+    ensures step { IsStep D.seen D.may_leave D.moment D.left_since D.faults D.supply D.explains disk.old disk.new
+        (OnHalf half (Cut len) (D.seen disk.old)) result }
 {
     disk.cut(half, len)?;
     disk.sync()?;

@@ -1,4 +1,4 @@
-// Why a journal refused a call.
+//! Why a journal refused a call.
 ghost use Rattle.std.specs.Prelude.{◌≡◌};
 ghost use Rattle.vote_journal.specs.declared.fault.JournalFault.TheVariants.{Memory};
 ghost use Rattle.vote_journal.specs.Faults.{journal_fault};

@@ -1,10 +1,10 @@
-// Folding the entries of a journal into one.
+//! Folding the entries of a journal into one.
 ghost use Rattle.std.specs.Prelude.{◌≡◌, ◌≤◌, ◌<◌, ◌+◌, ◌^◌, true, [], ◌∷◌, ◌++◌, length, OnOk, IfErr};
 ghost use Rattle.std.specs.List.{concat};
 ghost use Rattle.disk_model.specs.Image.{half_of, other};
 ghost use Rattle.disk_model.specs.Disk.{Only};
-ghost use Rattle.vote_journal.specs.Runs.{Runs, HasReason};
-ghost use Rattle.vote_journal.specs.Text.{entries_of, entries_in, size_bytes, blocks, is_some_entry, text_of, Spells, SaysOnly};
+ghost use Rattle.vote_journal.specs.Runs.{IsStep};
+ghost use Rattle.vote_journal.specs.Text.{half_entries, entries_in, size_bytes, blocks, is_some_entry, text_of, HoldsEntries, SaysOnly};
 ghost use Rattle.vote_journal.specs.Steps.{Folded};
 
 use crate::JournalFault;
@@ -14,8 +14,8 @@ use crate::steps::{FIRST_GATE, add_entry, frame_into, retire};
 use disk_model::{Disk, Half};
 use std::alloc::AllocError;
 
-/// Puts the payloads of the entries from a gate on, one behind another.
-pub(crate) fn gather(bytes: &[u8], text: &mut Vec<u8>) -> Result<(), AllocError>
+// Puts the payloads of the entries from a gate on, one behind another.
+fn gather(bytes: &[u8], text: &mut Vec<u8>) -> Result<(), AllocError>
     requires { text.old.items ≡ [] }
     ensures { OnOk result (text.new.items ≡ concat (entries_in (length bytes.now) bytes.now)) }
 {
@@ -34,16 +34,14 @@ fn read_text<D: Disk>(
     half: &mut [u8],
     text: &mut Vec<u8>,
 ) -> Result<(), JournalFault>
-    requires live { Spells (half_of live (D.seen disk.old)) (entries_of (half_of live (D.seen disk.old))) }
+    requires live { HoldsEntries (half_of live (D.seen disk.old)) (half_entries (half_of live (D.seen disk.old))) }
     requires durable { Only (D.seen disk.old) (D.may_leave disk.old) }
-    requires room { length half.old ≡ 9 + length (blocks (entries_of (half_of live (D.seen disk.old)))) }
+    requires room { length half.old ≡ 9 + length (blocks (half_entries (half_of live (D.seen disk.old)))) }
     requires empty { text.old.items ≡ [] }
-    ensures text { OnOk result (text.new.items ≡ concat (entries_of (half_of live (D.seen disk.old)))) }
+    ensures text { OnOk result (text.new.items ≡ concat (half_entries (half_of live (D.seen disk.old)))) }
     ensures seen { D.seen disk.new ≡ D.seen disk.old }
-    ensures durable { Only (D.seen disk.new) (D.may_leave disk.new) }
-    ensures runs { Runs D.moment D.left_since D.faults D.supply disk.old disk.new (λ c. c ≡ D.seen disk.old) }
-    ensures failed { IfErr result (HasReason D.faults D.explains disk.old disk.new) }
-    ensures no_other { IfErr result (λ e. e ≡ JournalFault.NotAJournal → ⊥) }
+    ensures step { IsStep D.seen D.may_leave D.moment D.left_since D.faults D.supply D.explains disk.old disk.new
+        (λ c. c ≡ D.seen disk.old) result }
 {
     disk.read(live, 0, half)?;
     gather(after_magic(half), text)?;
@@ -60,25 +58,22 @@ pub(crate) fn fold_disk<D: Disk>(
     framed: &mut Vec<u8>,
 ) -> Result<(), JournalFault>
     requires spare { spare ≡ other live }
-    requires live { Spells (half_of live (D.seen disk.old)) (entries_of (half_of live (D.seen disk.old))) }
-    requires none { Spells (half_of spare (D.seen disk.old)) [] }
+    requires live { HoldsEntries (half_of live (D.seen disk.old)) (half_entries (half_of live (D.seen disk.old))) }
+    requires none { HoldsEntries (half_of spare (D.seen disk.old)) [] }
     requires durable { Only (D.seen disk.old) (D.may_leave disk.old) }
-    requires some { is_some_entry (entries_of (half_of live (D.seen disk.old))) ≡ true }
-    requires small { length (concat (entries_of (half_of live (D.seen disk.old)))) < 2 ^ 32 }
-    requires room { length half.old ≡ 9 + length (blocks (entries_of (half_of live (D.seen disk.old)))) }
+    requires some { is_some_entry (half_entries (half_of live (D.seen disk.old))) ≡ true }
+    requires small { length (concat (half_entries (half_of live (D.seen disk.old)))) < 2 ^ 32 }
+    requires room { length half.old ≡ 9 + length (blocks (half_entries (half_of live (D.seen disk.old)))) }
     requires empty { text.old.items ≡ [] }
     requires unframed { framed.old.items ≡ [] }
-    ensures text { OnOk result (text.new.items ≡ concat (entries_of (half_of live (D.seen disk.old)))) }
+    ensures text { OnOk result (text.new.items ≡ concat (half_entries (half_of live (D.seen disk.old)))) }
     ensures framed { OnOk result (length framed.new.items ≡ 5 + length text.new.items) }
     ensures folded { OnOk result (Folded live text.new.items (D.seen disk.new)) }
-    ensures durable { OnOk result (Only (D.seen disk.new) (D.may_leave disk.new)) }
-    ensures runs { Runs D.moment D.left_since D.faults D.supply disk.old disk.new (SaysOnly (text_of (D.seen disk.old))) }
-    ensures failed { IfErr result (HasReason D.faults D.explains disk.old disk.new) }
-    ensures no_other { IfErr result (λ e. e ≡ JournalFault.NotAJournal → ⊥) }
+    ensures step { IsStep D.seen D.may_leave D.moment D.left_since D.faults D.supply D.explains disk.old disk.new
+        (SaysOnly (text_of (D.seen disk.old))) result }
 {
     read_text(disk, live, half, text)?;
     frame_into(text, framed)?;
     add_entry(disk, spare, FIRST_GATE, text, framed)?;
-    retire(disk, live)?;
-    Ok(())
+    retire(disk, live)
 }

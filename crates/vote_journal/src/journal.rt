@@ -1,9 +1,9 @@
-// A journal in two halves: entries behind gates, folded into one in the other half when they are many.
+//! A journal in two halves: entries behind gates, folded into one in the other half when they are many.
 ghost use Rattle.std.specs.Prelude.{◌≡◌, ◌+◌, ◌-◌, ◌^◌, ◌<◌, ◌≤◌, min, [], ◌∷◌, ◌++◌, length, ◌||◌, true, false, IfOk, OnOk, IfErr, MatchResult};
 ghost use Rattle.std.specs.List.{concat};
 ghost use Rattle.disk_model.specs.Disk.{Only};
 ghost use Rattle.disk_model.specs.Supply.{Draws};
-ghost use Rattle.vote_journal.specs.Runs.{Runs, HasReason, LeftOrSays};
+ghost use Rattle.vote_journal.specs.Runs.{Runs, HasReason, IsStep, IsUntouched, LeftOrSays};
 ghost use Rattle.vote_journal.specs.Text.{text_of, live_entries, is_foreign, IsSound, SaysOnly, SaysMaybe};
 
 use crate::JournalFault;
@@ -27,7 +27,7 @@ pub struct Journal<D: Disk> {
 }
 
 impl<D: Disk> Journal<D> {
-    ghost use Rattle.vote_journal.specs.Usable.{IsUsable, disk_of, entries_in_journal, count_of, bytes_of};
+    ghost use Rattle.vote_journal.specs.Usable.{IsUsable, disk_of, disk_after, entries_in_journal, entry_count, byte_count};
 
     /// Opens the journal of a disk, and gives its entries in order. An empty disk is begun, and what an interrupted fold
     /// left is put right. On refusal the disk is handed back: `NotAJournal` comes exactly where a half holds more than
@@ -38,18 +38,21 @@ impl<D: Disk> Journal<D> {
         ensures same { IfOk result (λ opened. IsSound (D.seen disk) → entries_in_journal D.seen opened.0 ≡ live_entries (D.seen disk)) }
         ensures text { IfOk result (λ opened. IsSound (D.seen disk) → text_of (D.seen (disk_of opened.0)) ≡ text_of (D.seen disk)) }
         ensures ours { OnOk result ((is_foreign (D.seen disk).a || is_foreign (D.seen disk).b) ≡ false) }
-        ensures foreign { IfErr result (λ refused. refused.1 ≡ JournalFault.NotAJournal → (is_foreign (D.seen disk).a || is_foreign (D.seen disk).b) ≡ true) }
+
+        // A disk that holds no journal is handed back as it was. It was synced and read, and nothing else.
+        ensures foreign { IfErr result (λ refused. refused.1 ≡ JournalFault.NotAJournal
+            → (is_foreign (D.seen disk).a || is_foreign (D.seen disk).b) ≡ true) }
+        ensures untouched { IfErr result (λ refused. refused.1 ≡ JournalFault.NotAJournal
+            → IsUntouched D.seen D.may_leave D.moment D.left_since disk refused.0) }
 
         // Where nothing was pending, a crash at any moment of the call leaves a sound image of the same text.
         ensures runs { Only (D.seen disk) (D.may_leave disk) → IsSound (D.seen disk)
-            → MatchResult result (λ opened. Runs D.moment D.left_since D.faults D.supply disk (disk_of opened.0) (SaysOnly (text_of (D.seen disk))))
-            (λ refused. Runs D.moment D.left_since D.faults D.supply disk refused.0 (SaysOnly (text_of (D.seen disk)))) }
+            → Runs D.moment D.left_since D.faults D.supply disk (disk_after result) (SaysOnly (text_of (D.seen disk))) }
 
         // Whatever was pending, it leaves what one before the call may have left, or a sound image of the same text.
         ensures pending { IsSound (D.seen disk)
-            → MatchResult result (λ opened. Runs D.moment D.left_since D.faults D.supply disk (disk_of opened.0) (LeftOrSays (D.may_leave disk) (text_of (D.seen disk))))
-            (λ refused. Runs D.moment D.left_since D.faults D.supply disk refused.0 (LeftOrSays (D.may_leave disk) (text_of (D.seen disk)))) }
-        ensures supply { MatchResult result (λ opened. Draws (D.supply disk) (D.supply (disk_of opened.0))) (λ refused. Draws (D.supply disk) (D.supply refused.0)) }
+            → Runs D.moment D.left_since D.faults D.supply disk (disk_after result) (LeftOrSays (D.may_leave disk) (text_of (D.seen disk))) }
+        ensures supply { Draws (D.supply disk) (D.supply (disk_after result)) }
         ensures failed { IfErr result (λ refused. HasReason D.faults D.explains disk refused.0 refused.1) }
     {
         let mut disk = disk;
@@ -83,10 +86,8 @@ impl<D: Disk> Journal<D> {
         ensures usable { OnOk result (IsUsable D.seen D.may_leave self.new) }
         ensures added { OnOk result (entries_in_journal D.seen self.new ≡ entries_in_journal D.seen self.old ++ entry.now ∷ []) }
         ensures text { OnOk result (text_of (D.seen (disk_of self.new)) ≡ text_of (D.seen (disk_of self.old)) ++ entry.now) }
-        ensures runs { Runs D.moment D.left_since D.faults D.supply (disk_of self.old) (disk_of self.new)
-            (SaysMaybe (text_of (D.seen (disk_of self.old))) entry.now) }
-        ensures failed { IfErr result (HasReason D.faults D.explains (disk_of self.old) (disk_of self.new)) }
-        ensures no_other { IfErr result (λ e. e ≡ JournalFault.NotAJournal → ⊥) }
+        ensures step { IsStep D.seen D.may_leave D.moment D.left_since D.faults D.supply D.explains (disk_of self.old) (disk_of self.new)
+            (SaysMaybe (text_of (D.seen (disk_of self.old))) entry.now) result }
     {
         let framed = frame(self.alloc, entry)?;
         add_entry(&mut self.disk, self.live, self.gate, entry, &framed)?;
@@ -100,14 +101,13 @@ impl<D: Disk> Journal<D> {
     /// journal isn't usable; a crash leaves the same text. `NotAJournal` doesn't come.
     pub fn fold(&mut self) -> Result<(), JournalFault>
         requires usable { IsUsable D.seen D.may_leave self.old }
-        requires some { 1 ≤ count_of self.old }
-        requires small { bytes_of self.old < 2 ^ 32 }
+        requires some { 1 ≤ entry_count self.old }
+        requires small { byte_count self.old < 2 ^ 32 }
         ensures usable { OnOk result (IsUsable D.seen D.may_leave self.new) }
         ensures one { OnOk result (entries_in_journal D.seen self.new ≡ concat (entries_in_journal D.seen self.old) ∷ []) }
         ensures text { OnOk result (text_of (D.seen (disk_of self.new)) ≡ text_of (D.seen (disk_of self.old))) }
-        ensures runs { Runs D.moment D.left_since D.faults D.supply (disk_of self.old) (disk_of self.new) (SaysOnly (text_of (D.seen (disk_of self.old)))) }
-        ensures failed { IfErr result (HasReason D.faults D.explains (disk_of self.old) (disk_of self.new)) }
-        ensures no_other { IfErr result (λ e. e ≡ JournalFault.NotAJournal → ⊥) }
+        ensures step { IsStep D.seen D.may_leave D.moment D.left_since D.faults D.supply D.explains (disk_of self.old) (disk_of self.new)
+            (SaysOnly (text_of (D.seen (disk_of self.old)))) result }
     {
         let mut half = vec![in self.alloc; 0; self.gate as usize + 1]?;
         let mut text = Vec::with_capacity(self.alloc, self.bytes as usize)?;
@@ -130,14 +130,14 @@ impl<D: Disk> Journal<D> {
 
     /// How many entries there are, up to the greatest u32.
     pub fn entries(&self) -> u32
-        ensures { result ≡ count_of self.now }
+        ensures { result ≡ entry_count self.now }
     {
         self.entries
     }
 
     /// How many bytes of payload the entries have together, up to the greatest u64.
     pub fn bytes(&self) -> u64
-        ensures { result ≡ bytes_of self.now }
+        ensures { result ≡ byte_count self.now }
     {
         self.bytes
     }

@@ -1,4 +1,4 @@
-// What holds of every row of calls.
+//! What holds of every row of calls.
 ghost use Rattle.std.specs.Prelude.{List};
 ghost use Rattle.disk_model.specs.Disk.{LeavesOnly};
 ghost use Rattle.vote_journal.specs.Text.{IsSound};

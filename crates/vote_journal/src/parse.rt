@@ -1,15 +1,12 @@
-// Reading the entries of a half.
+//! Reading the entries of a half.
 ghost use Rattle.std.specs.Prelude.{◌≡◌, ◌-◌, length, drop, is_some, IfSome, IfOk};
 ghost use Rattle.std.specs.List.{concat, starts_with};
-ghost use Rattle.vote_journal.specs.Text.{has_entry, payload_of, behind, entries_in, rest_in, entries_of, is_foreign};
+ghost use Rattle.vote_journal.specs.Text.{has_entry, payload_of, behind, entries_in, rest_in, half_entries, is_foreign};
 ghost use Rattle.std.specs.Prelude.{nat_eq};
 
-use crate::steps::OPEN;
+use crate::steps::{OPEN, START};
 use hb_base::Bytes;
 use std::alloc::{AllocError, Global};
-
-/// What a half begins with.
-pub(crate) const MAGIC: [u8; 8] = *b"HBVJ0002";
 
 /// The entries of a half, and where the gate behind them stands, counted from the first gate.
 #[derive(Drop)]
@@ -61,5 +58,5 @@ pub(crate) fn entries_from(alloc: Global, bytes: &[u8]) -> Result<Found, AllocEr
 pub(crate) fn is_foreign(half: &[u8]) -> bool
     ensures { result ≡ is_foreign half.now }
 {
-    half.len() > 9 && !half.starts_with(&MAGIC)
+    half.len() > START.len() && !half.starts_with(&START[..8])
 }

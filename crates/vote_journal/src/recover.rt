@@ -1,11 +1,12 @@
-// Opening a journal on a disk that a crash may have left.
+//! Opening a journal on a disk that a crash may have left.
 ghost use Rattle.std.specs.Prelude.{◌≡◌, ◌<◌, ◌≤◌, ◌+◌, ◌^◌, ◌||◌, ◌&&◌, false, true, [], ℕ, length, drop, nat_le, IfOk, OnOk, IfErr};
 ghost use Rattle.std.specs.List.{concat};
 ghost use Rattle.disk_model.specs.Image.{half_of, other};
 ghost use Rattle.disk_model.specs.Disk.{Only};
 ghost use Rattle.disk_model.specs.Supply.{Draws};
-ghost use Rattle.vote_journal.specs.Runs.{Runs, HasReason, LeftOrSays};
-ghost use Rattle.vote_journal.specs.Text.{AreBytes, entries_of, is_foreign, blocks, live_half, live_by, live_entries, text_of, is_some_entry, IsSound, SaysOnly};
+ghost use Rattle.vote_journal.specs.Runs.{Runs, HasReason, IsStep, IsUntouched, LeftOrSays};
+ghost use Rattle.vote_journal.specs.Text.{HasBytes, half_entries, is_foreign, blocks, live_half, live_by, live_entries, text_of, is_some_entry};
+ghost use Rattle.vote_journal.specs.Text.{IsSound, SaysOnly};
 ghost use Rattle.vote_journal.specs.Steps.{IsFoundIn, MayArrange, Arranged, arranged};
 
 use crate::JournalFault;
@@ -15,22 +16,16 @@ use disk_model::{Disk, Half};
 use hb_base::Bytes;
 use std::alloc::{AllocError, Global};
 
-/// How many bytes are asked for at a time.
+// How many bytes are asked for at a time.
 const PIECE: usize = 4096;
 
-/// All the bytes of a half.
-pub(crate) fn read_half<D: Disk>(
-    alloc: Global,
-    disk: &mut D,
-    half: Half,
-) -> Result<Vec<u8>, JournalFault>
+// All the bytes of a half.
+fn read_half<D: Disk>(alloc: Global, disk: &mut D, half: Half) -> Result<Vec<u8>, JournalFault>
     requires { Only (D.seen disk.old) (D.may_leave disk.old) }
     ensures bytes { IfOk result (λ bytes. bytes.items ≡ half_of half (D.seen disk.old)) }
     ensures seen { D.seen disk.new ≡ D.seen disk.old }
-    ensures durable { Only (D.seen disk.new) (D.may_leave disk.new) }
-    ensures runs { Runs D.moment D.left_since D.faults D.supply disk.old disk.new (λ c. c ≡ D.seen disk.old) }
-    ensures failed { IfErr result (HasReason D.faults D.explains disk.old disk.new) }
-    ensures no_other { IfErr result (λ e. e ≡ JournalFault.NotAJournal → ⊥) }
+    ensures step { IsStep D.seen D.may_leave D.moment D.left_since D.faults D.supply D.explains disk.old disk.new
+        (λ c. c ≡ D.seen disk.old) result }
 {
     let mut bytes = Vec::new(alloc);
     let mut piece = [0; PIECE];
@@ -43,35 +38,36 @@ pub(crate) fn read_half<D: Disk>(
     }
 }
 
-/// The entries of a half.
-pub(crate) fn entries_of_half(alloc: Global, half: &[u8]) -> Result<Found, AllocError>
-    ensures entries { IfOk result (λ found. found.entries.items ≡ entries_of half.now) }
-    ensures gate { IfOk result (λ found. found.gate ≡ length (blocks (entries_of half.now))) }
-    ensures bytes { IfOk result (λ found. found.bytes ≡ length (concat (entries_of half.now))) }
+// The entries of a half.
+fn entries_of_half(alloc: Global, half: &[u8]) -> Result<Found, AllocError>
+    ensures entries { IfOk result (λ found. found.entries.items ≡ half_entries half.now) }
+    ensures gate { IfOk result (λ found. found.gate ≡ length (blocks (half_entries half.now))) }
+    ensures bytes { IfOk result (λ found. found.bytes ≡ length (concat (half_entries half.now))) }
     ensures small { IfOk result (λ found. 8 + found.gate < 2 ^ 63) }
-    ensures are_bytes { OnOk result (AreBytes half.now) }
+    ensures are_bytes { OnOk result (HasBytes half.now) }
 {
     let found = entries_from(alloc, after_magic(half))?;
     Ok(found)
 }
 
-/// What both halves were found to have.
+// What both halves were found to have.
 #[derive(Drop)]
-pub(crate) struct Findings {
-    pub a: Found,
-    pub b: Found,
-    pub short_a: bool,
-    pub short_b: bool,
+struct Findings {
+    a: Found,
+    b: Found,
+    short_a: bool,
+    short_b: bool,
 }
 
-/// Syncs the disk, reads both halves, and finds their entries. It writes nothing.
-pub(crate) fn survey<D: Disk>(alloc: Global, disk: &mut D) -> Result<Findings, JournalFault>
+// Syncs the disk, reads both halves, and finds their entries. It writes nothing.
+fn survey<D: Disk>(alloc: Global, disk: &mut D) -> Result<Findings, JournalFault>
     ensures seen { D.seen disk.new ≡ D.seen disk.old }
     ensures durable { OnOk result (Only (D.seen disk.new) (D.may_leave disk.new)) }
     ensures a { IfOk result (λ found. IsFoundIn (D.seen disk.old).a found.a.entries.items found.a.gate found.a.bytes found.short_a) }
     ensures b { IfOk result (λ found. IsFoundIn (D.seen disk.old).b found.b.entries.items found.b.gate found.b.bytes found.short_b) }
     ensures foreign { IfErr result (λ e. e ≡ JournalFault.NotAJournal → (is_foreign (D.seen disk.old).a || is_foreign (D.seen disk.old).b) ≡ true) }
     ensures ours { OnOk result ((is_foreign (D.seen disk.old).a || is_foreign (D.seen disk.old).b) ≡ false) }
+    ensures foreign_durable { IfErr result (λ fault. fault ≡ JournalFault.NotAJournal → Only (D.seen disk.new) (D.may_leave disk.new)) }
     ensures failed { IfErr result (HasReason D.faults D.explains disk.old disk.new) }
     ensures runs { Runs D.moment D.left_since D.faults D.supply disk.old disk.new (D.may_leave disk.old) }
 {
@@ -89,8 +85,8 @@ pub(crate) fn survey<D: Disk>(alloc: Global, disk: &mut D) -> Result<Findings, J
     })
 }
 
-/// Begins the short halves, and where both have entries gives up those of the spare one.
-pub(crate) fn arrange<D: Disk>(
+// Begins the short halves, and where both have entries gives up those of the spare one.
+fn arrange<D: Disk>(
     disk: &mut D,
     short_a: bool,
     short_b: bool,
@@ -101,17 +97,11 @@ pub(crate) fn arrange<D: Disk>(
     requires a { short_a ≡ nat_le (length (D.seen disk.old).a) 9 }
     requires b { short_b ≡ nat_le (length (D.seen disk.old).b) 9 }
     ensures made { OnOk result (D.seen disk.new ≡ arranged both spare (D.seen disk.old)) }
-    ensures durable { OnOk result (Only (D.seen disk.new) (D.may_leave disk.new)) }
-    ensures runs { Runs D.moment D.left_since D.faults D.supply disk.old disk.new (MayArrange both spare (D.seen disk.old)) }
-    ensures failed { IfErr result (HasReason D.faults D.explains disk.old disk.new) }
-    ensures no_other { IfErr result (λ e. e ≡ JournalFault.NotAJournal → ⊥) }
+    ensures step { IsStep D.seen D.may_leave D.moment D.left_since D.faults D.supply D.explains disk.old disk.new
+        (MayArrange both spare (D.seen disk.old)) result }
 {
     begin(disk, short_a, short_b)?;
-    if both {
-        retire(disk, spare)?;
-        return Ok(());
-    }
-    Ok(())
+    if both { retire(disk, spare) } else { Ok(()) }
 }
 
 /// A disk that is arranged: its live half, and what was found there.
@@ -125,14 +115,19 @@ pub(crate) struct Opened {
 pub(crate) fn open<D: Disk>(alloc: Global, disk: &mut D) -> Result<Opened, JournalFault>
     ensures live { IfOk result (λ opened. opened.live ≡ live_half (D.seen disk.old)) }
     ensures entries { IfOk result (λ opened. opened.found.entries.items ≡ live_entries (D.seen disk.old)) }
-    ensures found { IfOk result (λ opened. (opened.found.gate ≡ length (blocks (live_entries (D.seen disk.old)))) × (opened.found.bytes ≡ length (concat (live_entries (D.seen disk.old)))) × (8 + opened.found.gate < 2 ^ 63)) }
+    ensures gate { IfOk result (λ opened. opened.found.gate ≡ length (blocks (live_entries (D.seen disk.old)))) }
+    ensures bytes { IfOk result (λ opened. opened.found.bytes ≡ length (concat (live_entries (D.seen disk.old)))) }
+    ensures small { IfOk result (λ opened. 8 + opened.found.gate < 2 ^ 63) }
     ensures foreign { IfErr result (λ e. e ≡ JournalFault.NotAJournal → (is_foreign (D.seen disk.old).a || is_foreign (D.seen disk.old).b) ≡ true) }
     ensures ours { OnOk result ((is_foreign (D.seen disk.old).a || is_foreign (D.seen disk.old).b) ≡ false) }
     ensures arranged { OnOk result (IsSound (D.seen disk.old) → Arranged (live_half (D.seen disk.old)) (D.seen disk.old) (D.seen disk.new)) }
     ensures durable { OnOk result (Only (D.seen disk.new) (D.may_leave disk.new)) }
     ensures runs { Only (D.seen disk.old) (D.may_leave disk.old) → IsSound (D.seen disk.old)
         → Runs D.moment D.left_since D.faults D.supply disk.old disk.new (SaysOnly (text_of (D.seen disk.old))) }
-    ensures pending { IsSound (D.seen disk.old) → Runs D.moment D.left_since D.faults D.supply disk.old disk.new (LeftOrSays (D.may_leave disk.old) (text_of (D.seen disk.old))) }
+    ensures pending { IsSound (D.seen disk.old)
+        → Runs D.moment D.left_since D.faults D.supply disk.old disk.new (LeftOrSays (D.may_leave disk.old) (text_of (D.seen disk.old))) }
+    ensures untouched { IfErr result (λ fault. fault ≡ JournalFault.NotAJournal
+        → IsUntouched D.seen D.may_leave D.moment D.left_since disk.old disk.new) }
     ensures supply { Draws (D.supply disk.old) (D.supply disk.new) }
     ensures failed { IfErr result (HasReason D.faults D.explains disk.old disk.new) }
 {

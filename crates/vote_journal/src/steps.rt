@@ -1,9 +1,9 @@
-// The steps that a journal is made of: an entry behind a gate, and a half that is given up.
+//! The steps that a journal is made of: an entry behind a gate, and a half that is given up.
 ghost use Rattle.std.specs.Prelude.{◌≡◌, ◌≤◌, ◌<◌, ◌+◌, ◌^◌, [], ◌∷◌, ◌++◌, length, take, nat_le, IfOk, OnOk, IfErr};
 ghost use Rattle.disk_model.specs.Image.{half_of, other, with_half};
-ghost use Rattle.disk_model.specs.Disk.{Only, overwritten, Torn, OnHalf};
-ghost use Rattle.vote_journal.specs.Runs.{Runs, HasReason};
-ghost use Rattle.vote_journal.specs.Text.{entries_of, size_bytes, blocks, Spells};
+ghost use Rattle.disk_model.specs.Disk.{Only, overwritten, TornWrite, OnHalf};
+ghost use Rattle.vote_journal.specs.Runs.{IsStep};
+ghost use Rattle.vote_journal.specs.Text.{half_entries, size_bytes, blocks, HoldsEntries};
 ghost use Rattle.vote_journal.specs.Steps.{MayGain, MayShut, BothTorn, MayBegin, begun, begun_half};
 
 use crate::JournalFault;
@@ -14,14 +14,14 @@ use std::alloc::{AllocError, Global};
 /// An open gate. Any other byte is a closed one.
 pub(crate) const OPEN: u8 = 0x5A;
 
-/// The gate that is written where one is closed.
-pub(crate) const CLOSED: u8 = 0;
+// The gate that is written where one is closed.
+const CLOSED: u8 = 0;
 
 /// Where the first gate of a half stands: behind the magic.
 pub(crate) const FIRST_GATE: u64 = 8;
 
-/// The four bytes of a length.
-pub(crate) fn size_of(len: usize) -> [u8; 4]
+// The four bytes of a length.
+fn size_of(len: usize) -> [u8; 4]
     requires { len < 2 ^ 32 }
     ensures { result ≡ size_bytes len }
 {
@@ -62,10 +62,8 @@ fn stage<D: Disk>(disk: &mut D, half: Half, gate: u64, framed: &[u8]) -> Result<
     requires small { gate < 2 ^ 63 }
     ensures written { OnOk result (D.seen disk.new ≡ with_half half (overwritten (gate + 1) framed.now (half_of half (D.seen disk.old))) (D.seen disk.old)) }
     ensures small { OnOk result (gate + 1 + length framed.now < 2 ^ 63) }
-    ensures durable { OnOk result (Only (D.seen disk.new) (D.may_leave disk.new)) }
-    ensures runs { Runs D.moment D.left_since D.faults D.supply disk.old disk.new (OnHalf half (Torn (gate + 1) (length framed.now)) (D.seen disk.old)) }
-    ensures failed { IfErr result (HasReason D.faults D.explains disk.old disk.new) }
-    ensures no_other { IfErr result (λ e. e ≡ JournalFault.NotAJournal → ⊥) }
+    ensures step { IsStep D.seen D.may_leave D.moment D.left_since D.faults D.supply D.explains disk.old disk.new
+        (OnHalf half (TornWrite (gate + 1) (length framed.now)) (D.seen disk.old)) result }
 {
     write_through(disk, half, gate + 1, framed)
 }
@@ -75,10 +73,8 @@ fn open_gate<D: Disk>(disk: &mut D, half: Half, gate: u64) -> Result<(), Journal
     requires fits { gate ≤ length (half_of half (D.seen disk.old)) }
     requires durable { Only (D.seen disk.old) (D.may_leave disk.old) }
     ensures written { OnOk result (D.seen disk.new ≡ with_half half (overwritten gate (0x5A ∷ []) (half_of half (D.seen disk.old))) (D.seen disk.old)) }
-    ensures durable { OnOk result (Only (D.seen disk.new) (D.may_leave disk.new)) }
-    ensures runs { Runs D.moment D.left_since D.faults D.supply disk.old disk.new (OnHalf half (Torn gate 1) (D.seen disk.old)) }
-    ensures failed { IfErr result (HasReason D.faults D.explains disk.old disk.new) }
-    ensures no_other { IfErr result (λ e. e ≡ JournalFault.NotAJournal → ⊥) }
+    ensures step { IsStep D.seen D.may_leave D.moment D.left_since D.faults D.supply D.explains disk.old disk.new
+        (OnHalf half (TornWrite gate 1) (D.seen disk.old)) result }
 {
     write_through(disk, half, gate, &[OPEN])
 }
@@ -88,10 +84,8 @@ fn shut_gate<D: Disk>(disk: &mut D, half: Half) -> Result<(), JournalFault>
     requires fits { 8 ≤ length (half_of half (D.seen disk.old)) }
     requires durable { Only (D.seen disk.old) (D.may_leave disk.old) }
     ensures written { OnOk result (D.seen disk.new ≡ with_half half (overwritten 8 (0 ∷ []) (half_of half (D.seen disk.old))) (D.seen disk.old)) }
-    ensures durable { OnOk result (Only (D.seen disk.new) (D.may_leave disk.new)) }
-    ensures runs { Runs D.moment D.left_since D.faults D.supply disk.old disk.new (OnHalf half (Torn 8 1) (D.seen disk.old)) }
-    ensures failed { IfErr result (HasReason D.faults D.explains disk.old disk.new) }
-    ensures no_other { IfErr result (λ e. e ≡ JournalFault.NotAJournal → ⊥) }
+    ensures step { IsStep D.seen D.may_leave D.moment D.left_since D.faults D.supply D.explains disk.old disk.new
+        (OnHalf half (TornWrite 8 1) (D.seen disk.old)) result }
 {
     write_through(disk, half, FIRST_GATE, &[CLOSED])
 }
@@ -104,24 +98,20 @@ pub(crate) fn add_entry<D: Disk>(
     payload: &[u8],
     framed: &[u8],
 ) -> Result<(), JournalFault>
-    requires spells { Spells (half_of half (D.seen disk.old)) (entries_of (half_of half (D.seen disk.old))) }
+    requires holds { HoldsEntries (half_of half (D.seen disk.old)) (half_entries (half_of half (D.seen disk.old))) }
     requires durable { Only (D.seen disk.old) (D.may_leave disk.old) }
-    requires gate { gate ≡ 8 + length (blocks (entries_of (half_of half (D.seen disk.old)))) }
+    requires gate { gate ≡ 8 + length (blocks (half_entries (half_of half (D.seen disk.old)))) }
     requires small { gate < 2 ^ 63 }
     requires framed { framed.now ≡ size_bytes (length payload.now) ++ (payload.now ++ 0 ∷ []) }
     requires short { length payload.now < 2 ^ 32 }
-    ensures added { OnOk result (Spells (half_of half (D.seen disk.new)) (entries_of (half_of half (D.seen disk.old)) ++ payload.now ∷ [])) }
+    ensures added { OnOk result (HoldsEntries (half_of half (D.seen disk.new)) (half_entries (half_of half (D.seen disk.old)) ++ payload.now ∷ [])) }
     ensures there { OnOk result (half_of (other half) (D.seen disk.new) ≡ half_of (other half) (D.seen disk.old)) }
-    ensures durable { OnOk result (Only (D.seen disk.new) (D.may_leave disk.new)) }
     ensures small { OnOk result (gate + length framed.now < 2 ^ 63) }
-    ensures runs { Runs D.moment D.left_since D.faults D.supply disk.old disk.new
-        (MayGain half (entries_of (half_of half (D.seen disk.old))) payload.now (half_of (other half) (D.seen disk.old))) }
-    ensures failed { IfErr result (HasReason D.faults D.explains disk.old disk.new) }
-    ensures no_other { IfErr result (λ e. e ≡ JournalFault.NotAJournal → ⊥) }
+    ensures step { IsStep D.seen D.may_leave D.moment D.left_since D.faults D.supply D.explains disk.old disk.new
+        (MayGain half (half_entries (half_of half (D.seen disk.old))) payload.now (half_of (other half) (D.seen disk.old))) result }
 {
     stage(disk, half, gate, framed)?;
-    open_gate(disk, half, gate)?;
-    Ok(())
+    open_gate(disk, half, gate)
 }
 
 /// Gives up the entries of a half: closes its first gate, makes that durable, and only then cuts them off.
@@ -129,27 +119,22 @@ pub(crate) fn retire<D: Disk>(disk: &mut D, half: Half) -> Result<(), JournalFau
     requires long { 9 ≤ length (half_of half (D.seen disk.old)) }
     requires durable { Only (D.seen disk.old) (D.may_leave disk.old) }
     ensures shut { OnOk result (D.seen disk.new ≡ with_half half (take 9 (overwritten 8 (0 ∷ []) (half_of half (D.seen disk.old)))) (D.seen disk.old)) }
-    ensures durable { OnOk result (Only (D.seen disk.new) (D.may_leave disk.new)) }
-    ensures runs { Runs D.moment D.left_since D.faults D.supply disk.old disk.new (MayShut half (D.seen disk.old)) }
-    ensures failed { IfErr result (HasReason D.faults D.explains disk.old disk.new) }
-    ensures no_other { IfErr result (λ e. e ≡ JournalFault.NotAJournal → ⊥) }
+    ensures step { IsStep D.seen D.may_leave D.moment D.left_since D.faults D.supply D.explains disk.old disk.new
+        (MayShut half (D.seen disk.old)) result }
 {
     shut_gate(disk, half)?;
-    cut_through(disk, half, FIRST_GATE + 1)?;
-    Ok(())
+    cut_through(disk, half, FIRST_GATE + 1)
 }
 
-/// What a half begins with, and a closed gate.
+/// What a half begins with: the magic of eight bytes, and a closed gate.
 pub(crate) const START: [u8; 9] = *b"HBVJ0002\0";
 
-/// Begins both halves, and makes that durable.
-pub(crate) fn begin_both<D: Disk>(disk: &mut D) -> Result<(), JournalFault>
+// Begins both halves, and makes that durable.
+fn begin_both<D: Disk>(disk: &mut D) -> Result<(), JournalFault>
     requires durable { Only (D.seen disk.old) (D.may_leave disk.old) }
     ensures made { OnOk result (D.seen disk.new ≡ record { a = overwritten 0 begun (D.seen disk.old).a; b = overwritten 0 begun (D.seen disk.old).b }) }
-    ensures durable { OnOk result (Only (D.seen disk.new) (D.may_leave disk.new)) }
-    ensures runs { Runs D.moment D.left_since D.faults D.supply disk.old disk.new (BothTorn (D.seen disk.old)) }
-    ensures failed { IfErr result (HasReason D.faults D.explains disk.old disk.new) }
-    ensures no_other { IfErr result (λ e. e ≡ JournalFault.NotAJournal → ⊥) }
+    ensures step { IsStep D.seen D.may_leave D.moment D.left_since D.faults D.supply D.explains disk.old disk.new
+        (BothTorn (D.seen disk.old)) result }
 {
     disk.write_at(Half::A, 0, &START)?;
     disk.write_at(Half::B, 0, &START)?;
@@ -163,10 +148,8 @@ pub(crate) fn begin<D: Disk>(disk: &mut D, a: bool, b: bool) -> Result<(), Journ
     requires a { a ≡ nat_le (length (D.seen disk.old).a) 9 }
     requires b { b ≡ nat_le (length (D.seen disk.old).b) 9 }
     ensures made { OnOk result (D.seen disk.new ≡ record { a = begun_half (D.seen disk.old).a; b = begun_half (D.seen disk.old).b }) }
-    ensures durable { OnOk result (Only (D.seen disk.new) (D.may_leave disk.new)) }
-    ensures runs { Runs D.moment D.left_since D.faults D.supply disk.old disk.new (MayBegin (D.seen disk.old)) }
-    ensures failed { IfErr result (HasReason D.faults D.explains disk.old disk.new) }
-    ensures no_other { IfErr result (λ e. e ≡ JournalFault.NotAJournal → ⊥) }
+    ensures step { IsStep D.seen D.may_leave D.moment D.left_since D.faults D.supply D.explains disk.old disk.new
+        (MayBegin (D.seen disk.old)) result }
 {
     match (a, b) {
         (true, true) => begin_both(disk),

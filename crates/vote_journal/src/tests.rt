@@ -1,3 +1,4 @@
+//! Journals on disks in memory, stopped at each device call or failed once at it, and recovered.
 ghost use Rattle.std.specs.Prelude.{◌≡◌, ◌<◌, ◌^◌, [], length, IfOk, OnOk};
 ghost use Rattle.disk_model.specs.Disk.{LeavesOnly};
 ghost use Rattle.vote_journal.specs.Calls.{IsEmpty};
@@ -93,22 +94,19 @@ fn joined(alloc: Global, entries: &[Bytes]) -> Result<Vec<u8>, AllocError> {
     Ok(text)
 }
 
-fn repeated(alloc: Global, count: u32) -> Result<Vec<u8>, AllocError> {
-    let mut text = Vec::new(alloc);
-    for _ in 0..count {
-        text.extend_from_slice(&PAYLOAD)?;
-    }
-    Ok(text)
+// A journal of so many appends, folded, and its counts before the fold.
+fn folded(alloc: Global, count: u32) -> Result<(Journal<MemoryDisk>, (u32, u64)), JournalFault> {
+    let mut journal = new_journal(alloc, &[], &[])?;
+    append_all(&mut journal, count, &PAYLOAD)?;
+    let before = (journal.entries(), journal.bytes());
+    fold(&mut journal)?;
+    Ok((journal, before))
 }
 
-// The text that a disk has once it is on again, and again after a second recovery.
-fn text_after(alloc: Global, disk: MemoryDisk) -> Result<Vec<u8>, JournalFault> {
-    let mut disk = disk;
-    if disk.is_off() {
-        disk.switch_on()?;
-    }
+// How many entries a disk has, and how many payloads they are together, if they are nothing else.
+fn found_on(alloc: Global, disk: MemoryDisk) -> Result<(usize, Option<u32>), JournalFault> {
     match Journal::recover(alloc, disk) {
-        Ok((_, entries)) => Ok(joined(alloc, &entries)?),
+        Ok((_, entries)) => Ok((entries.len(), payloads_in(&joined(alloc, &entries)?))),
         Err((_, fault)) => Err(fault),
     }
 }
@@ -116,48 +114,183 @@ fn text_after(alloc: Global, disk: MemoryDisk) -> Result<Vec<u8>, JournalFault> 
 #[test]
 fn many_entries_are_folded_into_one(rt: HostRuntime) -> Result<(), Fail> {
     let alloc = rt.alloc();
-    let mut journal = new_journal(alloc, &[], &[])?;
-    append_all(&mut journal, 64, &PAYLOAD)?;
-    assert_eq!(rt; (journal.entries(), journal.bytes()), (64, 256));
-    fold(&mut journal)?;
-    assert_eq!(rt; (journal.entries(), journal.bytes()), (1, 256));
+    let (journal, before) = folded(alloc, 64)?;
+    let counts = (before, (journal.entries(), journal.bytes()));
+    assert_eq!(rt; counts, ((64, 256), (1, 256)));
     assert_eq!(rt; journal.disk().note().calls(), 6 + 4 * 64 + 9);
     let mut disk = journal.into_disk();
     let mut bytes = [0; 300];
-    assert_eq!(rt; disk.read(Half::A, 0, &mut bytes)?, 9);
-    assert_eq!(rt; disk.read(Half::B, 0, &mut bytes)?, 270);
+    let held = (
+        disk.read(Half::A, 0, &mut bytes)?,
+        disk.read(Half::B, 0, &mut bytes)?,
+    );
+    assert_eq!(rt; held, (9, 270));
     assert!(rt; bytes.starts_with(b"HBVJ0002\x5A\0\0\x01\0\x07\0\x03\x01\x07"));
-    let Ok((_, entries)) = Journal::recover(alloc, disk) else {
-        return Err("refused")?;
-    };
-    assert_eq!(rt; entries.len(), 1);
-    assert_eq!(rt; joined(alloc, &entries)?, repeated(alloc, 64)?);
+    assert_eq!(rt; found_on(alloc, disk)?, (1, Some(64)));
     Ok(())
 }
 
-// Three appends take the calls 7 to 18, and the fold 19 to 27.
-#[test]
-fn a_fold_that_is_stopped_keeps_the_text(rt: HostRuntime) -> Result<(), Fail> {
-    let alloc = rt.alloc();
-    for call in 19..28 {
-        for leave in LEAVES {
-            let mut journal = new_journal(alloc, &[Stop { call, leave }], &[])?;
-            append_all(&mut journal, 3, &PAYLOAD)?;
-            assert_eq!(rt; fold(&mut journal), Err(JournalFault::Failed), "at {call}");
-            assert_eq!(rt;
-                text_after(alloc, journal.into_disk())?,
-                repeated(alloc, 3)?,
-                "at {call}"
-            );
+// What was seen of a disk on which a journal was begun, appended to three times and folded, up to the first call that failed,
+// and which was then switched on where it was off, and recovered, until that went well.
+#[derive(Clone, Copy, Debug, PartialEq, Eq)]
+struct Outcome {
+    acknowledged: u32,
+    folded: bool,
+    switched_on: u32,
+    refused: u32,
+    // How many payloads were found, if nothing else was.
+    found: Option<u32>,
+}
+
+// Begins a journal, appends three times and folds, up to the first call that fails.
+fn written(alloc: Global, disk: MemoryDisk) -> (MemoryDisk, u32, bool)
+    requires { IsEmpty ⟦<MemoryDisk as Disk>⟧.seen ⟦<MemoryDisk as Disk>⟧.may_leave disk }
+{
+    let mut journal = match Journal::recover(alloc, disk) {
+        Ok((journal, _)) => journal,
+        Err((disk, _)) => return (disk, 0, false),
+    };
+    for done in 0..3 {
+        if journal.append(&PAYLOAD).is_err() {
+            return (journal.into_disk(), done, false);
         }
-        let mut journal = new_journal(alloc, &[], &[call])?;
-        append_all(&mut journal, 3, &PAYLOAD)?;
-        assert_eq!(rt; fold(&mut journal), Err(JournalFault::Failed), "at {call}");
-        assert_eq!(rt;
-            text_after(alloc, journal.into_disk())?,
-            repeated(alloc, 3)?,
-            "at {call}"
-        );
+    }
+    let folded = fold(&mut journal).is_ok();
+    (journal.into_disk(), 3, folded)
+}
+
+impl Outcome {
+    // The same, but for what was found.
+    fn with(self, found: u32) -> Outcome {
+        Outcome {
+            found: Some(found),
+            ..self
+        }
+    }
+}
+
+// How many payloads a text is, if it is nothing else.
+fn payloads_in(text: &[u8]) -> Option<u32> {
+    let mut parts = text.chunks_exact(PAYLOAD.len());
+    let are_all = parts.all(|part| part == PAYLOAD.as_slice());
+    if are_all && text.len() % PAYLOAD.len() == 0 {
+        u32::try_from(text.len() / PAYLOAD.len()).ok()
+    } else {
+        None
+    }
+}
+
+fn outcome_of(alloc: Global, stops: &[Stop], faults: &[u32]) -> Result<Outcome, JournalFault>
+    requires { length stops.now < 5 }
+{
+    let (mut disk, acknowledged, folded) = written(alloc, new_disk(alloc, stops, faults)?);
+    let mut switched_on: u32 = 0;
+    for refused in 0..8 {
+        if disk.is_off() {
+            disk.switch_on()?;
+            switched_on = switched_on.saturating_add(1);
+        }
+        disk = match Journal::recover(alloc, disk) {
+            Ok((_, entries)) => {
+                return Ok(Outcome {
+                    acknowledged,
+                    folded,
+                    switched_on,
+                    refused,
+                    found: payloads_in(&joined(alloc, &entries)?),
+                });
+            }
+            Err((disk, JournalFault::Failed)) => disk,
+            Err((_, fault)) => return Err(fault),
+        };
+    }
+    Err(JournalFault::Failed)
+}
+
+// Whether each recovery that was refused had lost its power, as the fold before it had.
+fn is_off_each_time(outcome: Outcome) -> bool {
+    outcome.refused >= 1 && outcome.switched_on == outcome.refused.saturating_add(1)
+}
+
+// The recovery of a new disk takes the calls 1 to 6, three appends 7 to 18, and the fold 19 to 27. Each of them is stopped, with
+// each of the things that a stop may leave, or fails. What was acknowledged is found, and of the append that failed the entry or
+// nothing.
+#[test]
+fn each_call_is_stopped_or_fails(rt: HostRuntime) -> Result<(), Fail> {
+    let alloc = rt.alloc();
+    for call in 1u32..28 {
+        let acknowledged = call.saturating_sub(7).min(12) / 4;
+        let most = if call < 7 || call > 18 {
+            acknowledged
+        } else {
+            acknowledged + 1
+        };
+        let want = Outcome {
+            acknowledged,
+            folded: false,
+            switched_on: 1,
+            refused: 0,
+            found: Some(acknowledged),
+        };
+        for leave in LEAVES {
+            let outcome = outcome_of(alloc, &[Stop { call, leave }], &[])?;
+            assert!(rt; outcome == want || outcome == want.with(most), "at {call}");
+        }
+        let want = Outcome {
+            switched_on: 0,
+            ..want
+        };
+        let outcome = outcome_of(alloc, &[], &[call])?;
+        assert!(rt; outcome == want || outcome == want.with(most), "at {call}");
+    }
+    let outcome = outcome_of(alloc, &[], &[28])?;
+    assert!(rt; outcome.folded && outcome.found == Some(3));
+    Ok(())
+}
+
+// The first recovery of a disk is stopped at each of its calls, and the one after it two calls later.
+#[test]
+fn a_recovery_that_is_stopped_is_taken_up_again(rt: HostRuntime) -> Result<(), Fail> {
+    let alloc = rt.alloc();
+    for call in 1..7 {
+        for leave in LEAVES {
+            let next = Stop {
+                call: call + 2,
+                leave,
+            };
+            let outcome = outcome_of(alloc, &[Stop { call, leave }, next], &[])?;
+            assert_eq!(rt; (outcome.switched_on, outcome.refused), (2, 1), "at {call}");
+            assert_eq!(rt; outcome.found, Some(0), "at {call}");
+        }
+    }
+    Ok(())
+}
+
+// The fold is stopped at call 24, where both halves have entries. The recovery after it takes the calls 25 to 31: a sync, two
+// reads, and a write, a sync, a cut and a sync that give up a half. It is stopped at each, and the one after it up to seven calls
+// later; or it fails at each, and the disk stays on.
+#[test]
+fn a_recovery_of_two_halves_keeps_the_text(rt: HostRuntime) -> Result<(), Fail> {
+    let alloc = rt.alloc();
+    let fold_stops = Stop {
+        call: 24,
+        leave: Leave::Old,
+    };
+    for call in 25..32 {
+        for leave in LEAVES {
+            for later in 1..8 {
+                let next = Stop {
+                    call: call + later,
+                    leave,
+                };
+                let outcome = outcome_of(alloc, &[fold_stops, Stop { call, leave }, next], &[])?;
+                assert_eq!(rt; outcome.found, Some(3), "at {call} and {later} later");
+                assert!(rt; is_off_each_time(outcome), "at {call} and {later} later");
+            }
+        }
+        let outcome = outcome_of(alloc, &[fold_stops], &[call])?;
+        assert_eq!(rt; outcome.found, Some(3), "at {call}");
+        assert_eq!(rt; (outcome.switched_on, outcome.refused), (1, 1), "at {call}");
     }
     Ok(())
 }
@@ -181,153 +314,6 @@ fn appends_cost_the_same(rt: HostRuntime) -> Result<(), Fail> {
     Ok(())
 }
 
-// An append that is stopped leaves the entry or not; one that answered Ok is there.
-#[test]
-fn an_append_that_is_stopped_keeps_what_was_acknowledged(rt: HostRuntime) -> Result<(), Fail> {
-    let alloc = rt.alloc();
-    for call in 7..19 {
-        for leave in LEAVES {
-            let mut journal = new_journal(alloc, &[Stop { call, leave }], &[])?;
-            assert_eq!(rt;
-                append_all(&mut journal, 3, &PAYLOAD),
-                Err(JournalFault::Failed),
-                "at {call}"
-            );
-            let done = (call - 7) / 4;
-            let text = text_after(alloc, journal.into_disk())?;
-            assert!(rt;
-                text == repeated(alloc, done)? || text == repeated(alloc, done + 1)?,
-                "at {call}"
-            );
-        }
-        let mut journal = new_journal(alloc, &[], &[call])?;
-        assert_eq!(rt;
-            append_all(&mut journal, 3, &PAYLOAD),
-            Err(JournalFault::Failed),
-            "at {call}"
-        );
-        let done = (call - 7) / 4;
-        let text = text_after(alloc, journal.into_disk())?;
-        assert!(rt;
-            text == repeated(alloc, done)? || text == repeated(alloc, done + 1)?,
-            "at {call}"
-        );
-    }
-    Ok(())
-}
-
-// The first recovery of a disk, stopped at each of its calls, and the one after it too.
-#[test]
-fn a_recovery_that_is_stopped_is_taken_up_again(rt: HostRuntime) -> Result<(), Fail> {
-    let alloc = rt.alloc();
-    for call in 1..7 {
-        for leave in LEAVES {
-            let stops = [
-                Stop { call, leave },
-                Stop {
-                    call: call + 2,
-                    leave,
-                },
-            ];
-            let Err((mut disk, _)) = Journal::recover(alloc, new_disk(alloc, &stops, &[])?) else {
-                return Err("not stopped")?;
-            };
-            assert!(rt; disk.is_off(), "at {call}");
-            disk.switch_on()?;
-            let Err((disk, _)) = Journal::recover(alloc, disk) else {
-                return Err("not stopped again")?;
-            };
-            assert_eq!(rt; text_after(alloc, disk)?.len(), 0, "at {call}");
-        }
-        let Err((disk, JournalFault::Failed)) = Journal::recover(
-            alloc,
-            new_disk(alloc, &[], &[call])?,
-        ) else {
-            return Err("no fault")?;
-        };
-        assert!(rt; !disk.is_off(), "at {call}");
-        assert_eq!(rt; text_after(alloc, disk)?.len(), 0, "at {call}");
-    }
-    Ok(())
-}
-
-// A journal of three entries whose fold is stopped where both halves have entries.
-fn folded_halfway(alloc: Global, stops: &[Stop], faults: &[u32]) -> Result<MemoryDisk, JournalFault>
-    requires { length stops.now < 5 }
-{
-    let mut journal = new_journal(alloc, stops, faults)?;
-    append_all(&mut journal, 3, &PAYLOAD)?;
-    let _ = fold(&mut journal);
-    Ok(journal.into_disk())
-}
-
-// The text of a disk, of which one recovery may still be stopped.
-fn text_in_the_end(alloc: Global, disk: MemoryDisk) -> Result<Vec<u8>, JournalFault> {
-    let mut disk = disk;
-    if disk.is_off() {
-        disk.switch_on()?;
-    }
-    match Journal::recover(alloc, disk) {
-        Ok((_, entries)) => Ok(joined(alloc, &entries)?),
-        Err((disk, _)) => text_after(alloc, disk),
-    }
-}
-
-// The fold is stopped at call 24, and the recovery after it takes the calls 25 to 31: a sync, two reads, and a write, a
-// sync, a cut and a sync that give up a half. It is stopped at each, and the one after it up to seven calls later.
-#[test]
-fn a_recovery_of_two_halves_that_is_stopped_keeps_the_text(rt: HostRuntime) -> Result<(), Fail> {
-    let alloc = rt.alloc();
-    let fold_stops = Stop {
-        call: 24,
-        leave: Leave::Old,
-    };
-    for call in 25..32 {
-        for leave in LEAVES {
-            for later in 1..8 {
-                let next = Stop {
-                    call: call + later,
-                    leave,
-                };
-                let stops = [fold_stops, Stop { call, leave }, next];
-                let mut disk = folded_halfway(alloc, &stops, &[])?;
-                assert!(rt; disk.is_off());
-                disk.switch_on()?;
-                let Err((disk, JournalFault::Failed)) = Journal::recover(alloc, disk) else {
-                    return Err("not stopped")?;
-                };
-                assert_eq!(rt;
-                    text_in_the_end(alloc, disk)?,
-                    repeated(alloc, 3)?,
-                    "at {call} and {later} later"
-                );
-            }
-        }
-    }
-    Ok(())
-}
-
-// The same recovery, calls 25 to 31, where one of its calls fails and the disk stays on.
-#[test]
-fn a_recovery_of_two_halves_that_fails_keeps_the_text(rt: HostRuntime) -> Result<(), Fail> {
-    let alloc = rt.alloc();
-    let fold_stops = Stop {
-        call: 24,
-        leave: Leave::Old,
-    };
-    for call in 25..32 {
-        let mut disk = folded_halfway(alloc, &[fold_stops], &[call])?;
-        assert!(rt; disk.is_off());
-        disk.switch_on()?;
-        let Err((disk, JournalFault::Failed)) = Journal::recover(alloc, disk) else {
-            return Err("no fault")?;
-        };
-        assert!(rt; !disk.is_off(), "at {call}");
-        assert_eq!(rt; text_after(alloc, disk)?, repeated(alloc, 3)?, "at {call}");
-    }
-    Ok(())
-}
-
 // The law of rows of calls is of calls that can be made. The second recovery takes five: a sync, two reads, and a write
 // and a sync that begin half B again, which has no more than 9 bytes.
 #[test]
@@ -335,7 +321,7 @@ fn a_disk_is_used(rt: HostRuntime) -> Result<(), Fail> {
     let alloc = rt.alloc();
     let disk = used(alloc, new_disk(alloc, &[], &[])?, &PAYLOAD);
     assert_eq!(rt; disk.note().calls(), 6 + 4 + 5);
-    assert_eq!(rt; text_after(alloc, disk)?.as_slice(), PAYLOAD.as_slice());
+    assert_eq!(rt; found_on(alloc, disk)?, (1, Some(1)));
     Ok(())
 }
 
@@ -357,23 +343,23 @@ fn recovered(alloc: Global, a: &[u8], b: &[u8]) -> Result<(Vec<u8>, usize), Jour
 #[test]
 fn the_bytes_say_what_is_recovered(rt: HostRuntime) -> Result<(), Fail> {
     let alloc = rt.alloc();
-    let torn = b"HBVJ0002\x5A\0\0\0\x04\x07\0\x03\x01\0\x5A\x5A";
-    let one = b"HBVJ0002\x5A\0\0\0\x01\x61\0";
-    let (text, left) = recovered(alloc, torn, b"")?;
-    assert_eq!(rt; (text.as_slice(), left), (PAYLOAD.as_slice(), 9));
-    let (text, left) = recovered(alloc, b"", b"")?;
-    assert_eq!(rt; (text.len(), left), (0, 9));
-    let (text, left) = recovered(alloc, b"123456789", &[0xFF; 9])?;
-    assert_eq!(rt; (text.len(), left), (0, 9));
-    let (text, left) = recovered(alloc, one, one)?;
-    assert_eq!(rt; (text.as_slice(), left), (b"a".as_slice(), 9));
-    let (text, left) = recovered(alloc, b"", one)?;
-    assert_eq!(rt; (text.as_slice(), left), (b"a".as_slice(), 15));
-    assert!(rt;
-        matches!(
-            recovered(alloc, b"", &[0xFF; 10]),
-            Err(JournalFault::NotAJournal)
-        )
-    );
+    let torn = b"HBVJ0002\x5A\0\0\0\x04\x07\0\x03\x01\0\x5A\x5A".as_slice();
+    let one = b"HBVJ0002\x5A\0\0\0\x01\x61\0".as_slice();
+    let none = b"".as_slice();
+    for (a, b, want, want_left) in [
+        (torn, none, PAYLOAD.as_slice(), 9),
+        (none, none, none, 9),
+        (b"123456789", &[0xFF; 9], none, 9),
+        (one, one, b"a", 9),
+        (none, one, b"a", 15),
+    ] {
+        let (text, left) = recovered(alloc, a, b)?;
+        assert!(rt;
+            text.as_slice() == want && left == want_left,
+            "{want_left} bytes left"
+        );
+    }
+    let refused = recovered(alloc, none, &[0xFF; 10]).err();
+    assert_eq!(rt; refused, Some(JournalFault::NotAJournal));
     Ok(())
 }

@@ -1,64 +1,94 @@
-use Rattle.std.proofs.Common.{◌∙◌, inl, inr, ap, subst}
+use Rattle.std.proofs.Common.{◌≡◌, ◌∙◌, inl, inr, ap, sym, subst, Result, Ok, Err, IfErr, IsErrAnd}
 use Rattle.disk_model.specs.declared.disk.Half.{Half}
 use Rattle.disk_model.specs.Image.{Image, other}
-use Rattle.vote_journal.specs.Text.{text_of, SaysOnly}
+use Rattle.vote_journal.specs.declared.fault.JournalFault.{JournalFault}
+use Rattle.vote_journal.specs.Text.{text_of}
 use Rattle.vote_journal.specs.Steps.{MayArrange, arranged}
 use Rattle.vote_journal.specs.Runs.{LeftOrSays}
 use Rattle.vote_journal.proofs.Moments.{weaker, more_calls}
-use Rattle.vote_journal.proofs.Arranges.{arrange_says, arranged_spells, live_found, both_found, sound_says}
+use Rattle.vote_journal.proofs.Arranges.{arrange_says, arranged_holds, live_found, both_found, sound_says}
 use Rattle.vote_journal.proofs.recover.open.Goals as goal
+
+-- what holds of the fault that came up holds of the one that is told
+on_err : {T : Type 0} (P : JournalFault → Type 0) {fault : JournalFault} (result : Result T JournalFault) → IsErrAnd result (λ given. given ≡ fault)
+    → P fault → IfErr result P
+on_err P (Ok value) is holds = absurd is
+on_err P (Err given) is holds = subst P (sym is) holds
 
 pub returns-clause-arranged : goal.returns-clause-arranged
 returns-clause-arranged g c = λ sound.
     let old = g.D.Disk.seen c.args.disk.now in
     let a = c.in_ok-found.ensures.a in
     let b = c.in_ok-found.ensures.b in
-    let live = c.live_of-live.ensures ∙ live_found old c.deref.result.now c.deref-2.result.now (c.deref.ensures.value ∙ a.is) (c.deref-2.ensures.value ∙ b.is) in
-    let both = c.have_both-both.ensures ∙ both_found old c.deref-3.result.now c.deref-4.result.now (c.deref-3.ensures.value ∙ a.is) (c.deref-4.ensures.value ∙ b.is) in
-    arranged_spells c.have_both-both.result old (g.D.Disk.seen c.arrange.new.disk) a.are_bytes b.are_bytes sound both
-    (c.in_ok-arrange.ensures.made ∙ ap (arranged c.have_both-both.result c.other.result) c.survey.ensures.seen ∙ ap (λ (h : Half). arranged c.have_both-both.result h old) (c.other.ensures ∙ ap other live))
+    let live = c.live_of-live.ensures
+    ∙ live_found old c.deref.result.now c.deref-2.result.now (c.deref.ensures.value ∙ a.is) (c.deref-2.ensures.value ∙ b.is) in
+    let both = c.have_both-both.ensures
+    ∙ both_found old c.deref-3.result.now c.deref-4.result.now (c.deref-3.ensures.value ∙ a.is) (c.deref-4.ensures.value ∙ b.is) in
+    arranged_holds c.have_both-both.result old (g.D.Disk.seen c.arrange.new.disk) a.are_bytes b.are_bytes sound both
+    (c.in_ok-arrange.ensures.made ∙ ap (arranged c.have_both-both.result c.other.result) c.survey.ensures.seen
+    ∙ ap (λ (h : Half). arranged c.have_both-both.result h old) (c.other.ensures ∙ ap other live))
 
 pub returns-in_err-arrange-clause-runs : goal.returns-in_err-arrange-clause-runs
 returns-in_err-arrange-clause-runs g c = λ only sound.
     let old = g.D.Disk.seen c.args.disk.now in
     let a = c.in_ok-found.ensures.a in
     let b = c.in_ok-found.ensures.b in
-    let both = c.have_both-both.ensures ∙ both_found old c.deref-3.result.now c.deref-4.result.now (c.deref-3.ensures.value ∙ a.is) (c.deref-4.ensures.value ∙ b.is) in
-    more_calls g.D.Disk.moment g.D.Disk.left_since g.D.Disk.faults g.D.Disk.supply c.args.disk.now c.survey.new.disk c.arrange.new.disk _ _ (SaysOnly (text_of old)) c.survey.ensures.runs c.arrange.ensures.runs
+    let both = c.have_both-both.ensures
+    ∙ both_found old c.deref-3.result.now c.deref-4.result.now (c.deref-3.ensures.value ∙ a.is) (c.deref-4.ensures.value ∙ b.is) in
+    more_calls c.survey.ensures.runs c.arrange.ensures.step.runs
     (λ image left. sound_says old image sound (only image left))
-    (λ image may. arrange_says c.have_both-both.result c.other.result old image a.are_bytes b.are_bytes sound both (subst (λ (i : Image). MayArrange c.have_both-both.result c.other.result i image) c.survey.ensures.seen may))
+    (λ image may. arrange_says c.have_both-both.result c.other.result old image a.are_bytes b.are_bytes sound both
+    (subst (λ (i : Image). MayArrange c.have_both-both.result c.other.result i image) c.survey.ensures.seen may))
 
 pub returns-clause-runs : goal.returns-clause-runs
 returns-clause-runs g c = λ only sound.
     let old = g.D.Disk.seen c.args.disk.now in
     let a = c.in_ok-found.ensures.a in
     let b = c.in_ok-found.ensures.b in
-    let both = c.have_both-both.ensures ∙ both_found old c.deref-3.result.now c.deref-4.result.now (c.deref-3.ensures.value ∙ a.is) (c.deref-4.ensures.value ∙ b.is) in
-    more_calls g.D.Disk.moment g.D.Disk.left_since g.D.Disk.faults g.D.Disk.supply c.args.disk.now c.survey.new.disk c.arrange.new.disk _ _ (SaysOnly (text_of old)) c.survey.ensures.runs c.arrange.ensures.runs
+    let both = c.have_both-both.ensures
+    ∙ both_found old c.deref-3.result.now c.deref-4.result.now (c.deref-3.ensures.value ∙ a.is) (c.deref-4.ensures.value ∙ b.is) in
+    more_calls c.survey.ensures.runs c.arrange.ensures.step.runs
     (λ image left. sound_says old image sound (only image left))
-    (λ image may. arrange_says c.have_both-both.result c.other.result old image a.are_bytes b.are_bytes sound both (subst (λ (i : Image). MayArrange c.have_both-both.result c.other.result i image) c.survey.ensures.seen may))
+    (λ image may. arrange_says c.have_both-both.result c.other.result old image a.are_bytes b.are_bytes sound both
+    (subst (λ (i : Image). MayArrange c.have_both-both.result c.other.result i image) c.survey.ensures.seen may))
 
 pub returns-in_err-found-clause-pending : goal.returns-in_err-found-clause-pending
 returns-in_err-found-clause-pending g c = λ sound.
     let old = g.D.Disk.seen c.args.disk.now in
-    weaker g.D.Disk.moment g.D.Disk.left_since g.D.Disk.faults g.D.Disk.supply c.args.disk.now c.survey.new.disk _ (LeftOrSays (g.D.Disk.may_leave c.args.disk.now) (text_of old)) c.survey.ensures.runs (λ image left. inl left)
+    weaker c.survey.ensures.runs (λ image left. inl left)
 
 pub returns-in_err-arrange-clause-pending : goal.returns-in_err-arrange-clause-pending
 returns-in_err-arrange-clause-pending g c = λ sound.
     let old = g.D.Disk.seen c.args.disk.now in
     let a = c.in_ok-found.ensures.a in
     let b = c.in_ok-found.ensures.b in
-    let both = c.have_both-both.ensures ∙ both_found old c.deref-3.result.now c.deref-4.result.now (c.deref-3.ensures.value ∙ a.is) (c.deref-4.ensures.value ∙ b.is) in
-    more_calls g.D.Disk.moment g.D.Disk.left_since g.D.Disk.faults g.D.Disk.supply c.args.disk.now c.survey.new.disk c.arrange.new.disk _ _ (LeftOrSays (g.D.Disk.may_leave c.args.disk.now) (text_of old)) c.survey.ensures.runs c.arrange.ensures.runs
+    let both = c.have_both-both.ensures
+    ∙ both_found old c.deref-3.result.now c.deref-4.result.now (c.deref-3.ensures.value ∙ a.is) (c.deref-4.ensures.value ∙ b.is) in
+    more_calls c.survey.ensures.runs c.arrange.ensures.step.runs
     (λ image left. inl left)
-    (λ image may. inr (arrange_says c.have_both-both.result c.other.result old image a.are_bytes b.are_bytes sound both (subst (λ (i : Image). MayArrange c.have_both-both.result c.other.result i image) c.survey.ensures.seen may)))
+    (λ image may. inr (arrange_says c.have_both-both.result c.other.result old image a.are_bytes b.are_bytes sound both
+    (subst (λ (i : Image). MayArrange c.have_both-both.result c.other.result i image) c.survey.ensures.seen may)))
 
 pub returns-clause-pending : goal.returns-clause-pending
 returns-clause-pending g c = λ sound.
     let old = g.D.Disk.seen c.args.disk.now in
     let a = c.in_ok-found.ensures.a in
     let b = c.in_ok-found.ensures.b in
-    let both = c.have_both-both.ensures ∙ both_found old c.deref-3.result.now c.deref-4.result.now (c.deref-3.ensures.value ∙ a.is) (c.deref-4.ensures.value ∙ b.is) in
-    more_calls g.D.Disk.moment g.D.Disk.left_since g.D.Disk.faults g.D.Disk.supply c.args.disk.now c.survey.new.disk c.arrange.new.disk _ _ (LeftOrSays (g.D.Disk.may_leave c.args.disk.now) (text_of old)) c.survey.ensures.runs c.arrange.ensures.runs
+    let both = c.have_both-both.ensures
+    ∙ both_found old c.deref-3.result.now c.deref-4.result.now (c.deref-3.ensures.value ∙ a.is) (c.deref-4.ensures.value ∙ b.is) in
+    more_calls c.survey.ensures.runs c.arrange.ensures.step.runs
     (λ image left. inl left)
-    (λ image may. inr (arrange_says c.have_both-both.result c.other.result old image a.are_bytes b.are_bytes sound both (subst (λ (i : Image). MayArrange c.have_both-both.result c.other.result i image) c.survey.ensures.seen may)))
+    (λ image may. inr (arrange_says c.have_both-both.result c.other.result old image a.are_bytes b.are_bytes sound both
+    (subst (λ (i : Image). MayArrange c.have_both-both.result c.other.result i image) c.survey.ensures.seen may)))
+
+pub returns-in_err-found-clause-untouched : goal.returns-in_err-found-clause-untouched
+returns-in_err-found-clause-untouched g c =
+    on_err _ c.from_residual.result c.from_residual.ensures.1 (λ foreign. record {
+      same = c.survey.ensures.seen;
+      durable = c.in_err-found.ensures.foreign_durable foreign;
+      moments = c.survey.ensures.runs.moments;
+    })
+
+pub returns-in_err-arrange-clause-untouched : goal.returns-in_err-arrange-clause-untouched
+returns-in_err-arrange-clause-untouched g c =
+    on_err _ c.from_residual-in_err-arrange.result c.from_residual-in_err-arrange.ensures.1 (λ foreign. absurd (c.in_err-arrange.ensures.step.no_other foreign))

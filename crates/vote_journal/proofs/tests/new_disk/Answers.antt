@@ -19,4 +19,5 @@ empty_left c left =
 
 pub returns : goal.returns
 returns c =
-    subst (λ (disk : MemoryState). IsEmpty (λ (d : MemoryState). content_of d.halves) (λ (d : MemoryState). HalvesMayLeave d.halves) disk) (sym c.new.ensures) (record { nothing = refl; durable = empty_left })
+    subst (λ (disk : MemoryState). IsEmpty (λ (d : MemoryState). content_of d.halves) (λ (d : MemoryState). HalvesMayLeave d.halves) disk)
+    (sym c.new.ensures) (record { nothing = refl; durable = empty_left })

@@ -14,13 +14,13 @@ returns-in-Ok-clause-text g c = λ sound. arranged_text (g.D.Disk.seen c.args.di
 pub returns-in-Ok-clause-usable : goal.returns-in-Ok-clause-usable
 returns-in-Ok-clause-usable g c = λ sound.
     let o = opens c.in-Ok.opened.live (g.D.Disk.seen c.args.disk) (g.D.Disk.seen c.open.new.disk) c.in-Ok.ensures.live (c.in-Ok.ensures.arranged sound) in
-    let found = c.in-Ok.ensures.found in
+    let e = c.in-Ok.ensures in
     record {
       live = o.live;
       spare = o.spare;
       durable = c.in-Ok.ensures.durable;
-      gate = omega (arith, found.0, ap (λ (es : List (List ℕ)). length (blocks es)) o.same);
-      small = found.2;
+      gate = omega (arith, e.gate, ap (λ (es : List (List ℕ)). length (blocks es)) o.same);
+      small = e.small;
       count = omega (arith, c.min.ensures, c.len.ensures, ap length c.in-Ok.ensures.entries, ap length o.same);
-      bytes = omega (arith, found.1, ap (λ (es : List (List ℕ)). length (concat es)) o.same);
+      bytes = omega (arith, e.bytes, ap (λ (es : List (List ℕ)). length (concat es)) o.same);
     }
