@@ -1,5 +1,31 @@
 -- Beginnings of one list, the entries of one number, and lists in which no number stands twice.
-use Rattle.std.proofs.Common.{◌≡◌, ℕ, suc, ◌≤◌, ◌≢◌, ◌⊎◌, inl, inr, ⊎_elim, eqb, eq-eqb, ne_eqb, cond, List, [], ◌∷◌, ◌++◌, length, refl, ap, sym, subst, ◌∙◌, arith, append_assoc}
+use Rattle.std.proofs.Common.{
+  ◌≡◌,
+  ℕ,
+  suc,
+  ◌≤◌,
+  ◌≢◌,
+  ◌⊎◌,
+  inl,
+  inr,
+  ⊎_elim,
+  eqb,
+  eq-eqb,
+  ne_eqb,
+  cond,
+  List,
+  [],
+  ◌∷◌,
+  ◌++◌,
+  length,
+  refl,
+  ap,
+  sym,
+  subst,
+  ◌∙◌,
+  arith,
+  append_assoc,
+}
 use Rattle.std.proofs.lemmas.List.{append-nil}
 use Rattle.std.proofs.lemmas.List.Elements.{filter-append, Contains-push, Contains-push_cases, Contains-append_cases, All-head, All-tail, All-push}
 use Rattle.std.specs.List.{Contains}
@@ -52,7 +78,8 @@ module _ {E : Type 0} (names : E → ℕ) where
   entries_of-other e n ne = ap (λ b. cond b (e ∷ []) []) (ne_eqb (names e) n ne)
 
   pub entries_of-unchanged : (e : E) (n : ℕ) (xs : List E) → names e ≢ n → entries_of names n (xs ++ e ∷ []) ≡ entries_of names n xs
-  entries_of-unchanged e n xs ne = entries_of-append n xs (e ∷ []) ∙ (ap (λ w. entries_of names n xs ++ w) (entries_of-other e n ne) ∙ append-nil (entries_of names n xs))
+  entries_of-unchanged e n xs ne = entries_of-append n xs (e ∷ [])
+      ∙ (ap (λ w. entries_of names n xs ++ w) (entries_of-other e n ne) ∙ append-nil (entries_of names n xs))
 
   -- a number that was never given has no entry
   pub none_of : (n : ℕ) (given : List ℕ) (xs : List E) → n ≢ 0 → ¬ Contains given n → NamesGiven names given xs → entries_of names n xs ≡ []
@@ -67,7 +94,8 @@ module _ {E : Type 0} (names : E → ℕ) where
   none_before (x ∷ xs) ys e = absurd (cc e)
 
   -- a list between a beginning and a whole that have the same entries of a number has just these
-  pub entries_of-between : (n : ℕ) (xs ys zs : List E) → IsPrefix xs ys → IsPrefix ys zs → entries_of names n zs ≡ entries_of names n xs → entries_of names n ys ≡ entries_of names n xs
+  pub entries_of-between : (n : ℕ) (xs ys zs : List E) → IsPrefix xs ys → IsPrefix ys zs → entries_of names n zs ≡ entries_of names n xs
+      → entries_of names n ys ≡ entries_of names n xs
   entries_of-between n xs ys zs p q same =
       let f : List E → List E = entries_of names n in
       let front : f ys ≡ f xs ++ f p.0 = sym (ap f p.1) ∙ entries_of-append n xs p.0 in
@@ -92,7 +120,8 @@ module _ {E : Type 0} (names : E → ℕ) where
     begins = λ xs p. subst (λ w. IsPrefix xs w) (sym is) (prefix_more xs old (e ∷ []) p);
     others = λ m other. ap (entries_of names m) is ∙ entries_of-unchanged e m old (λ h. other (sym h ∙ names_it));
     named = λ given known all. subst (λ w. NamesGiven names given w) (sym is)
-        (All-push (λ d. (names d ≡ 0) ⊎ Contains given (names d)) old e all (⊎_elim (λ h. inl (names_it ∙ h)) (λ h. inr (subst (λ k. Contains given k) (sym names_it) h)) known));
+        (All-push (λ d. (names d ≡ 0) ⊎ Contains given (names d)) old e all
+        (⊎_elim (λ h. inl (names_it ∙ h)) (λ h. inr (subst (λ k. Contains given k) (sym names_it) h)) known));
   }
 
 module _ {E : Type 0} where
@@ -108,13 +137,15 @@ module _ {E : Type 0} where
   pub once_push : (xs : List (ℕ × List E)) (n : ℕ) (k : List E) → IsOnce xs → ((l : List E) → ¬ Contains xs (n, l)) → IsOnce (xs ++ (n, k) ∷ [])
   once_push [] n k h new = ((λ l c. not_in_none (n, l) c), tt)
   once_push (x ∷ xs) n k h new = (
-    (λ l c. ⊎_elim (λ (a : Contains xs (x.0, l)). h.0 l a) (λ (e : (n, k) ≡ (x.0, l)). new x.1 (0, omega arith, λ i. (sym (ap (λ p. p.0) e) i, x.1))) (Contains-push_cases xs (n, k) (x.0, l) c)),
+    (λ l c. ⊎_elim (λ (a : Contains xs (x.0, l)). h.0 l a) (λ (e : (n, k) ≡ (x.0, l)). new x.1
+        (0, omega arith, λ i. (sym (ap (λ p. p.0) e) i, x.1))) (Contains-push_cases xs (n, k) (x.0, l) c)),
     once_push xs n k h.1 (λ l c. new l (in_tail x xs (n, l) c)),
   )
 
   pub once_last : (xs : List (ℕ × List E)) (n : ℕ) (k : List E) → IsOnce (xs ++ (n, k) ∷ []) → (l : List E) → ¬ Contains xs (n, l)
   once_last [] n k h l c = not_in_none (n, l) c
   once_last (x ∷ xs) n k h l c = ⊎_elim
-      (λ (a : Contains (x ∷ []) (n, l)). let e : x.0 ≡ n = ap (λ p. p.0) (in_one x (n, l) a) in h.0 k (subst (λ (m : ℕ). Contains (xs ++ (n, k) ∷ []) (m, k)) (sym e) (Contains-push xs (n, k))))
+      (λ (a : Contains (x ∷ []) (n, l)). let e : x.0 ≡ n = ap (λ p. p.0) (in_one x (n, l) a) in
+      h.0 k (subst (λ (m : ℕ). Contains (xs ++ (n, k) ∷ []) (m, k)) (sym e) (Contains-push xs (n, k))))
       (λ (b : Contains xs (n, l)). once_last xs n k h.1 l b)
       (Contains-append_cases (x ∷ []) xs (n, l) c)

@@ -1,5 +1,32 @@
 -- A book that was just made meets the rule. Seats that are split, joined and settled keep it, and a book that is closed gives its whole history.
-use Rattle.std.proofs.Common.{◌≡◌, ℕ, ◌^◌, ◌<◌, ◌≢◌, ◌⊎◌, inl, inr, ⊎_elim, true, false, List, [], ◌∷◌, ◌++◌, length, set, refl, ap, sym, subst, ◌∙◌, arith, Option, Some, None}
+use Rattle.std.proofs.Common.{
+  ◌≡◌,
+  ℕ,
+  ◌^◌,
+  ◌<◌,
+  ◌≢◌,
+  ◌⊎◌,
+  inl,
+  inr,
+  ⊎_elim,
+  true,
+  false,
+  List,
+  [],
+  ◌∷◌,
+  ◌++◌,
+  length,
+  set,
+  refl,
+  ap,
+  sym,
+  subst,
+  ◌∙◌,
+  arith,
+  Option,
+  Some,
+  None,
+}
 use mathlib.Core.Option.{some, none, some-injective, some-ne-none}
 use mathlib.Core.List.{IsPrefix}
 use mathlib.Core.Logic.{dite}
@@ -49,20 +76,23 @@ module _ {S E : Type 0} (entries : S → List E) (names : E → ℕ) where
         away = λ e. absurd (cc e);
       }
 
-  pub splits : (number id : ℕ) (v : View E) → v.number ≡ Some 0 → 0 < number → number < 2 ^ 32 → ¬ Contains v.given number → Splits (Kept entries names) id v (left_of number v) (right_of number v)
+  pub splits : (number id : ℕ) (v : View E) → v.number ≡ Some 0 → 0 < number → number < 2 ^ 32 → ¬ Contains v.given number
+      → Splits (Kept entries names) id v (left_of number v) (right_of number v)
   splits number id v zero_is pos small new s k at =
       let z = k.z in
       let f = k.fits id v at in
       let same = f.first zero_is in
       let new' : ¬ Contains z.given number = λ c. new (subst (λ (g : List ℕ). Contains g number) (sym same.0) c) in
-      let other : (n : ℕ) → (n ≡ 0) ⊎ Contains z.given n → n ≢ number = λ n h e. ⊎_elim (λ (q : n ≡ 0). absurd (omega arith)) (λ (c : Contains z.given n). new' (subst (λ (m : ℕ). Contains z.given m) e c)) h in
+      let other : (n : ℕ) → (n ≡ 0) ⊎ Contains z.given n → n ≢ number =
+      λ n h e. ⊎_elim (λ (q : n ≡ 0). absurd (omega arith)) (λ (c : Contains z.given n). new' (subst (λ (m : ℕ). Contains z.given m) e c)) h in
       let w : View E = left_of number v in
       let views : List (View E) = set s.views id w in
       let r : View E = right_of number v in
       let given : List ℕ = z.given ++ number ∷ [] in
       let place : ℕ → ℕ = put z.place number (length views) in
       let z' : Standing E = record z { given = given; place = place } in
-      let known : (n : ℕ) → (n ≡ 0) ⊎ Contains z.given n → (n ≡ 0) ⊎ Contains given n = λ n h. ⊎_elim (λ q. inl q) (λ c. inr (Contains-append_left z.given (number ∷ []) n c)) h in
+      let known : (n : ℕ) → (n ≡ 0) ⊎ Contains z.given n → (n ≡ 0) ⊎ Contains given n = λ n h.
+      ⊎_elim (λ q. inl q) (λ c. inr (Contains-append_left z.given (number ∷ []) n c)) h in
       let here : Fits names z' id w = record {
         seen = f.seen;
         beside = f.beside;
@@ -92,7 +122,8 @@ module _ {S E : Type 0} (entries : S → List E) (names : E → ℕ) where
       let fresh : Fits names z' (length views) r = record {
         seen = (z.log, refl);
         beside = f.seen;
-        mine = λ n e. let is : number ≡ n = cc e in subst (λ (m : ℕ). entries_of names m z.log ≡ []) is (none_of names number z.given z.log (λ q. omega arith) new' k.named);
+        mine = λ n e. let is : number ≡ n = cc e in subst (λ (m : ℕ). entries_of names m z.log ≡ []) is
+            (none_of names number z.given z.log (λ q. omega arith) new' k.named);
         small = λ n e. let is : number ≡ n = cc e in omega arith;
         placed = λ n e. let is : number ≡ n = cc e in put_at z.place number (length views) n (sym is);
         named = λ n e. let is : number ≡ n = cc e in inr (subst (λ (m : ℕ). Contains given m) is (Contains-push z.given number));
@@ -101,8 +132,10 @@ module _ {S E : Type 0} (entries : S → List E) (names : E → ℕ) where
         turns = λ e. absurd (cc e);
         first = λ e. let is : number ≡ 0 = cc e in absurd (omega arith);
       } in
-      let moved : (Q : View E → Type 0) (m : ℕ) → (m ≡ 0) ⊎ Contains z.given m → (Q v → Q w) → At Q s.views (z.place m) → At Q (views ++ r ∷ []) (place m) = λ Q m h keep a.
-      subst (λ (i : ℕ). At Q (views ++ r ∷ []) i) (sym (put_else z.place number (length views) m (other m h))) (find_push Q views (z.place m) r (find_set Q s.views id (z.place m) v w at keep a)) in
+      let moved : (Q : View E → Type 0) (m : ℕ) → (m ≡ 0) ⊎ Contains z.given m → (Q v → Q w) → At Q s.views (z.place m)
+      → At Q (views ++ r ∷ []) (place m) = λ Q m h keep a.
+      subst (λ (i : ℕ). At Q (views ++ r ∷ []) i) (sym (put_else z.place number (length views) m (other m h)))
+      (find_push Q views (z.place m) r (find_set Q s.views id (z.place m) v w at keep a)) in
       record {
         z = z';
         bells = k.bells;
@@ -113,7 +146,8 @@ module _ {S E : Type 0} (entries : S → List E) (names : E → ℕ) where
             moved (Waits t) (z.owner t) (g.named (z.owner t) (g.waits t a.2).2) (λ e. e) a;
         closed = λ n l c. let h = k.closed n l c in (Contains-append_left z.given (number ∷ []) n h.0, h.1);
         once = k.once;
-        named = All-weaker (λ e. (names e ≡ 0) ⊎ Contains z.given (names e)) (λ e. (names e ≡ 0) ⊎ Contains given (names e)) (λ e h. known (names e) h) z.log k.named;
+        named = All-weaker (λ e. (names e ≡ 0) ⊎ Contains z.given (names e)) (λ e. (names e ≡ 0) ⊎ Contains given (names e))
+            (λ e h. known (names e) h) z.log k.named;
         home = k.home;
         away = λ e. let a = k.away e in let u = a.1 in let g = k.fits (z.place (z.owner z.served)) u.0 u.1 in
             (a.0, moved IsInTurn (z.owner z.served) (g.named (z.owner z.served) (g.waits z.served (g.turns u.2).1).2) (λ h. h) u);
@@ -135,7 +169,8 @@ module _ {S E : Type 0} (entries : S → List E) (names : E → ℕ) where
         turns = λ e. absurd (cc e);
         first = λ e. absurd (cc e);
       } in
-      subst (λ (vs : List (View E)). Kept entries names record { words = s.words; homes = s.homes; views = vs ++ bare v ∷ [] }) (sym (set_again s.views id v at)) record {
+      subst (λ (vs : List (View E)). Kept entries names record { words = s.words; homes = s.homes; views = vs ++ bare v ∷ [] })
+      (sym (set_again s.views id v at)) record {
         z = z;
         bells = k.bells;
         words = k.words;
@@ -222,7 +257,8 @@ module _ {S E : Type 0} (entries : S → List E) (names : E → ℕ) where
         away = λ e. let a = k.away e in (a.0, keep IsInTurn (z.place (z.owner z.served)) (λ q. q) (λ q. absurd (cc (out, q))) a.1);
       }
 
-  pub meets : (id : ℕ) (v : View E) (other : ℕ) (w : View E) → w.ticket ≡ None → w.in_turn ≡ false → Joins (Kept entries names) id v other w (both_seen v w) spent
+  pub meets : (id : ℕ) (v : View E) (other : ℕ) (w : View E) → w.ticket ≡ None → w.in_turn ≡ false
+      → Joins (Kept entries names) id v other w (both_seen v w) spent
   meets id v other w idle out s k at apart there =
       let z = k.z in
       joined s k id other v w v.ended z.ended at apart there idle out
@@ -232,7 +268,8 @@ module _ {S E : Type 0} (entries : S → List E) (names : E → ℕ) where
       k.closed
       k.once
 
-  pub ends : (id : ℕ) (v : View E) (other : ℕ) (w : View E) (n : ℕ) → v.number ≡ Some 0 → w.number ≡ Some n → w.ticket ≡ None → w.in_turn ≡ false → Joins (Kept entries names) id v other w (both_ended names v w) spent
+  pub ends : (id : ℕ) (v : View E) (other : ℕ) (w : View E) (n : ℕ) → v.number ≡ Some 0 → w.number ≡ Some n → w.ticket ≡ None → w.in_turn ≡ false
+      → Joins (Kept entries names) id v other w (both_ended names v w) spent
   ends id v other w n zero_is number idle out s k at apart there =
       let z = k.z in
       let f = k.fits id v at in
@@ -242,7 +279,8 @@ module _ {S E : Type 0} (entries : S → List E) (names : E → ℕ) where
       let last : List E = entries_of names n w.seen in
       let ended' : List (ℕ × List E) = z.ended ++ (n, last) ∷ [] in
       let known : v.ended ++ ended_of names w.number w.seen ≡ ended' = λ i. (f.first zero_is).1 i ++ ended_of names (number i) w.seen in
-      let given : Contains z.given n = ⊎_elim (λ (q : n ≡ 0). absurd (apart (sym (h.placed n number) ∙ (ap z.place q ∙ f.placed 0 zero_is)))) (λ c. c) (h.named n number) in
+      let given : Contains z.given n = ⊎_elim (λ (q : n ≡ 0). absurd (apart (sym (h.placed n number) ∙ (ap z.place q ∙ f.placed 0 zero_is))))
+      (λ c. c) (h.named n number) in
       joined s k id other v w (v.ended ++ ended_of names w.number w.seen) ended' at apart there idle out
       (λ _. known)
       (λ j u ne e q. absurd (ne (sym ((k.fits j u e).placed 0 q) ∙ f.placed 0 zero_is)))
@@ -256,7 +294,8 @@ module _ {S E : Type 0} (entries : S → List E) (names : E → ℕ) where
       (Contains-push_cases z.ended (n, last) (m, l) c))
       (once_push z.ended n last k.once (h.going n number))
 
-  pub settles : (slots id : ℕ) (me : Seated S E) → me.0.in_turn ≡ false → Allows (Kept entries names) slots id me 0 (λ x. x) (settled names (step slots 0 0 0 none) me)
+  pub settles : (slots id : ℕ) (me : Seated S E) → me.0.in_turn ≡ false
+      → Allows (Kept entries names) slots id me 0 (λ x. x) (settled names (step slots 0 0 0 none) me)
   settles slots id me out s k wide at small =
       let z = k.z in
       let v : View E = me.0 in
@@ -264,9 +303,11 @@ module _ {S E : Type 0} (entries : S → List E) (names : E → ℕ) where
       let Goes : Type 0 = (w : View E) × (a : Act (Option S)) × Valid s.homes me.1 a
       × Kept entries names (stepped s 0 (slice_index s.words 0) id me.1 w a)
       × settled names (step slots 0 0 0 none) me (slice_index s.words 0) (w, carried_after me.1 a) in
-      let settle : (longer : List E) → (longer ≡ v.seen) ⊎ (longer ≡ v.beside) → IsPrefix v.seen longer → IsPrefix v.beside longer → IsPrefix longer z.log → Goes = λ longer one this that whole.
+      let settle : (longer : List E) → (longer ≡ v.seen) ⊎ (longer ≡ v.beside) → IsPrefix v.seen longer → IsPrefix v.beside longer
+      → IsPrefix longer z.log → Goes = λ longer one this that whole.
       let w : View E = record v { seen = longer } in
-      let same : (n : ℕ) → v.number ≡ Some n → entries_of names n longer ≡ entries_of names n v.seen = λ n e. entries_of-between names n v.seen longer z.log this whole (f.mine n e) in
+      let same : (n : ℕ) → v.number ≡ Some n → entries_of names n longer ≡ entries_of names n v.seen =
+      λ n e. entries_of-between names n v.seen longer z.log this whole (f.mine n e) in
       let here : Fits names z id w = record {
         seen = whole;
         beside = f.beside;
@@ -301,7 +342,8 @@ module _ {S E : Type 0} (entries : S → List E) (names : E → ℕ) where
           this = this;
           that = that;
           mine = same;
-          given = λ e n l c. let q = f.first e in subst (λ (g : List ℕ). Contains g n) (sym q.0) (k.closed n l (subst (λ (d : List (ℕ × List E)). Contains d (n, l)) q.1 c)).0;
+          given = λ e n l c. let q = f.first e in subst (λ (g : List ℕ). Contains g n) (sym q.0)
+              (k.closed n l (subst (λ (d : List (ℕ × List E)). Contains d (n, l)) q.1 c)).0;
           once = λ e. subst IsOnce (sym (f.first e).1) k.once;
         },
       ) in
@@ -316,7 +358,8 @@ module _ {S E : Type 0} (entries : S → List E) (names : E → ℕ) where
     pub ended : (n : ℕ) (l : List E) → Contains v.ended (n, l) → entries_of names n (entries x) ≡ l
     pub others : NamesGiven names v.given (entries x)
 
-  closes : (id : ℕ) (v : View E) (ws : List ℕ) (xs : List (Option S)) → v.number ≡ Some 0 → v.in_turn ≡ false → ((n : ℕ) → Contains v.given n → (l : List E) × Contains v.ended (n, l))
+  closes : (id : ℕ) (v : View E) (ws : List ℕ) (xs : List (Option S)) → v.number ≡ Some 0 → v.in_turn ≡ false
+      → ((n : ℕ) → Contains v.given n → (l : List E) × Contains v.ended (n, l))
       → Final (Seen (Kept entries names) id v) ws xs → (x : S) × (get_elem? xs 0 ≡ some (Some x)) × Whole v x
   closes id v ws xs zero_is out all (s, (k, at), _, _, values) =
       let z = k.z in
@@ -350,7 +393,8 @@ module _ {S E : Type 0} (entries : S → List E) (names : E → ℕ) where
       )
 
   -- what stands in the slot is the value with the whole history
-  pub closes_at : (id : ℕ) (v : View E) (ws : List ℕ) (xs : List (Option S)) (y : Option S) → v.number ≡ Some 0 → v.in_turn ≡ false → ((n : ℕ) → Contains v.given n → (l : List E) × Contains v.ended (n, l))
+  pub closes_at : (id : ℕ) (v : View E) (ws : List ℕ) (xs : List (Option S)) (y : Option S) → v.number ≡ Some 0 → v.in_turn ≡ false
+      → ((n : ℕ) → Contains v.given n → (l : List E) × Contains v.ended (n, l))
       → Final (Seen (Kept entries names) id v) ws xs → get_elem? xs 0 ≡ some y → (x : S) × (y ≡ Some x) × Whole v x
   closes_at id v ws xs y zero_is out all final there =
       let whole = closes id v ws xs zero_is out all final in

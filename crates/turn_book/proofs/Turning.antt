@@ -1,5 +1,33 @@
 -- The steps of a turn keep the rule: a ticket is drawn, the served one is looked at, and the value is passed on.
-use Rattle.std.proofs.Common.{◌≡◌, ℕ, zero, suc, ◌+◌, ◌-◌, ◌%◌, ◌^◌, ◌<◌, ◌≤◌, ◌≢◌, Bool, true, false, List, [], ◌∷◌, set, refl, ap, sym, subst, ◌∙◌, arith, Option, Some, None}
+use Rattle.std.proofs.Common.{
+  ◌≡◌,
+  ℕ,
+  zero,
+  suc,
+  ◌+◌,
+  ◌-◌,
+  ◌%◌,
+  ◌^◌,
+  ◌<◌,
+  ◌≤◌,
+  ◌≢◌,
+  Bool,
+  true,
+  false,
+  List,
+  [],
+  ◌∷◌,
+  set,
+  refl,
+  ap,
+  sym,
+  subst,
+  ◌∙◌,
+  arith,
+  Option,
+  Some,
+  None,
+}
 use mathlib.Core.Option.{some, none}
 use mathlib.Core.Option as maybe
 use mathlib.Core.Logic.{dite}
@@ -28,7 +56,8 @@ module _ {S E : Type 0} (entries : S → List E) (names : E → ℕ) where
   few s k =
       let z = k.z in
       let out : ℕ = z.drawn - z.served in
-      let drawer : (i : ℕ) → i < out → At (Waits (z.served + i)) s.views (z.place (z.owner (z.served + i))) = λ i lt. k.owned (z.served + i) (omega arith) (omega arith) in
+      let drawer : (i : ℕ) → i < out → At (Waits (z.served + i)) s.views (z.place (z.owner (z.served + i))) =
+      λ i lt. k.owned (z.served + i) (omega arith) (omega arith) in
       let low : (i : ℕ) → i < out → z.owner (z.served + i) < 2 ^ 32 = λ i lt.
       let d = drawer i lt in let f = k.fits (z.place (z.owner (z.served + i))) d.0 d.1 in f.small (z.owner (z.served + i)) (f.waits (z.served + i) d.2).2 in
       let apart : (i j : ℕ) → i < out → j < out → z.owner (z.served + i) ≡ z.owner (z.served + j) → i ≡ j = λ i j li lj same.
@@ -42,7 +71,8 @@ module _ {S E : Type 0} (entries : S → List E) (names : E → ℕ) where
       omega arith
 
   -- the seat of the served ticket
-  served_place : (s : Turntable S E) (k : Kept entries names s) (id : ℕ) (v : View E) → get_elem? s.views id ≡ some v → v.ticket ≡ Some k.z.served → k.z.place (k.z.owner k.z.served) ≡ id
+  served_place : (s : Turntable S E) (k : Kept entries names s) (id : ℕ) (v : View E) → get_elem? s.views id ≡ some v → v.ticket ≡ Some k.z.served
+      → k.z.place (k.z.owner k.z.served) ≡ id
   served_place s k id v at ticket = let f = k.fits id v at in f.placed (k.z.owner k.z.served) (f.waits k.z.served ticket).2
 
   -- a seat in its turn has the served ticket, which was drawn
@@ -95,11 +125,17 @@ module _ {S E : Type 0} (entries : S → List E) (names : E → ℕ) where
         record {
           z = z';
           bells = k.bells;
-          words = ap (λ (ws : List ℕ). set ws 0 ((slice_index ws 0 + 1) % 2 ^ 64)) k.words ∙ ap (λ (d : ℕ). d ∷ (z.served % 2 ^ 64) ∷ k.bells) (mod-add-mod t (2 ^ 64) 1);
+          words = ap (λ (ws : List ℕ). set ws 0 ((slice_index ws 0 + 1) % 2 ^ 64)) k.words
+              ∙ ap (λ (d : ℕ). d ∷ (z.served % 2 ^ 64) ∷ k.bells) (mod-add-mod t (2 ^ 64) 1);
           order = let o : z.served ≤ t = k.order in omega arith;
           fits = each_set (Fits names z') s.views id w here there;
           owned = λ q lo hi. dite (ℕ_discrete q t)
-              (λ e. (w, ap (λ (i : ℕ). get_elem? (set s.views id w) i) (ap z.place (put_at z.owner t n q e) ∙ f.placed n number) ∙ set_there s.views id v w at, ap Some (sym e)))
+              (λ e. (
+                w,
+                ap (λ (i : ℕ). get_elem? (set s.views id w) i) (ap z.place (put_at z.owner t n q e) ∙ f.placed n number)
+                    ∙ set_there s.views id v w at,
+                ap Some (sym e),
+              ))
               (λ ne. subst (λ (o : ℕ). At (Waits q) (set s.views id w) (z.place o)) (sym (put_else z.owner t n q ne))
               (find_set (Waits q) s.views id (z.place (z.owner q)) v w at (λ h. absurd (cc (idle, h))) (k.owned q lo (omega arith))));
           closed = k.closed;
@@ -116,19 +152,35 @@ module _ {S E : Type 0} (entries : S → List E) (names : E → ℕ) where
       )
 
   -- a view that stays as it was
-  pub still : (s : Turntable S E) (k : Kept entries names s) (id : ℕ) (v : View E) (ws bells : List ℕ) → get_elem? s.views id ≡ some v → ws ≡ (k.z.drawn % 2 ^ 64) ∷ (k.z.served % 2 ^ 64) ∷ bells
+  pub still : (s : Turntable S E) (k : Kept entries names s) (id : ℕ) (v : View E) (ws bells : List ℕ) → get_elem? s.views id ≡ some v
+      → ws ≡ (k.z.drawn % 2 ^ 64) ∷ (k.z.served % 2 ^ 64) ∷ bells
       → Kept entries names record { words = ws; homes = s.homes; views = set s.views id v }
-  still s k id v ws bells at is = subst (λ (vs : List (View E)). Kept entries names record { words = ws; homes = s.homes; views = vs }) (sym (set_again s.views id v at))
-      record { z = k.z; bells = bells; words = is; order = k.order; fits = k.fits; owned = k.owned; closed = k.closed; once = k.once; named = k.named; home = k.home; away = k.away }
+  still s k id v ws bells at is = subst (λ (vs : List (View E)). Kept entries names record { words = ws; homes = s.homes; views = vs })
+      (sym (set_again s.views id v at))
+      record {
+        z = k.z;
+        bells = bells;
+        words = is;
+        order = k.order;
+        fits = k.fits;
+        owned = k.owned;
+        closed = k.closed;
+        once = k.once;
+        named =
+            k.named;
+        home = k.home;
+        away = k.away;
+      }
 
-  pub looks : (t slots id : ℕ) (me : Seated S E) → me.0.ticket ≡ Some t → me.0.in_turn ≡ false → me.1 ≡ []
+  pub sees : (t slots id : ℕ) (me : Seated S E) → me.0.ticket ≡ Some t → me.0.in_turn ≡ false → me.1 ≡ []
       → Allows (Kept entries names) slots id me 1 (λ x. x) (looked entries names (step slots 1 0 0 none) me)
-  looks t slots id me ticket out empty s k wide at small =
+  sees t slots id me ticket out empty s k wide at small =
       let z = k.z in
       let v : View E = me.0 in
       let f = k.fits id v at in
       let found : slice_index s.words 1 ≡ z.served % 2 ^ 64 = ap (λ (ws : List ℕ). slice_index ws 1) k.words in
-      let words : set s.words 1 (slice_index s.words 1) ≡ (z.drawn % 2 ^ 64) ∷ (z.served % 2 ^ 64) ∷ k.bells = ap (λ (ws : List ℕ). set ws 1 (slice_index ws 1)) k.words in
+      let words : set s.words 1 (slice_index s.words 1) ≡ (z.drawn % 2 ^ 64) ∷ (z.served % 2 ^ 64) ∷ k.bells =
+      ap (λ (ws : List ℕ). set ws 1 (slice_index ws 1)) k.words in
       let mine = f.waits t ticket in
       dite (ℕ_discrete (z.served % 2 ^ 64) (t % 2 ^ 64))
       (λ hit.
@@ -143,7 +195,7 @@ module _ {S E : Type 0} (entries : S → List E) (names : E → ℕ) where
       let both : v.in_turn ≡ true = sym (ap (λ (u : View E). u.in_turn) one) ∙ a.2 in absurd (cc (out, both))) in
       let h = k.home free in
       let x : S = h.0 in
-      let w : View E = record v { seen = z.log; in_turn = true } in
+      let w : View E = record v { seen = z.log; in_turn = true; looks = v.looks + 1 } in
       let z' : Standing E = record z { taken = true } in
       let here : Fits names z' id w = record {
         seen = prefix_self z.log;
@@ -191,7 +243,15 @@ module _ {S E : Type 0} (entries : S → List E) (names : E → ℕ) where
           );
         },
         (λ u e. (
-          (λ _. record { value = x; holds = ap (λ (cs : List (ℕ × Option S)). (0, Some x) ∷ cs) empty; whole = sym h.2; view = refl; begins = f.seen; mine = f.mine }),
+          (λ _. record {
+            value = x;
+            holds = ap (λ (cs : List (ℕ × Option S)). (0, Some x) ∷ cs) empty;
+            whole = sym h.2;
+            view = refl;
+            begins =
+                f.seen;
+            mine = f.mine;
+          }),
           (λ other. let same : t ≡ u = cc (ticket, e) in absurd (other (found ∙ (hit ∙ ap (λ (q : ℕ). q % 2 ^ 64) same)))),
         )),
       ))
@@ -206,7 +266,8 @@ module _ {S E : Type 0} (entries : S → List E) (names : E → ℕ) where
         )),
       ))
 
-  pub passes : (n slots id : ℕ) (me : Seated S E) (x : S) → me.0.number ≡ Some n → me.0.in_turn ≡ true → me.1 ≡ (0, Some x) ∷ [] → AddsAtMostOne names n me.0.seen (entries x)
+  pub passes : (n slots id : ℕ) (me : Seated S E) (x : S) → me.0.number ≡ Some n → me.0.in_turn ≡ true → me.1 ≡ (0, Some x) ∷ []
+      → AddsAtMostOne names n me.0.seen (entries x)
       → Allows (Kept entries names) slots id me 1 (λ y. (y + 1) % 2 ^ 64) (passed entries (step slots 1 1 0 none) me)
   passes n slots id me x number turn carried adds s k wide at small =
       let z = k.z in
@@ -254,10 +315,12 @@ module _ {S E : Type 0} (entries : S → List E) (names : E → ℕ) where
         record {
           z = z';
           bells = k.bells;
-          words = ap (λ (ws : List ℕ). set ws 1 ((slice_index ws 1 + 1) % 2 ^ 64)) k.words ∙ ap (λ (d : ℕ). (z.drawn % 2 ^ 64) ∷ d ∷ k.bells) (mod-add-mod z.served (2 ^ 64) 1);
+          words = ap (λ (ws : List ℕ). set ws 1 ((slice_index ws 1 + 1) % 2 ^ 64)) k.words
+              ∙ ap (λ (d : ℕ). (z.drawn % 2 ^ 64) ∷ d ∷ k.bells) (mod-add-mod z.served (2 ^ 64) 1);
           order = omega arith;
           fits = each_set (Fits names z') s.views id w here there;
-          owned = λ q lo hi. find_set (Waits q) s.views id (z.place (z.owner q)) v w at (λ h. let same : z.served ≡ q = cc (serves, h) in absurd (omega arith)) (k.owned q (omega arith) hi);
+          owned = λ q lo hi. find_set (Waits q) s.views id (z.place (z.owner q)) v w at (λ h. let same : z.served ≡ q = cc (serves, h) in
+              absurd (omega arith)) (k.owned q (omega arith) hi);
           closed = λ m l c. let r = k.closed m l c in (r.0, gr.others m (λ same. f.going n number l (subst (λ (i : ℕ). Contains z.ended (i, l)) same c)) ∙ r.1);
           once = k.once;
           named = gr.named z.given (f.named n number) k.named;

@@ -39,7 +39,8 @@ module _ {A : Type 0} where
       (at_push l w u j e)
 
 module _ {E : Type 0} where
-  pub find_set : (Q : View E → Type 0) (views : List (View E)) (i p : ℕ) (v w : View E) → get_elem? views i ≡ some v → (Q v → Q w) → At Q views p → At Q (set views i w) p
+  pub find_set : (Q : View E → Type 0) (views : List (View E)) (i p : ℕ) (v w : View E) → get_elem? views i ≡ some v → (Q v → Q w) → At Q views p
+      → At Q (set views i w) p
   find_set Q views i p v w at keep h = dite (ℕ_discrete p i)
       (λ e. (w, ap (λ (k : ℕ). get_elem? (set views i w) k) e ∙ set_there views i v w at, keep (subst Q (same_there views p i h.0 v h.1 at e) h.2)))
       (λ ne. (h.0, set_else views i p w ne ∙ h.1, h.2))

@@ -1,5 +1,6 @@
 -- The rule of a turn book.
--- Word 0 is the number of tickets drawn and word 1 the number of tickets served, both modulo 2 ^ 64. Threads sleep on the other words, of which the rule says nothing. The one slot has the value at home, unless a seat is in its turn.
+-- Word 0 is the number of tickets drawn and word 1 the number of tickets served, both modulo 2 ^ 64. Threads sleep on
+-- the other words, of which the rule says nothing. The one slot has the value at home, unless a seat is in its turn.
 use Rattle.std.specs.Prelude.{◌≡◌, ℕ, ◌%◌, ◌^◌, ◌<◌, ◌≤◌, ◌⊎◌, Bool, true, false, List, [], ◌∷◌, Option, Some, Contains}
 use mathlib.Core.Option.{some, none}
 use mathlib.Core.List.{IsPrefix}
@@ -17,7 +18,8 @@ IsTable id = (id.words ≡ 66) × (id.slots ≡ 1)
 abbrev pub Turntable : Type 0 → Type 0 → Type 0
 Turntable S E = State (Option S) (View E)
 
--- What no word says: the history, the tickets drawn and served, which number drew a ticket and which seat has a number, the numbers given and ended, and whether a seat is in its turn
+-- What no word says: the history, the tickets drawn and served, which number drew a ticket and which seat has a number,
+-- the numbers given and ended, and whether a seat is in its turn
 pub record Standing (E : Type 0) : Type 0 where
   pub log : List E
   pub drawn : ℕ

@@ -1,4 +1,4 @@
 pub mod Entries
-pub mod SeatView
+pub mod SeatState
 pub mod Kept
 pub mod Told

@@ -1,5 +1,5 @@
 -- What each step of a turn book tells the seat that makes it.
-use Rattle.std.specs.Prelude.{◌≡◌, ◌≢◌, ℕ, ◌%◌, ◌^◌, ◌⊎◌, ◌++◌, true, false, List, [], ◌∷◌, Option, Some, None, Contains}
+use Rattle.std.specs.Prelude.{◌≡◌, ◌≢◌, ℕ, ◌+◌, ◌%◌, ◌^◌, ◌⊎◌, ◌++◌, true, false, List, [], ◌∷◌, Option, Some, None, Contains}
 use mathlib.Core.List.{IsPrefix}
 use Rattle.atomic_table.specs.Table.{Me, Step}
 use Rattle.turn_book.specs.declared.view.View.{View}
@@ -8,7 +8,16 @@ use Rattle.turn_book.specs.Kept.{IsOnce}
 
 module _ {E : Type 0} where
   abbrev pub fresh : List E → List E → Option ℕ → View E
-  fresh seen beside number = record { seen = seen; beside = beside; number = number; ticket = None; in_turn = false; given = []; ended = [] }
+  fresh seen beside number = record {
+    seen = seen;
+    beside = beside;
+    number = number;
+    ticket = None;
+    in_turn = false;
+    looks = 0;
+    given = [];
+    ended = [];
+  }
 
   abbrev pub first_view : View E
   first_view = fresh [] [] (Some 0)
@@ -51,12 +60,12 @@ pub record Settles {S E : Type 0} (names : E → ℕ) (m m' : Seated S E) : Type
   pub given : m.0.number ≡ Some 0 → (n : ℕ) (l : List E) → Contains m.0.ended (n, l) → Contains m.0.given n
   pub once : m.0.number ≡ Some 0 → IsOnce m.0.ended
 
--- the seat has the value, and has seen the whole history
+-- the seat has the value, and was shown the whole history, which its count of looks says
 pub record Takes {S E : Type 0} (entries : S → List E) (names : E → ℕ) (m m' : Seated S E) : Type 0 where
   pub value : S
   pub holds : m'.1 ≡ (0, Some value) ∷ []
   pub whole : m'.0.seen ≡ entries value
-  pub view : m'.0 ≡ record m.0 { seen = m'.0.seen; in_turn = true }
+  pub view : m'.0 ≡ record m.0 { seen = m'.0.seen; in_turn = true; looks = m.0.looks + 1 }
   pub begins : IsPrefix m.0.seen m'.0.seen
   pub mine : (n : ℕ) → m.0.number ≡ Some n → entries_of names n m'.0.seen ≡ entries_of names n m.0.seen
 

@@ -1,8 +1,8 @@
 //! The book, and its turns.
-ghost use Rattle.std.specs.Prelude.{◌≡◌, ◌≢◌, ℕ, ◌<◌, ◌⊎◌, ◌++◌, true, false, List, [], ◌∷◌, Contains, IfOk};
+ghost use Rattle.std.specs.Prelude.{◌≡◌, ◌≢◌, ℕ, ◌+◌, ◌<◌, ◌⊎◌, ◌++◌, true, false, List, [], ◌∷◌, Contains, IfOk};
 ghost use mathlib.Core.List.{IsPrefix};
 ghost use Rattle.turn_book.specs.Entries.{entries_of, AddsAtMostOne, NamesGiven};
-ghost use Rattle.turn_book.specs.SeatView.{new_seat, AllEnded};
+ghost use Rattle.turn_book.specs.SeatState.{new_seat, AllEnded};
 
 use crate::history::History;
 use crate::plays::{Bare, Draw, End, Meet, Pass};
@@ -99,7 +99,7 @@ impl<S: History + Drop> TurnBook<S> {
     pub fn begin<R: Wait>(&self, rt: &R, seat: &mut Seat<S>) -> S
         requires book { seat.old.book ≡ self.now }
         requires turn { seat.old.in_turn ≡ false }
-        ensures turn { seat.new ≡ record seat.old { in_turn = true; seen = S.entries result } }
+        ensures turn { seat.new ≡ record seat.old { in_turn = true; looks = seat.old.looks + 1; seen = S.entries result } }
         ensures begins { IsPrefix seat.old.seen (S.entries result) }
         ensures mine { entries_of S.names seat.old.number (S.entries result) ≡ seat.old.mine }
     {

@@ -10,6 +10,7 @@
 
 mod book;
 mod history;
+mod notes;
 mod plays;
 mod seat;
 mod steps;

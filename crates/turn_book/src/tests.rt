@@ -1,52 +1,14 @@
 //! Threads add entries, and the closed history has each of them once, in the order of its thread.
-ghost use Rattle.std.specs.Prelude.{◌≡◌, ◌≢◌, ◌<◌, true, false, ℕ, List, [], ◌∷◌, ◌++◌};
-ghost use Rattle.turn_book.specs.Entries.{AddsAtMostOne};
+ghost use Rattle.std.specs.Prelude.{◌≡◌, false};
 
-use crate::{History, Seat, TurnBook};
-use std::alloc::Global;
+use crate::notes::{Notes, close_two, leave_note};
+use crate::{Seat, TurnBook};
 use std::mem::size_of;
 use std::sync::Wait;
 use std::test::Fail;
 use std::thread::{Threads, join};
 
 const MANY: u32 = 1_000;
-
-// An entry: who added it, and how many that one had added before.
-#[derive(Clone, Copy)]
-struct Note {
-    by: u32,
-    count: u32,
-}
-
-#[derive(Drop)]
-struct Notes {
-    items: Vec<Note>,
-}
-
-impl History for Notes {
-    type Entry = Note;
-
-    ghost entries = { λ n. n.items.items };
-
-    ghost names = { λ e. e.by };
-}
-
-// Adds a note, unless there is no memory.
-fn add(notes: &mut Notes, by: u32, count: u32)
-    ensures { AddsAtMostOne (λ e. e.by) by notes.old.items.items notes.new.items.items }
-{
-    let _ = notes.items.push(Note { by, count });
-}
-
-// Adds a note in a turn.
-fn take_turn<R: Wait>(rt: &R, book: &TurnBook<Notes>, seat: &mut Seat<Notes>, by: u32, count: u32)
-    requires { (seat.old.book ≡ book.now) × (seat.old.in_turn ≡ false) × (seat.old.number ≡ by) }
-    ensures { seat.new ≡ record seat.old { seen = seat.new.seen; mine = seat.new.mine } }
-{
-    let mut notes = book.begin(rt, seat);
-    add(&mut notes, by, count);
-    book.pass(seat, notes);
-}
 
 // Adds as many notes, each in a turn.
 fn add_all<R: Wait>(
@@ -60,7 +22,7 @@ fn add_all<R: Wait>(
     ensures { (result.book ≡ book.now) × (result.in_turn ≡ false) × (result.number ≡ by) }
 {
     for count in 0..many {
-        take_turn(rt, book, &mut seat, by, count);
+        let _ = leave_note(rt, book, &mut seat, by, count);
     }
     seat
 }
@@ -106,23 +68,13 @@ fn is_whole(notes: &Notes, by: u32, many: u32) -> bool {
     next == many
 }
 
-fn empty(alloc: Global) -> Notes
-    ensures { result.items.items ≡ [] }
-{
-    Notes {
-        items: Vec::new(alloc),
-    }
-}
-
 #[test]
 fn two_threads(rt: HostRuntime) -> Result<(), Fail> {
-    let (book, mut first) = TurnBook::new(rt.alloc(), empty(rt.alloc()))?;
+    let (book, mut first) = TurnBook::new(rt.alloc(), Notes::new(rt.alloc()))?;
     let a = book.split(&mut first, 1);
     let b = book.split(&mut first, 2);
     let (a, b) = two(&rt, &book, a, b, 1, 2);
-    book.join(&mut first, a);
-    book.join(&mut first, b);
-    let notes = book.close(first);
+    let notes = close_two(book, first, a, b);
     assert_eq!(rt; notes.items.len(), 2 * MANY as usize);
     assert!(rt; is_whole(&notes, 1, MANY) && is_whole(&notes, 2, MANY));
     Ok(())
@@ -165,7 +117,7 @@ fn four<R: Threads + Wait + Sync>(
 
 #[test]
 fn four_threads(rt: HostRuntime) -> Result<(), Fail> {
-    let (book, mut first) = TurnBook::new(rt.alloc(), empty(rt.alloc()))?;
+    let (book, mut first) = TurnBook::new(rt.alloc(), Notes::new(rt.alloc()))?;
     let a = book.split(&mut first, 1);
     let b = book.split(&mut first, 2);
     let c = book.split(&mut first, 3);
@@ -186,18 +138,18 @@ fn four_threads(rt: HostRuntime) -> Result<(), Fail> {
 #[test]
 fn seats_of_one_thread(rt: HostRuntime) -> Result<(), Fail> {
     assert_eq!(rt; size_of::<Seat<Notes>>(), 0);
-    let (book, mut first) = TurnBook::new(rt.alloc(), empty(rt.alloc()))?;
+    let (book, mut first) = TurnBook::new(rt.alloc(), Notes::new(rt.alloc()))?;
     let mut a = book.split(&mut first, 7);
     let mut b = book.split(&mut first, 9);
     book.meet(&mut a, &mut b);
-    take_turn(&rt, &book, &mut a, 7, 0);
+    leave_note(&rt, &book, &mut a, 7, 0)?;
     book.meet(&mut b, &mut a);
-    take_turn(&rt, &book, &mut b, 9, 0);
-    take_turn(&rt, &book, &mut b, 9, 1);
+    leave_note(&rt, &book, &mut b, 9, 0)?;
+    leave_note(&rt, &book, &mut b, 9, 1)?;
     book.meet(&mut a, &mut b);
-    take_turn(&rt, &book, &mut a, 7, 1);
+    leave_note(&rt, &book, &mut a, 7, 1)?;
     book.join(&mut first, b);
-    take_turn(&rt, &book, &mut first, 0, 0);
+    leave_note(&rt, &book, &mut first, 0, 0)?;
     book.join(&mut first, a);
     let notes = book.close(first);
     assert_eq!(rt; notes.items.len(), 5);

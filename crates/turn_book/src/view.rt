@@ -31,6 +31,8 @@ pub struct View<E> {
     pub ticket: Option<u64>,
     /// Whether the seat has the value.
     pub in_turn: bool,
+    /// How often the seat was shown the whole history.
+    pub looks: u64,
     /// The numbers that were given to other seats. The first seat alone knows them.
     pub given: LinkedList<u32>,
     /// The numbers of the seats that were taken in, with the entries of each. The first seat alone knows them.

@@ -24,7 +24,8 @@ returns-clause-given g c =
     let s = sits names c.seat.inside.place.table_id c.seat.inside.place.me c.args.seat.now c.seat.view_is c.seat.invariant in
     let o = sits names c.other.inside.place.table_id c.other.inside.place.me c.args.other c.other.view_is c.other.invariant in
     subst (λ (l : List ℕ). Contains l c.args.other.number) s.given
-    (end_given names c.args.other.number c.seat.inside.place.me.0 c.other.inside.place.me.0 c.join_seat.new.seat.me c.settle.new.place.me (ap (λ m. m.0) c.join_seat.ensures.2)
+    (end_given names c.args.other.number c.seat.inside.place.me.0 c.other.inside.place.me.0 c.join_seat.new.seat.me c.settle.new.place.me
+    (ap (λ m. m.0) c.join_seat.ensures.2)
     (s.number ∙ ap Some c.requires.first) o.number c.settle.ensures.settles)
 
 pub returns-clause-once : goal.returns-clause-once
@@ -32,7 +33,8 @@ returns-clause-once g c =
     let names = g.S.History.names in
     let s = sits names c.seat.inside.place.table_id c.seat.inside.place.me c.args.seat.now c.seat.view_is c.seat.invariant in
     let o = sits names c.other.inside.place.table_id c.other.inside.place.me c.args.other c.other.view_is c.other.invariant in
-    λ entries has. end_once names c.args.other.number c.seat.inside.place.me.0 c.other.inside.place.me.0 c.join_seat.new.seat.me c.settle.new.place.me (ap (λ m. m.0) c.join_seat.ensures.2)
+    λ entries has. end_once names c.args.other.number c.seat.inside.place.me.0 c.other.inside.place.me.0 c.join_seat.new.seat.me
+    c.settle.new.place.me (ap (λ m. m.0) c.join_seat.ensures.2)
     (s.number ∙ ap Some c.requires.first) o.number c.settle.ensures.settles
     entries
     (subst (λ l. Contains l (c.args.other.number, entries)) (sym s.ended) has)

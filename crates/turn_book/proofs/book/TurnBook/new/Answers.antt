@@ -8,4 +8,5 @@ use Rattle.turn_book.proofs.book.TurnBook.new.Goals as goal
 pub new-requires : goal.new-requires
 new-requires g c =
     let items = c.in_ok-push.ensures.items ∙ ap (λ xs. xs ++ Some c.args.first ∷ []) c.in_ok-slots.ensures.items in
-    subst (λ xs. Kept g.S.History.entries g.S.History.names (opening (0 ∷ 0 ∷ replicate 64 0) xs first_view)) (sym items) (starts g.S.History.entries g.S.History.names (replicate 64 0) c.args.first c.requires)
+    subst (λ xs. Kept g.S.History.entries g.S.History.names (opening (0 ∷ 0 ∷ replicate 64 0) xs first_view)) (sym items)
+    (starts g.S.History.entries g.S.History.names (replicate 64 0) c.args.first c.requires)

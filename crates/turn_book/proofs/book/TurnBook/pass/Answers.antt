@@ -31,4 +31,5 @@ returns-clause-mine g c = λ added is.
     let number = ap (λ m. m.0.number) after ∙ (ap (λ m. m.0.number) now ∙ s.number) in
     let seen = ap (λ m. m.0.seen) after ∙ ap (λ m. held g.S.History.entries m.1) now in
     (λ i. entries_of names (unwrap_or (number i) 0) (seen i))
-    ∙ (mine_more names c.args.seat.now.number c.args.seat.now.seen (g.S.History.entries c.args.value) added c.requires.value is ∙ ap (λ w. w ++ added) (sym s.mine))
+    ∙ (mine_more names c.args.seat.now.number c.args.seat.now.seen (g.S.History.entries c.args.value) added c.requires.value is
+    ∙ ap (λ w. w ++ added) (sym s.mine))
