@@ -1,5 +1,6 @@
 -- The log of all puts: as it grows, and as a sender gets its place among the passes that were taken in.
-use Rattle.std.proofs.Common.{◌≡◌, ◌≢◌, length, arith, ℕ, ◌==◌, cond, Bool, true, false, List, [], ◌∷◌, ◌++◌, map, sym, refl, ap, ◌∙◌, append-nil, eq-eqb, ne_eqb}
+use Rattle.std.proofs.Common.{◌≡◌, ◌≢◌, length, arith, ℕ, ◌==◌, cond, Bool, true, false, List, [], ◌∷◌, ◌++◌, map, sym, refl, ap, ◌∙◌}
+use Rattle.std.proofs.Common.{append-nil, eq-eqb, ne_eqb}
 use mathlib.Core.Logic.{dite}
 use native.Mathlib.Decide.{ℕ_discrete}
 use Rattle.std.specs.Prelude.{slice_index_or}
@@ -50,7 +51,8 @@ alike a b j s kind left right same = dite (ℕ_discrete a j)
     (λ f. rw (ne_eqb a j n, eq-eqb b j f) (same a b ∙ ne_eqb a b (λ h. n (h ∙ f)) ∙ sym (right a)))
     (λ g. rw (ne_eqb a j n, ne_eqb b j g) refl))
 
-crossed : (a j b k : ℕ) → is_same (cond (a == j) (joined_place k) (pass_number a)) (joined_place b) ≡ is_same (pass_number a) (cond (b == k) (pass_number j) (joined_place b))
+crossed : (a j b k : ℕ) → is_same (cond (a == j) (joined_place k) (pass_number a)) (joined_place b)
+    ≡ is_same (pass_number a) (cond (b == k) (pass_number j) (joined_place b))
 crossed a j b k = dite (ℕ_discrete a j)
     (λ e. dite (ℕ_discrete b k)
     (λ f. rw (eq-eqb a j e, eq-eqb b k f) (eq-eqb k b (sym f) ∙ sym (eq-eqb a j e)))
@@ -98,14 +100,17 @@ abbrev pub NoneElse : List Put → Type 0
 NoneElse log = (j : ℕ) → sent_by (pass_number j) log ≡ []
 
 put_by_none : (a n : ℕ) (ps : List Put) → cond (a == a) (n ∷ sent_by (pass_number a) ps) (sent_by (pass_number a) ps) ≡ [] → ⊥
-put_by_none a n ps e = let t : (n ∷ sent_by (pass_number a) ps) ≡ [] = ap (λ b. cond b (n ∷ sent_by (pass_number a) ps) (sent_by (pass_number a) ps)) (sym (eq-eqb a a refl)) ∙ e in cc
+put_by_none a n ps e = let t : (n ∷ sent_by (pass_number a) ps) ≡ [] =
+    ap (λ b. cond b (n ∷ sent_by (pass_number a) ps) (sent_by (pass_number a) ps)) (sym (eq-eqb a a refl)) ∙ e in cc
 
 after_one : (s : Sender) (n : ℕ) (ps : List Put) → NoneElse (record { sender = s; number = n } ∷ ps) → NoneElse ps
 after_one (pass_number a) n ps none = absurd (put_by_none a n ps (none a))
 after_one (joined_place a) n ps none = none
 
-one_placed : (s : Sender) (n k : ℕ) (ps : List Put) → NoneElse (record { sender = s; number = n } ∷ ps) → numbers_at k (placed 0 ps) ≡ sent_by (joined_place k) ps
-    → cond (place_of 0 s == k) (n ∷ numbers_at k (placed 0 ps)) (numbers_at k (placed 0 ps)) ≡ cond (is_same s (joined_place k)) (n ∷ sent_by (joined_place k) ps) (sent_by (joined_place k) ps)
+one_placed : (s : Sender) (n k : ℕ) (ps : List Put) → NoneElse (record { sender = s; number = n } ∷ ps)
+    → numbers_at k (placed 0 ps) ≡ sent_by (joined_place k) ps
+    → cond (place_of 0 s == k) (n ∷ numbers_at k (placed 0 ps)) (numbers_at k (placed 0 ps))
+    ≡ cond (is_same s (joined_place k)) (n ∷ sent_by (joined_place k) ps) (sent_by (joined_place k) ps)
 unfolding place_of
 one_placed (pass_number a) n k ps none same = absurd (put_by_none a n ps (none a))
 one_placed (joined_place a) n k ps none same = both_ways (a == k) (a == k) n _ _ refl same
@@ -116,12 +121,14 @@ numbers_at-placed k [] none = refl
 numbers_at-placed k (p ∷ ps) none = one_placed p.sender p.number k ps none (numbers_at-placed k ps (after_one p.sender p.number ps none))
 
 -- where every sender has a place, the log is an interleaving
-pub interleaved : (log : List Put) (lists : List (List ℕ)) (whole : List ℕ) → NoneElse log → all_of log ≡ whole → ((k : ℕ) → sent_by (joined_place k) log ≡ slice_index_or lists k [])
+pub interleaved : (log : List Put) (lists : List (List ℕ)) (whole : List ℕ) → NoneElse log → all_of log ≡ whole
+    → ((k : ℕ) → sent_by (joined_place k) log ≡ slice_index_or lists k [])
     → IsInterleaving lists whole
 interleaved log lists whole none all known = (placed 0 log, numbers-placed 0 log ∙ all, λ k. numbers_at-placed k log none ∙ known k)
 
 one_apart : (others : ℕ) (s : Sender) (n k : ℕ) (ps : List Put) → others ≢ k → numbers_at k (placed others ps) ≡ sent_by (joined_place k) ps
-    → cond (place_of others s == k) (n ∷ numbers_at k (placed others ps)) (numbers_at k (placed others ps)) ≡ cond (is_same s (joined_place k)) (n ∷ sent_by (joined_place k) ps) (sent_by (joined_place k) ps)
+    → cond (place_of others s == k) (n ∷ numbers_at k (placed others ps)) (numbers_at k (placed others ps))
+    ≡ cond (is_same s (joined_place k)) (n ∷ sent_by (joined_place k) ps) (sent_by (joined_place k) ps)
 unfolding place_of
 one_apart others (pass_number a) n k ps apart same = both_ways (others == k) false n _ _ (ne_eqb others k apart) same
 one_apart others (joined_place a) n k ps apart same = both_ways (a == k) (a == k) n _ _ refl same
@@ -132,7 +139,8 @@ numbers_at-apart others k [] apart = refl
 numbers_at-apart others k (p ∷ ps) apart = one_apart others p.sender p.number k ps apart (numbers_at-apart others k ps apart)
 
 -- whatever others put, the log has all of the passes that were taken in
-pub has_all : (log : List Put) (lists : List (List ℕ)) (whole : List ℕ) → all_of log ≡ whole → ((k : ℕ) → sent_by (joined_place k) log ≡ slice_index_or lists k []) → HasAll lists whole
+pub has_all : (log : List Put) (lists : List (List ℕ)) (whole : List ℕ) → all_of log ≡ whole
+    → ((k : ℕ) → sent_by (joined_place k) log ≡ slice_index_or lists k []) → HasAll lists whole
 has_all log lists whole all known = (
   placed (length lists) log,
   numbers-placed (length lists) log ∙ all,

@@ -1,5 +1,6 @@
 -- Each call keeps the rule of a mailbox.
-use Rattle.std.proofs.Common.{◌≡◌, ◌≢◌, ℕ, suc, cond, ◌+◌, ◌^◌, ◌≤◌, true, false, true≢false, List, [], ◌∷◌, ◌++◌, map, length, set, get_or, sym, refl, ap, ◌∙◌, subst, append_assoc, append-nil, eq-eqb, ne_eqb, arith}
+use Rattle.std.proofs.Common.{◌≡◌, ◌≢◌, ℕ, suc, cond, ◌+◌, ◌^◌, ◌≤◌, true, false, true≢false, List, [], ◌∷◌, ◌++◌, map, length, set, get_or}
+use Rattle.std.proofs.Common.{sym, refl, ap, ◌∙◌, subst, append_assoc, append-nil, eq-eqb, ne_eqb, arith}
 use mathlib.Core.Option.{some, some-injective, some-ne-none}
 use mathlib.Core.Logic.{dite}
 use native.Mathlib.Decide.{dec_le, ℕ_discrete}
@@ -9,13 +10,16 @@ use Rattle.crossbeam_queue.specs.Fifo.{Pushes, Pops, Forks, Merges, Learns}
 use Rattle.crossbeam_queue.proofs.Lists.{set_else}
 use Rattle.mailbox.specs.declared.rule.View.{View}
 use Rattle.mailbox.specs.Interleaving.{IsInterleaving, HasAll}
-use Rattle.mailbox.specs.Shares.{AreAtMost, parts_of, IsWhole}
-use Rattle.mailbox.specs.Ordered.{putter, opener, spent, halved, half_of, put_side, take_side, after_put, after_take, joined_with, pass_number, joined_place, Put, sent_by, total, Fits, IsOrdered}
-use Rattle.mailbox.proofs.Places.{within, stands, get_or-length, get_or-snoc_here, get_or-snoc_else, EachView, EachView-set, EachView-snoc, total-set, total-snoc, others_none}
-use Rattle.mailbox.proofs.Parts.{AreAtMost-finer, AreAtMost-halved, AreAtMost-append, parts_of-append, parts_of-finer, parts_of-halved, whole-finer, no_shares, whole_parts}
+use Rattle.mailbox.specs.Shares.{AreAtMost, parts_of, AreWhole}
+use Rattle.mailbox.specs.Ordered.{putter, opener, spent, halved, other_half, put_side, take_side, after_put, after_take, joined_with}
+use Rattle.mailbox.specs.Ordered.{pass_number, joined_place, Put, sent_by, total, FitsPass, IsInOrder}
+use Rattle.mailbox.proofs.Places.{within, stands, get_or-length, get_or-snoc_here, get_or-snoc_else, EachView, EachView-set, EachView-snoc}
+use Rattle.mailbox.proofs.Places.{total-set, total-snoc, others_none}
+use Rattle.mailbox.proofs.Parts.{AreAtMost-finer, AreAtMost-halved, AreAtMost-append, parts_of-append, parts_of-finer, parts_of-halved}
+use Rattle.mailbox.proofs.Parts.{whole-finer, no_shares, whole_parts}
 use Rattle.mailbox.proofs.Logs.{all_of-snoc, sent_by-same, sent_by-other, renamed, all_of-renamed, sent_by-renamed, interleaved, has_all}
 
-pub begins : IsOrdered [] (opener ∷ [])
+pub begins : IsInOrder [] (opener ∷ [])
 begins = record {
   taker_number = 0;
   taken = [];
@@ -24,7 +28,7 @@ begins = record {
   in_order = refl;
   whole = refl;
   none_beyond = λ _ _. refl;
-  fits = EachView-snoc (Fits 0 [] [] 0) [] opener (λ _ v e. absurd (some-ne-none v (sym e)))
+  fits = EachView-snoc (FitsPass 0 [] [] 0) [] opener (λ _ v e. absurd (some-ne-none v (sym e)))
       record {
         sent_is = refl;
         coarse = (omega arith, tt);
@@ -34,8 +38,9 @@ begins = record {
 }
 
 -- what a put pass leaves to the others
-other_put : (taker_number : ℕ) (taken : List ℕ) (log : List Put) (finest by x : ℕ) (number : ℕ) (v : View) → number ≢ by → Fits taker_number taken log finest number v
-    → Fits taker_number taken (log ++ record { sender = pass_number by; number = x } ∷ []) finest number v
+other_put : (taker_number : ℕ) (taken : List ℕ) (log : List Put) (finest by x : ℕ) (number : ℕ) (v : View) → number ≢ by
+    → FitsPass taker_number taken log finest number v
+    → FitsPass taker_number taken (log ++ record { sender = pass_number by; number = x } ∷ []) finest number v
 other_put taker_number taken log finest by x number v apart old = let put : Put = record { sender = pass_number by; number = x } in record {
   sent_is = sent_by-other (pass_number number) log put (ne_eqb by number (λ e. apart (sym e))) ∙ old.sent_is;
   coarse = old.coarse;
@@ -48,7 +53,7 @@ other_put taker_number taken log finest by x number v apart old = let put : Put 
   };
 }
 
-pub puts : (n port : ℕ) (v : View) (x splits : ℕ) → v ≡ putter splits v.sent → Pushes IsOrdered n port v x (λ w. w ≡ after_put v x)
+pub puts : (n port : ℕ) (v : View) (x splits : ℕ) → v ≡ putter splits v.sent → Pushes IsInOrder n port v x (λ w. w ≡ after_put v x)
 puts n port v x splits is items views _ b at =
     let w : View = after_put v x in
     let put : Put = record { sender = pass_number port; number = x } in
@@ -65,7 +70,7 @@ puts n port v x splits is items views _ b at =
         whole = let s = total-set (λ u. parts_of b.finest u.splits) views port v w at in let t = b.whole in omega arith;
         none_beyond = λ number far. let far' : length views ≤ number = subst (λ k. k ≤ number) (length-set views port w) far in
             sent_by-other (pass_number number) b.log put (ne_eqb port number (λ e. absurd (omega arith))) ∙ b.none_beyond number far';
-        fits = EachView-set (Fits b.taker_number b.taken log b.finest) views port w
+        fits = EachView-set (FitsPass b.taker_number b.taken log b.finest) views port w
             record {
               sent_is = sent_by-same (pass_number port) b.log put (eq-eqb port port refl) ∙ ap (λ l. l ++ x ∷ []) old.sent_is;
               coarse = old.coarse;
@@ -77,7 +82,7 @@ puts n port v x splits is items views _ b at =
       refl,
     )
 
-pub takes : (port : ℕ) (v : View) → v.takes ≡ true → Pops IsOrdered port v (λ x w. w ≡ after_take v x)
+pub takes : (port : ℕ) (v : View) → v.takes ≡ true → Pops IsInOrder port v (λ x w. w ≡ after_take v x)
 takes port v may x items views b at =
     let w : View = after_take v x in
     let taken : List ℕ = b.taken ++ x ∷ [] in
@@ -92,20 +97,22 @@ takes port v may x items views b at =
         in_order = b.in_order ∙ sym (append_assoc b.taken (x ∷ []) items);
         whole = let s = total-set (λ u. parts_of b.finest u.splits) views port v w at in let t = b.whole in omega arith;
         none_beyond = λ number far. b.none_beyond number (subst (λ k. k ≤ number) (length-set views port w) far);
-        fits = EachView-set (Fits b.taker_number taken b.log b.finest) views port w
+        fits = EachView-set (FitsPass b.taker_number taken b.log b.finest) views port w
             record {
               sent_is = old.sent_is;
               coarse = old.coarse;
               idle = old.idle;
               takes = λ _. record { one = mine.one; taken_is = ap (λ l. l ++ x ∷ []) mine.taken_is; silent = mine.silent; known = mine.known };
             }
-            (λ j u apart e. let o = b.fits j u e in record { sent_is = o.sent_is; coarse = o.coarse; idle = o.idle; takes = λ t. absurd (apart ((o.takes t).one ∙ sym mine.one)) });
+            (λ j u apart e. let o = b.fits j u e in
+            record { sent_is = o.sent_is; coarse = o.coarse; idle = o.idle; takes = λ t. absurd (apart ((o.takes t).one ∙ sym mine.one)) });
       },
       refl,
     )
 
 -- once one pass has the whole right to put, the others have put nothing that it doesn't know
-others_silent : (items : List ℕ) (views : List View) (b : IsOrdered items views) (port : ℕ) (v : View) → get_elem? views port ≡ some v → v.sent ≡ [] → parts_of b.finest v.splits ≡ 2 ^ b.finest
+others_silent : (items : List ℕ) (views : List View) (b : IsInOrder items views) (port : ℕ) (v : View) → get_elem? views port ≡ some v → v.sent ≡ []
+    → parts_of b.finest v.splits ≡ 2 ^ b.finest
     → (j : ℕ) → sent_by (pass_number j) b.log ≡ []
 others_silent items views b port v at silent full j = dite (dec_le (length views) j) (b.none_beyond j) (λ near.
     let found = stands views j (omega arith) in
@@ -117,13 +124,15 @@ others_silent items views b port v at silent full j = dite (dec_le (length views
     (λ apart. fit.idle (no_shares b.finest u.splits
     (others_none (λ y. parts_of b.finest y.splits) views port v spent at refl (b.whole ∙ sym full) j u apart there))))
 
-pub learns : (port : ℕ) (v : View) → Learns IsOrdered port v (λ items. v.takes ≡ true → HasAll v.joined (v.taken ++ items) × (IsWhole v.splits → IsInterleaving v.joined (v.taken ++ items)))
+pub learns : (port : ℕ) (v : View) → Learns IsInOrder port v (λ items. v.takes ≡ true → HasAll v.joined (v.taken ++ items)
+    × (AreWhole v.splits → IsInterleaving v.joined (v.taken ++ items)))
 learns port v items views b at may =
     let old = b.fits port v at in
     let mine = old.takes may in
     let order = b.in_order ∙ ap (λ l. l ++ items) (sym mine.taken_is) in (
       has_all b.log v.joined (v.taken ++ items) order mine.known,
-      λ whole. interleaved b.log v.joined (v.taken ++ items) (others_silent items views b port v at mine.silent (whole_parts b.finest v.splits old.coarse whole)) order mine.known,
+      λ whole. interleaved b.log v.joined (v.taken ++ items)
+          (others_silent items views b port v at mine.silent (whole_parts b.finest v.splits old.coarse whole)) order mine.known,
     )
 
 pub all_taken : (lists : List (List ℕ)) (taken : List ℕ) → HasAll lists (taken ++ []) → HasAll lists taken
@@ -132,7 +141,7 @@ all_taken lists taken all = rw (append-nil taken) at all
 length-snoc : (l : List View) (v : View) → length (l ++ v ∷ []) ≡ length l + 1
 length-snoc l v = length-append l (v ∷ [])
 
-pub forks_sides : (port : ℕ) (v : View) → v.takes ≡ true → Forks IsOrdered port v (put_side v) (take_side v)
+pub forks_sides : (port : ℕ) (v : View) → v.takes ≡ true → Forks IsInOrder port v (put_side v) (take_side v)
 forks_sides port v may items views b at =
     let left : View = put_side v in
     let right : View = take_side v in
@@ -149,10 +158,11 @@ forks_sides port v may items views b at =
       in_order = b.in_order;
       whole = let s = total-set f views port v left at in let t = total-snoc f vs right in let u = b.whole in omega arith;
       none_beyond = λ number far. b.none_beyond number (let l = length-snoc vs right in omega arith);
-      fits = EachView-snoc (Fits (length vs) b.taken b.log b.finest) vs right
-          (EachView-set (Fits (length vs) b.taken b.log b.finest) views port left
+      fits = EachView-snoc (FitsPass (length vs) b.taken b.log b.finest) vs right
+          (EachView-set (FitsPass (length vs) b.taken b.log b.finest) views port left
           record { sent_is = old.sent_is; coarse = old.coarse; idle = old.idle; takes = λ t. absurd (true≢false (sym t)) }
-          (λ j u apart e. let o = b.fits j u e in record { sent_is = o.sent_is; coarse = o.coarse; idle = o.idle; takes = λ t. absurd (apart ((o.takes t).one ∙ sym mine.one)) }))
+          (λ j u apart e. let o = b.fits j u e in
+          record { sent_is = o.sent_is; coarse = o.coarse; idle = o.idle; takes = λ t. absurd (apart ((o.takes t).one ∙ sym mine.one)) }))
           record {
             sent_is = b.none_beyond (length vs) (omega arith);
             coarse = tt;
@@ -173,10 +183,10 @@ map-nil : (ns : List ℕ) → map (λ n. n + 1) ns ≡ [] → ns ≡ []
 map-nil [] e = refl
 map-nil (n ∷ ns) e = cc
 
-pub forks_halves : (port : ℕ) (v : View) → v.takes ≡ false → Forks IsOrdered port v (halved v) (half_of v)
+pub forks_halves : (port : ℕ) (v : View) → v.takes ≡ false → Forks IsInOrder port v (halved v) (other_half v)
 forks_halves port v puts_only items views b at =
     let left : View = halved v in
-    let right : View = half_of v in
+    let right : View = other_half v in
     let vs : List View = set views port left in
     let old = b.fits port v at in
     let finest : ℕ = b.finest + 1 in
@@ -198,10 +208,16 @@ forks_halves port v puts_only items views b at =
           let k = b.whole in
           omega arith;
       none_beyond = λ number far. b.none_beyond number (let l = length-snoc vs right in omega arith);
-      fits = EachView-snoc (Fits b.taker_number b.taken b.log finest) vs right
-          (EachView-set (Fits b.taker_number b.taken b.log finest) views port left
-          record { sent_is = old.sent_is; coarse = AreAtMost-halved b.finest v.splits old.coarse; idle = λ e. old.idle (map-nil v.splits e); takes = λ t. absurd (true≢false (sym t ∙ puts_only)) }
-          (λ j u apart e. let o = b.fits j u e in record { sent_is = o.sent_is; coarse = AreAtMost-finer b.finest u.splits o.coarse; idle = o.idle; takes = o.takes }))
+      fits = EachView-snoc (FitsPass b.taker_number b.taken b.log finest) vs right
+          (EachView-set (FitsPass b.taker_number b.taken b.log finest) views port left
+          record {
+            sent_is = old.sent_is;
+            coarse = AreAtMost-halved b.finest v.splits old.coarse;
+            idle = λ e. old.idle (map-nil v.splits e);
+            takes = λ t. absurd (true≢false (sym t ∙ puts_only));
+          }
+          (λ j u apart e. let o = b.fits j u e in
+          record { sent_is = o.sent_is; coarse = AreAtMost-finer b.finest u.splits o.coarse; idle = o.idle; takes = o.takes }))
           record {
             sent_is = b.none_beyond (length vs) (omega arith);
             coarse = AreAtMost-halved b.finest v.splits old.coarse;
@@ -212,10 +228,12 @@ forks_halves port v puts_only items views b at =
 
 -- what the passes other than these two see of a renaming
 pass_apart : (log : List Put) (j k number : ℕ) → number ≢ j → sent_by (pass_number number) (map (renamed j k) log) ≡ sent_by (pass_number number) log
-pass_apart log j k number apart = sent_by-renamed j k (pass_number number) log ∙ ap (λ b. sent_by (cond b (joined_place k) (pass_number number)) log) (ne_eqb number j apart)
+pass_apart log j k number apart = sent_by-renamed j k (pass_number number) log
+    ∙ ap (λ b. sent_by (cond b (joined_place k) (pass_number number)) log) (ne_eqb number j apart)
 
 place_apart : (log : List Put) (j k place : ℕ) → place ≢ k → sent_by (joined_place place) (map (renamed j k) log) ≡ sent_by (joined_place place) log
-place_apart log j k place apart = sent_by-renamed j k (joined_place place) log ∙ ap (λ b. sent_by (cond b (pass_number j) (joined_place place)) log) (ne_eqb place k apart)
+place_apart log j k place apart = sent_by-renamed j k (joined_place place) log
+    ∙ ap (λ b. sent_by (cond b (pass_number j) (joined_place place)) log) (ne_eqb place k apart)
 
 pass_here : (log : List Put) (j k : ℕ) → sent_by (pass_number j) (map (renamed j k) log) ≡ sent_by (joined_place k) log
 pass_here log j k = sent_by-renamed j k (pass_number j) log ∙ ap (λ b. sent_by (cond b (joined_place k) (pass_number j)) log) (eq-eqb j j refl)
@@ -224,14 +242,15 @@ place_here : (log : List Put) (j k : ℕ) → sent_by (joined_place k) (map (ren
 place_here log j k = sent_by-renamed j k (joined_place k) log ∙ ap (λ b. sent_by (cond b (pass_number j) (joined_place k)) log) (eq-eqb k k refl)
 
 -- the lists of the places once one more pass was taken in
-known_more : (log : List Put) (joined : List (List ℕ)) (j : ℕ) (sent : List ℕ) → ((k : ℕ) → sent_by (joined_place k) log ≡ get_or joined k []) → sent_by (pass_number j) log ≡ sent
+known_more : (log : List Put) (joined : List (List ℕ)) (j : ℕ) (sent : List ℕ) → ((k : ℕ) → sent_by (joined_place k) log ≡ get_or joined k [])
+    → sent_by (pass_number j) log ≡ sent
     → (k : ℕ) → sent_by (joined_place k) (map (renamed j (length joined)) log) ≡ get_or (joined ++ sent ∷ []) k []
 known_more log joined j sent known is k = dite (ℕ_discrete k (length joined))
     (λ e. let P : ℕ → Type 0 = λ n. sent_by (joined_place n) (map (renamed j (length joined)) log) ≡ get_or (joined ++ sent ∷ []) n [] in
     subst P (sym e) (place_here log j (length joined) ∙ is ∙ sym (get_or-snoc_here joined sent [])))
     (λ apart. place_apart log j (length joined) k apart ∙ known k ∙ sym (get_or-snoc_else joined sent [] k apart))
 
-pub merges : (port : ℕ) (v : View) (other : ℕ) (w : View) → v.takes ≡ true → w.takes ≡ false → Merges IsOrdered port v other w (joined_with v w) spent
+pub merges : (port : ℕ) (v : View) (other : ℕ) (w : View) → v.takes ≡ true → w.takes ≡ false → Merges IsInOrder port v other w (joined_with v w) spent
 merges port v other w may puts_only items views b at two at' =
     let both : View = joined_with v w in
     let vs : List View = set views port both in
@@ -243,7 +262,7 @@ merges port v other w may puts_only items views b at two at' =
     let place : ℕ = length v.joined in
     let log : List Put = map (renamed other place) b.log in
     let f : View → ℕ = λ u. parts_of b.finest u.splits in
-    let F : ℕ → View → Type 0 = Fits b.taker_number b.taken log b.finest in
+    let F : ℕ → View → Type 0 = FitsPass b.taker_number b.taken log b.finest in
     let l₁ : length vs ≡ length views = length-set views port both in
     let l₂ : length ws ≡ length vs = length-set vs other spent in
     let near = within views other w was in
@@ -253,7 +272,12 @@ merges port v other w may puts_only items views b at two at' =
       sent_is = pass_apart b.log other place port apart ∙ old.sent_is;
       coarse = AreAtMost-append b.finest v.splits w.splits old.coarse theirs.coarse;
       idle = λ _. mine.silent;
-      takes = λ _. record { one = mine.one; taken_is = mine.taken_is; silent = mine.silent; known = known_more b.log v.joined other w.sent mine.known theirs.sent_is };
+      takes = λ _. record {
+        one = mine.one;
+        taken_is = mine.taken_is;
+        silent = mine.silent;
+        known = known_more b.log v.joined other w.sent mine.known theirs.sent_is;
+      };
     })
     (λ j u not_port e apart. let o = b.fits j u e in record {
       sent_is = pass_apart b.log other place j apart ∙ o.sent_is;
@@ -275,6 +299,11 @@ merges port v other w may puts_only items views b at two at' =
           omega arith;
       none_beyond = λ number far. pass_apart b.log other place number (λ e. absurd (omega arith)) ∙ b.none_beyond number (omega arith);
       fits = EachView-set F vs other spent
-          record { sent_is = pass_here b.log other place ∙ mine.known place ∙ get_or-length v.joined []; coarse = tt; idle = λ _. refl; takes = λ t. absurd (true≢false (sym t)) }
+          record {
+            sent_is = pass_here b.log other place ∙ mine.known place ∙ get_or-length v.joined [];
+            coarse = tt;
+            idle = λ _. refl;
+            takes = λ t. absurd (true≢false (sym t));
+          }
           (λ j u apart e. now j u e apart);
     }

@@ -1,7 +1,7 @@
 -- Shares in finer parts.
 use Rattle.std.proofs.Common.{◌≡◌, ℕ, zero, suc, ◌+◌, ◌-◌, ◌*◌, ◌^◌, ◌<◌, ◌≤◌, List, [], ◌∷◌, ◌++◌, map, sym, refl, ap, ◌∙◌, subst, add_comm, arith}
 use Rattle.std.proofs.Math.Nat.{pow-suc}
-use Rattle.mailbox.specs.Shares.{AreAtMost, parts_of, IsWhole}
+use Rattle.mailbox.specs.Shares.{AreAtMost, parts_of, AreWhole}
 
 pub AreAtMost-finer : (finest : ℕ) (ns : List ℕ) → AreAtMost finest ns → AreAtMost (finest + 1) ns
 AreAtMost-finer finest [] h = tt
@@ -80,25 +80,27 @@ coarser (suc k) finest ns h e =
     coarser k finest ns h (omega arith)
 
 -- shares that are the whole right are so in parts of any size that is fine enough
-pub whole_parts : (finest : ℕ) (ns : List ℕ) → AreAtMost finest ns → IsWhole ns → parts_of finest ns ≡ 2 ^ finest
+pub whole_parts : (finest : ℕ) (ns : List ℕ) → AreAtMost finest ns → AreWhole ns → parts_of finest ns ≡ 2 ^ finest
 whole_parts finest ns h w = coarser w.0 finest ns h (subst (AreAll ns) (add_comm finest w.0) (finer finest w.0 ns w.1 w.2))
 
-AreAtMost-around : (finest : ℕ) (before after : List ℕ) (n : ℕ) → AreAtMost finest (before ++ n ∷ after) → AreAtMost finest before × (n ≤ finest) × AreAtMost finest after
+AreAtMost-around : (finest : ℕ) (before after : List ℕ) (n : ℕ) → AreAtMost finest (before ++ n ∷ after)
+    → AreAtMost finest before × (n ≤ finest) × AreAtMost finest after
 AreAtMost-around finest [] after n h = (tt, h.0, h.1)
 AreAtMost-around finest (m ∷ before) after n h = let r = AreAtMost-around finest before after n h.1 in ((h.0, r.0), r.1, r.2)
 
-pub whole_first : IsWhole (0 ∷ [])
+pub whole_first : AreWhole (0 ∷ [])
 whole_first = (0, ((omega arith), tt), refl)
 
 -- a split leaves the whole right whole
-pub whole_split : (before after : List ℕ) (splits : ℕ) → IsWhole (before ++ splits ∷ after) → IsWhole ((before ++ (splits + 1) ∷ after) ++ (splits + 1) ∷ [])
+pub whole_split : (before after : List ℕ) (splits : ℕ) → AreWhole (before ++ splits ∷ after) → AreWhole ((before ++ (splits + 1) ∷ after) ++ (splits + 1) ∷ [])
 whole_split before after splits w =
     let f : ℕ = w.0 in
     let n : ℕ = splits + 1 in
     let h = AreAtMost-around f before after splits w.1 in
     let most : n ≤ f + 1 = let a = h.1 in omega arith in
     let mid : AreAtMost (f + 1) (n ∷ after) = (most, AreAtMost-finer f after h.2) in
-    let all = AreAtMost-append (f + 1) (before ++ n ∷ after) (n ∷ []) (AreAtMost-append (f + 1) before (n ∷ after) (AreAtMost-finer f before h.0) mid) (most, tt) in
+    let all = AreAtMost-append (f + 1) (before ++ n ∷ after) (n ∷ [])
+    (AreAtMost-append (f + 1) before (n ∷ after) (AreAtMost-finer f before h.0) mid) (most, tt) in
     let e : (f + 1) - (splits + 1) ≡ f - splits = omega arith in
     let half : 2 ^ ((f + 1) - (splits + 1)) ≡ 2 ^ (f - splits) = ap (λ k. 2 ^ k) e in
     let a₁ = parts_of-append (f + 1) (before ++ n ∷ after) (n ∷ []) in

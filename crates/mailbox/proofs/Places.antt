@@ -1,5 +1,6 @@
 -- Lists that change at one place or grow by one, and a total over a list of views.
-use Rattle.std.proofs.Common.{◌≡◌, ◌≢◌, ℕ, zero, suc, ◌+◌, ◌<◌, ◌≤◌, ◌⊎◌, List, [], ◌∷◌, ◌++◌, length, set, get_or, sym, refl, ap, ◌∙◌, subst, inl, inr, ⊎_elim, arith}
+use Rattle.std.proofs.Common.{◌≡◌, ◌≢◌, ℕ, zero, suc, ◌+◌, ◌<◌, ◌≤◌, ◌⊎◌, List, [], ◌∷◌, ◌++◌, length, set, get_or, sym, refl, ap, ◌∙◌}
+use Rattle.std.proofs.Common.{subst, inl, inr, ⊎_elim, arith}
 use mathlib.Core.Option.{some, some-injective, some-ne-none}
 use lib.ListN.{get_elem?}
 use Rattle.crossbeam_queue.proofs.Lists.{at_set, set_else}
@@ -41,7 +42,8 @@ module _ {A : Type 0} where
 abbrev pub EachView : (ℕ → View → Type 0) → List View → Type 0
 EachView F views = (number : ℕ) (v : View) → get_elem? views number ≡ some v → F number v
 
-pub EachView-set : (F : ℕ → View → Type 0) (views : List View) (number : ℕ) (w : View) → F number w → ((j : ℕ) (u : View) → j ≢ number → get_elem? views j ≡ some u → F j u) → EachView F (set views number w)
+pub EachView-set : (F : ℕ → View → Type 0) (views : List View) (number : ℕ) (w : View) → F number w
+    → ((j : ℕ) (u : View) → j ≢ number → get_elem? views j ≡ some u → F j u) → EachView F (set views number w)
 EachView-set F views number w mine others j u e = ⊎_elim (λ (x : (j ≡ number) × (w ≡ u)). subst (λ (y : ℕ × View). F y.0 y.1) (λ i. (sym x.0 i, x.1 i)) mine)
     (λ (x : (j ≢ number) × (get_elem? views j ≡ some u)). others j u x.0 x.1) (at_set views number j w u e)
 

@@ -27,8 +27,8 @@ opener = view_of true (0 ∷ []) [] [] []
 abbrev pub halved : View → View
 halved v = view_of v.takes (map (λ n. n + 1) v.splits) v.sent v.taken v.joined
 
-abbrev pub half_of : View → View
-half_of v = view_of false (map (λ n. n + 1) v.splits) [] [] []
+abbrev pub other_half : View → View
+other_half v = view_of false (map (λ n. n + 1) v.splits) [] [] []
 
 abbrev pub put_side : View → View
 put_side v = view_of false v.splits v.sent [] []
@@ -81,14 +81,14 @@ pub record FitsTaker (taker_number : ℕ) (taken : List ℕ) (log : List Put) (n
   pub known : (k : ℕ) → sent_by (joined_place k) log ≡ slice_index_or v.joined k []
 
 -- each pass knows what it put; a pass with no share has put nothing
-pub record Fits (taker_number : ℕ) (taken : List ℕ) (log : List Put) (finest number : ℕ) (v : View) : Type 0 where
+pub record FitsPass (taker_number : ℕ) (taken : List ℕ) (log : List Put) (finest number : ℕ) (v : View) : Type 0 where
   pub sent_is : sent_by (pass_number number) log ≡ v.sent
   pub coarse : AreAtMost finest v.splits
   pub idle : v.splits ≡ [] → v.sent ≡ []
   pub takes : v.takes ≡ true → FitsTaker taker_number taken log number v
 
 -- there is a log of all puts: what was taken, and then what the queue holds. All shares are the whole right
-pub record IsOrdered (items : List ℕ) (views : List View) : Type 0 where
+pub record IsInOrder (items : List ℕ) (views : List View) : Type 0 where
   pub taker_number : ℕ
   pub taken : List ℕ
   pub log : List Put
@@ -96,4 +96,4 @@ pub record IsOrdered (items : List ℕ) (views : List View) : Type 0 where
   pub in_order : all_of log ≡ taken ++ items
   pub whole : total (λ v. parts_of finest v.splits) views ≡ 2 ^ finest
   pub none_beyond : (number : ℕ) → length views ≤ number → sent_by (pass_number number) log ≡ []
-  pub fits : (number : ℕ) (v : View) → get_elem? views number ≡ some v → Fits taker_number taken log finest number v
+  pub fits : (number : ℕ) (v : View) → get_elem? views number ≡ some v → FitsPass taker_number taken log finest number v

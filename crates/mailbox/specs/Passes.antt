@@ -44,7 +44,12 @@ abbrev pub saw_no_room : Stage → ℕ → Bool
 saw_no_room stage place = saw_tail stage && (place % 32 == 30 || nat_le 4611686018427387776 place)
 
 abbrev pub put_pass_view : QueueSeat → PutPassView
-put_pass_view seat = record { at = seat.web; splits = slice_index (known_to seat).splits 0; put = (known_to seat).sent; needs_block = saw_no_room seat.me.view.stage seat.me.view.at }
+put_pass_view seat = record {
+  at = seat.web;
+  splits = slice_index (known_to seat).splits 0;
+  put = (known_to seat).sent;
+  needs_block = saw_no_room seat.me.view.stage seat.me.view.at;
+}
 
 abbrev pub IsPutSeat : QueueSeat → Type 0
 IsPutSeat seat = IsFree seat × (known_to seat ≡ putter (slice_index (known_to seat).splits 0) (known_to seat).sent)
@@ -58,3 +63,7 @@ IsTakeSeat seat = IsFree seat × (known_to seat ≡ taker (known_to seat).splits
 -- the seat of the take pass of a mailbox, with what it knows
 abbrev pub IsTaker : WebId → View → QueueSeat → Type 0
 IsTaker at v seat = (seat.web ≡ at) × IsFree seat × (known_to seat ≡ v)
+
+-- the same, whatever it knows as the take pass
+abbrev pub IsTakerAsKnown : WebId → QueueSeat → Type 0
+IsTakerAsKnown at seat = IsTaker at (taker (known_to seat).splits (known_to seat).taken (known_to seat).joined) seat

@@ -12,5 +12,5 @@ parts_of finest [] = 0
 parts_of finest (splits ∷ more) = 2 ^ (finest - splits) + parts_of finest more
 
 -- the shares add up to the whole right, so no pass is missing
-abbrev pub IsWhole : List ℕ → Type 0
-IsWhole splits = (finest : ℕ) × AreAtMost finest splits × (parts_of finest splits ≡ 2 ^ finest)
+abbrev pub AreWhole : List ℕ → Type 0
+AreWhole splits = (finest : ℕ) × AreAtMost finest splits × (parts_of finest splits ≡ 2 ^ finest)

@@ -2,9 +2,9 @@
 //! the take pass. Each number that is put comes out once, and the numbers of one put pass in their order.
 #![tactic(auto)]
 
-ghost use Rattle.std.specs.Prelude.{◌≡◌, ℕ, ◌+◌, true, List, [], ◌∷◌, ◌++◌, map, length, All, IfNone, IfOk, MatchOption, MatchResult};
+ghost use Rattle.std.specs.Prelude.{◌≡◌, ℕ, ◌+◌, true, List, [], ◌∷◌, ◌++◌, map, All, IfNone, IfOk, IfErr, OnOk, OnErr, MatchOption};
 ghost use Rattle.mailbox.specs.Interleaving.{HasAll, IsInterleaving};
-ghost use Rattle.mailbox.specs.Shares.{IsWhole};
+ghost use Rattle.mailbox.specs.Shares.{AreWhole};
 ghost use Rattle.mailbox.specs.Ordered.{putter, taker, after_put, after_take, joined_with};
 
 use crossbeam_queue::{RuledSegQueue, SegPass};
@@ -79,12 +79,13 @@ impl Model for TakePass {
 /// A law of the condition of `close`: the first pass alone is the whole right to put, and a split, of whichever
 /// pass, keeps it whole.
 pub fn split_keeps_whole()
-    ensures first { IsWhole (0 ∷ []) }
-    ensures split { (before after : List ℕ) (splits : ℕ) → IsWhole (before ++ splits ∷ after) → IsWhole ((before ++ (splits + 1) ∷ after) ++ (splits + 1) ∷ []) }
+    ensures first { AreWhole (0 ∷ []) }
+    ensures split { (before after : List ℕ) (splits : ℕ) → AreWhole (before ++ splits ∷ after)
+        → AreWhole ((before ++ (splits + 1) ∷ after) ++ (splits + 1) ∷ []) }
 {}
 
 impl Mailbox {
-    ghost use Rattle.mailbox.specs.Passes.{IsFree, IsPutSeat, IsTaker, known_to, saw_no_room};
+    ghost use Rattle.mailbox.specs.Passes.{IsFree, IsPutSeat, IsTaker, IsTakerAsKnown, known_to, saw_no_room};
 
     /// An empty mailbox with its first put pass, which has the whole right to put, and its take pass. The error is
     /// want of memory.
@@ -117,7 +118,10 @@ impl Mailbox {
     pub fn put<R: Wait>(&self, rt: &R, pass: &mut PutPass, number: u32) -> Result<(), u32>
         requires { pass.old.at ≡ self.now }
         ensures same { (pass.new.at ≡ pass.old.at) × (pass.new.splits ≡ pass.old.splits) }
-        ensures put { MatchResult result (λ _. pass.new.put ≡ pass.old.put ++ number ∷ []) (λ back. (back ≡ number) × (pass.new.put ≡ pass.old.put) × (pass.new.needs_block ≡ true)) }
+        ensures put { OnOk result (pass.new.put ≡ pass.old.put ++ number ∷ []) }
+        ensures back { IfErr result (λ back. back ≡ number) }
+        ensures none { OnErr result (pass.new.put ≡ pass.old.put) }
+        ensures no_room { OnErr result (pass.new.needs_block ≡ true) }
     {
         self.push(rt, &mut pass.seat, number)
     }
@@ -145,8 +149,8 @@ impl Mailbox {
     }
 
     /// Ends the mailbox and gives what was not taken, in order. It asks for all passes: the shares of the put passes,
-    /// those handed in before among them, are the whole right to put. What was taken and then the rest is an interleaving of what the put passes put.
-    /// The error is want of memory, and drops the rest.
+    /// those handed in before among them, are the whole right to put. What was taken and then the rest is an
+    /// interleaving of what the put passes put. The error is want of memory, and drops the rest.
     pub fn close<R: Wait>(
         self,
         rt: &R,
@@ -155,7 +159,7 @@ impl Mailbox {
         take: TakePass,
     ) -> Result<Vec<u32>, AllocError>
         requires same { (take.at ≡ self) × All (λ p. p.at ≡ self) puts.items }
-        requires all { IsWhole (take.splits ++ map (λ p. p.splits) puts.items) }
+        requires all { AreWhole (take.splits ++ map (λ p. p.splits) puts.items) }
         ensures { IfOk result (λ rest. IsInterleaving (take.joined ++ map (λ p. p.put) puts.items) (take.taken ++ rest.items)) }
     {
         let TakePass { mut seat } = take;
@@ -167,7 +171,10 @@ impl Mailbox {
     fn push<R: Wait>(&self, rt: &R, seat: &mut LinePass, number: u32) -> Result<(), u32>
         requires { (seat.old.web ≡ self.now) × IsPutSeat seat.old }
         ensures seat { (seat.new.web ≡ self.now) × IsFree seat.new }
-        ensures put { MatchResult result (λ _. known_to seat.new ≡ after_put (known_to seat.old) number) (λ back. (back ≡ number) × (known_to seat.new ≡ known_to seat.old) × (saw_no_room seat.new.me.view.stage seat.new.me.view.at ≡ true)) }
+        ensures put { OnOk result (known_to seat.new ≡ after_put (known_to seat.old) number) }
+        ensures back { IfErr result (λ back. back ≡ number) }
+        ensures none { OnErr result (known_to seat.new ≡ known_to seat.old) }
+        ensures no_room { OnErr result (saw_no_room seat.new.me.view.stage seat.new.me.view.at ≡ true) }
     {
         self.line.push_as::<Puts, R>(rt, seat, number)
     }
@@ -175,11 +182,11 @@ impl Mailbox {
     // One step of the take pass: the number at the front of the queue, if any. Where there is none, it has taken all that
     // was put through the passes which it took in, and nothing else once these are the whole right to put.
     fn pop<R: Wait>(&self, rt: &R, seat: &mut LinePass) -> Option<u32>
-        requires { IsTaker self.now (taker (known_to seat.old).splits (known_to seat.old).taken (known_to seat.old).joined) seat.old }
+        requires { IsTakerAsKnown self.now seat.old }
         ensures seat { (seat.new.web ≡ self.now) × IsFree seat.new }
         ensures taken { MatchOption result (known_to seat.new ≡ known_to seat.old) (λ number. known_to seat.new ≡ after_take (known_to seat.old) number) }
         ensures empty { IfNone result (HasAll (known_to seat.old).joined ((known_to seat.old).taken ++ [])) }
-        ensures all { IfNone result (IsWhole (known_to seat.old).splits → IsInterleaving (known_to seat.old).joined ((known_to seat.old).taken ++ [])) }
+        ensures all { IfNone result (AreWhole (known_to seat.old).splits → IsInterleaving (known_to seat.old).joined ((known_to seat.old).taken ++ [])) }
     {
         self.line.pop_as::<Takes, R>(rt, seat)
     }
@@ -187,7 +194,7 @@ impl Mailbox {
     // The take pass takes in a put pass.
     fn take_in(&self, seat: &mut LinePass, put: PutPass)
         requires put { put.at ≡ self.now }
-        requires taker { IsTaker self.now (taker (known_to seat.old).splits (known_to seat.old).taken (known_to seat.old).joined) seat.old }
+        requires taker { IsTakerAsKnown self.now seat.old }
         ensures { IsTaker self.now (joined_with (known_to seat.old) (putter put.splits put.put)) seat.new }
     {
         let PutPass { seat: other } = put;
@@ -197,8 +204,9 @@ impl Mailbox {
     // The take pass takes in the put passes, in their order.
     fn join_all(&self, seat: &mut LinePass, puts: Vec<PutPass>)
         requires same { All (λ p. p.at ≡ self.now) puts.items }
-        requires taker { IsTaker self.now (taker (known_to seat.old).splits (known_to seat.old).taken (known_to seat.old).joined) seat.old }
-        ensures { IsTaker self.now (taker ((known_to seat.old).splits ++ map (λ p. p.splits) puts.items) (known_to seat.old).taken ((known_to seat.old).joined ++ map (λ p. p.put) puts.items)) seat.new }
+        requires taker { IsTakerAsKnown self.now seat.old }
+        ensures { let known = known_to seat.old in
+            IsTaker self.now (taker (known.splits ++ map (λ p. p.splits) puts.items) known.taken (known.joined ++ map (λ p. p.put) puts.items)) seat.new }
     {
         for put in puts {
             self.take_in(seat, put);
@@ -212,8 +220,8 @@ impl Mailbox {
         alloc: Global,
         seat: &mut LinePass,
     ) -> Result<Vec<u32>, AllocError>
-        requires whole { IsWhole (known_to seat.old).splits }
-        requires taker { IsTaker self.now (taker (known_to seat.old).splits (known_to seat.old).taken (known_to seat.old).joined) seat.old }
+        requires whole { AreWhole (known_to seat.old).splits }
+        requires taker { IsTakerAsKnown self.now seat.old }
         ensures { IfOk result (λ rest. IsInterleaving (known_to seat.old).joined ((known_to seat.old).taken ++ rest.items)) }
     {
         let mut rest = Vec::new(alloc);

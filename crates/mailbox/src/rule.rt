@@ -1,7 +1,7 @@
-// What the passes of a mailbox know of its queue, and the rule that each call keeps.
+//! What the passes of a mailbox know of its queue, and the rule that each call keeps.
 ghost use Rattle.std.specs.Prelude.{◌≡◌, ◌++◌, true};
 ghost use Rattle.mailbox.specs.Interleaving.{HasAll, IsInterleaving};
-ghost use Rattle.mailbox.specs.Shares.{IsWhole};
+ghost use Rattle.mailbox.specs.Shares.{AreWhole};
 
 use crossbeam_queue::protocol::{Join, Lesson, Outcome, Protocol, Split};
 use std::collections::LinkedList;
@@ -18,9 +18,9 @@ pub struct View {
 pub struct InOrder;
 
 impl Protocol<u32, View> for InOrder {
-    ghost use Rattle.mailbox.specs.Ordered.{IsOrdered, opener};
+    ghost use Rattle.mailbox.specs.Ordered.{IsInOrder, opener};
 
-    ghost holds = { IsOrdered };
+    ghost holds = { IsInOrder };
 
     ghost first = { opener };
 }
@@ -40,11 +40,11 @@ impl Split<View> for Sides {
 pub struct Halves;
 
 impl Split<View> for Halves {
-    ghost use Rattle.mailbox.specs.Ordered.{halved, half_of};
+    ghost use Rattle.mailbox.specs.Ordered.{halved, other_half};
 
     ghost left = { halved };
 
-    ghost right = { half_of };
+    ghost right = { other_half };
 }
 
 pub struct Puts;
@@ -66,7 +66,7 @@ impl Outcome<u32, View> for Takes {
 // What was taken and then what is left has all that the passes which were taken in had put. Once these are the whole right
 // to put, it has nothing else.
 impl Lesson<u32, View> for Takes {
-    ghost fact = { λ v items. v.takes ≡ true → HasAll v.joined (v.taken ++ items) × (IsWhole v.splits → IsInterleaving v.joined (v.taken ++ items)) };
+    ghost fact = { λ v items. v.takes ≡ true → HasAll v.joined (v.taken ++ items) × (AreWhole v.splits → IsInterleaving v.joined (v.taken ++ items)) };
 }
 
 // The take pass takes in a put pass.

@@ -1,4 +1,4 @@
-// One thread by hand, and two and four senders beside a receiver.
+//! One thread by hand, and two and four senders beside a receiver.
 ghost use Rattle.std.specs.Prelude.{◌≡◌, [], ◌∷◌, ◌<◌, ◌≤◌, IfOk};
 ghost use Rattle.std.specs.Thread.{IsSync};
 
@@ -21,9 +21,7 @@ fn close_two<R: Wait>(
     requires same { (puts.0.at ≡ mailbox) × (puts.1.at ≡ mailbox) × (take.at ≡ mailbox) }
     requires all { (puts.0.splits ≡ 1) × (puts.1.splits ≡ 1) × (take.splits ≡ []) }
 {
-    let mut all = Vec::new(alloc);
-    all.push(puts.0)?;
-    all.push(puts.1)?;
+    let all = Vec::from_array(alloc, [puts.0, puts.1])?;
     mailbox.close(rt, alloc, all, take)
 }
 
@@ -38,8 +36,7 @@ fn close_one<R: Wait>(
     requires same { (put.at ≡ mailbox) × (take.at ≡ mailbox) }
     requires all { (put.splits ≡ 1) × (take.splits ≡ 1 ∷ []) }
 {
-    let mut all = Vec::new(alloc);
-    all.push(put)?;
+    let all = Vec::from_array(alloc, [put])?;
     mailbox.close(rt, alloc, all, take)
 }
 
@@ -163,13 +160,8 @@ fn close_four<R: Wait>(
 ) -> Result<Vec<u32>, AllocError>
     requires { (pairs.0.left.at ≡ mailbox) × (pairs.1.left.at ≡ mailbox) × (take.at ≡ mailbox) × (take.splits ≡ []) }
 {
-    let (Pair { left, right }, pair) = pairs;
-    let mut all = Vec::new(alloc);
-    all.push(left)?;
-    all.push(right)?;
-    let Pair { left, right } = pair;
-    all.push(left)?;
-    all.push(right)?;
+    let (one, other) = pairs;
+    let all = Vec::from_array(alloc, [one.left, one.right, other.left, other.right])?;
     mailbox.close(rt, alloc, all, take)
 }
 

@@ -57,14 +57,16 @@ first_places-push (first ∷ txs) tx =
 
     by : (b same : Bool) → bytes_eq tx first ≡ same
         → first ∷ filter (λ other. not (bytes_eq first other)) (if b then first_places txs else first_places txs ++ tx ∷ [])
-        ≡ (if same || b then first ∷ filter (λ other. not (bytes_eq first other)) (first_places txs) else first ∷ filter (λ other. not (bytes_eq first other)) (first_places txs) ++ tx ∷ [])
+        ≡ (if same || b then first ∷ filter (λ other. not (bytes_eq first other)) (first_places txs) else first ∷ filter
+        (λ other. not (bytes_eq first other)) (first_places txs) ++ tx ∷ [])
     by true true e = refl
     by true false e = refl
     by false true e = ap (λ (l : List (List ℕ)). first ∷ l) (push true e ∙ append-nil _)
     by false false e = ap (λ (l : List (List ℕ)). first ∷ l) (push false e)
 
 pub without-push : (gone txs : List (List ℕ)) (tx : List ℕ) → without gone (txs ++ tx ∷ []) ≡ without gone txs ++ (if is_among gone tx then [] else tx ∷ [])
-without-push gone txs tx = filter-append (λ other. not (is_among gone other)) txs (tx ∷ []) ∙ ap (λ (l : List (List ℕ)). without gone txs ++ l) (by (is_among gone tx))
+without-push gone txs tx = filter-append (λ other. not (is_among gone other)) txs (tx ∷ [])
+    ∙ ap (λ (l : List (List ℕ)). without gone txs ++ l) (by (is_among gone tx))
   where
     by : (b : Bool) → (if not b then tx ∷ [] else []) ≡ (if b then [] else tx ∷ [])
     by true = refl

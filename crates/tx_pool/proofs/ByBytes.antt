@@ -44,7 +44,8 @@ sorted_keyed [] sorted = sorted
 sorted_keyed (e ∷ es) sorted = (all_keyed e.0 es sorted.0, sorted_keyed es sorted.1)
 
 -- the bytes ascend as the keys do
-pub sorted-by_bytes : {A X : Type 0} (m : BTreeMap (Vec ℕ A) X) → IsStrictlySortedBy vec_cmp (keys_of m.entries) → IsStrictlySortedBy (slice_cmp nat_cmp) (keys_of (by_bytes m))
+pub sorted-by_bytes : {A X : Type 0} (m : BTreeMap (Vec ℕ A) X) → IsStrictlySortedBy vec_cmp (keys_of m.entries)
+    → IsStrictlySortedBy (slice_cmp nat_cmp) (keys_of (by_bytes m))
 sorted-by_bytes m sorted = sorted_keyed m.entries sorted
 
 others : {K X : Type 0} (eq : K → K → Bool) (test : K → Bool) (old new : List (K × X)) → KeepsOthers eq test old new

@@ -1,5 +1,7 @@
 -- Tables of standings.
-use Rattle.std.proofs.Common.{◌≡◌, ℕ, ◌+◌, ◌<◌, Bool, true, false, ◌&&◌, ◌||◌, List, [], ◌∷◌, Option, None, Some, IsSome, is_some, unwrap_or, if◌then◌else◌, refl, sym, ap, ◌∙◌, inl, inr, ◌⊎◌, ⊎_elim, bytes_eq, length, take, drop, get_or, take-append-drop}
+use Rattle.std.proofs.Common.{◌≡◌, ℕ, ◌+◌, ◌<◌, Bool, true, false, ◌&&◌, ◌||◌, List, [], ◌∷◌, Option, None, Some, IsSome, is_some}
+use Rattle.std.proofs.Common.{unwrap_or, if◌then◌else◌, refl, sym, ap, ◌∙◌, inl, inr, ◌⊎◌, ⊎_elim, bytes_eq, length, take, drop, get_or}
+use Rattle.std.proofs.Common.{take-append-drop}
 use Rattle.std.specs.Ordering.{nat_cmp}
 use Rattle.std.specs.Cmp.Lexicographic.{slice_cmp, nat_list_cmp_total}
 use Rattle.std.specs.BTreeMap.{is_at}
@@ -11,7 +13,8 @@ use Rattle.std.proofs.lemmas.Map.Lookups.{btree_set_from_contains, exact_bytes}
 use Rattle.std.proofs.lemmas.Map.Text.{is_eq-slice_cmp}
 use Rattle.std.proofs.lemmas.Slice.Eq.{bytes_eq-Decides}
 use Rattle.tx_pool.specs.Pool.{is_among}
-use Rattle.tx_pool.specs.Standings.{Table, standing_of, is_settled, is_pooled, is_reserved, settled_of, IsOrdered, IsSound, Sets, Stays, Settles, Reserves, HaveRoom, unreserved, Releases}
+use Rattle.tx_pool.specs.Standings.{Table, standing_of, is_settled, is_pooled, is_reserved, settled_of, IsOrdered, IsClean, Sets, Stays}
+use Rattle.tx_pool.specs.Standings.{Settles, Reserves, HaveRoom, unreserved, Releases}
 use Rattle.tx_pool.specs.declared.standings.Standing.{Standing}
 use Rattle.tx_pool.specs.declared.standings.Standing.TheVariants.{Pooled, Settled, Reserved}
 use Rattle.tx_pool.proofs.Among.{is_among-filter, is_among-append, bytes_eq-swap, bytes_eq-refl}
@@ -43,7 +46,8 @@ same_test (first ∷ txs) tx =
     ∙ ap (λ (b : Bool). bytes_eq tx first || b) (same_test txs tx)
 
 -- tables in which the same transactions are settled have the same list of settled ones
-pub settled_of-same : (old new : Table) → IsOrdered old → IsOrdered new → ((tx : List ℕ) → is_settled (standing_of new tx) ≡ is_settled (standing_of old tx)) → settled_of new ≡ settled_of old
+pub settled_of-same : (old new : Table) → IsOrdered old → IsOrdered new
+    → ((tx : List ℕ) → is_settled (standing_of new tx) ≡ is_settled (standing_of old tx)) → settled_of new ≡ settled_of old
 settled_of-same old new old_ordered new_ordered same =
     btree_set_from_contains nat_list_cmp_total (record { keys = settled_of new }) (record { keys = settled_of old })
     (IsStrictlySortedBy-filter (slice_cmp nat_cmp) (λ tx. is_settled (standing_of new tx)) (keys_of new) new_ordered)
@@ -60,7 +64,8 @@ pooled_or_settled (Some Reserved) pooled = refl
 
 -- Table by table, as a loop goes over transactions.
 
-among_more : (txs : List (List ℕ)) (i : ℕ) (tx other : List ℕ) → i < length txs → tx ≡ get_or txs i tx → is_among (take (i + 1) txs) other ≡ (is_among (take i txs) other || bytes_eq tx other)
+among_more : (txs : List (List ℕ)) (i : ℕ) (tx other : List ℕ) → i < length txs → tx ≡ get_or txs i tx
+    → is_among (take (i + 1) txs) other ≡ (is_among (take i txs) other || bytes_eq tx other)
 among_more txs i tx other within item =
     list_any_more (bytes_eq other) txs i tx within
     ∙ ap (λ (x : List ℕ). is_among (take i txs) other || bytes_eq other x) (sym item)
@@ -88,14 +93,16 @@ settles_more old mid new txs i tx within item settles sets = record {
       ∙ ap (λ (b : Bool). if b then Some Settled else standing_of old other) (sym (among_more txs i tx other within item));
 }
   where
-    by : (same among : Bool) (o : Option Standing) → (if same then Some Settled else (if among then Some Settled else o)) ≡ (if among || same then Some Settled else o)
+    by : (same among : Bool) (o : Option Standing)
+        → (if same then Some Settled else (if among then Some Settled else o)) ≡ (if among || same then Some Settled else o)
     by true true o = refl
     by true false o = refl
     by false true o = refl
     by false false o = refl
 
 -- a transaction that has room has a standing, also after others were settled
-pub room_now : (old mid : Table) (txs some : List (List ℕ)) (tx : List ℕ) → HaveRoom old txs → Settles old mid some → is_among txs tx ≡ true → IsSome (standing_of mid tx)
+pub room_now : (old mid : Table) (txs some : List (List ℕ)) (tx : List ℕ) → HaveRoom old txs → Settles old mid some → is_among txs tx ≡ true
+    → IsSome (standing_of mid tx)
 room_now old mid txs some tx room settles among =
     ap is_some (settles.is tx) ∙ by (is_among some tx) (standing_of old tx) (room.are_there tx among)
   where
@@ -155,19 +162,28 @@ reserves_more old mid new txs i tx within item reserves sets = record {
     more : (other : List ℕ) → is_among (take i txs) other ≡ true → is_among (take (i + 1) txs) other ≡ true
     more other among = among_now other true (ap (λ (b : Bool). b || bytes_eq tx other) among)
 
-    new_is : (other : List ℕ) (b : Bool) → bytes_eq tx other ≡ b → standing_of new other ≡ (if b then Some (unwrap_or (standing_of mid other) Reserved) else standing_of mid other)
+    new_is : (other : List ℕ) (b : Bool) → bytes_eq tx other ≡ b
+        → standing_of new other ≡ (if b then Some (unwrap_or (standing_of mid other) Reserved) else standing_of mid other)
     new_is other true same = sets.is other ∙ ap (λ (b : Bool). if b then Some (unwrap_or (standing_of mid tx) Reserved) else standing_of mid other) same
         ∙ ap (λ (x : List ℕ). Some (unwrap_or (standing_of mid x) Reserved)) ((bytes_eq-Decides tx other).0 same)
     new_is other false same = sets.is other ∙ ap (λ (b : Bool). if b then Some (unwrap_or (standing_of mid tx) Reserved) else standing_of mid other) same
 
     by : (other : List ℕ) (b : Bool) → bytes_eq tx other ≡ b → (o : Option Standing) → standing_of mid other ≡ o
-        → (standing_of mid other ≡ standing_of old other) ⊎ ((is_among (take i txs) other ≡ true) × (standing_of old other ≡ None) × (standing_of mid other ≡ Some Reserved))
-        → (standing_of new other ≡ standing_of old other) ⊎ ((is_among (take (i + 1) txs) other ≡ true) × (standing_of old other ≡ None) × (standing_of new other ≡ Some Reserved))
+        → (standing_of mid other ≡ standing_of old other)
+        ⊎ ((is_among (take i txs) other ≡ true) × (standing_of old other ≡ None) × (standing_of mid other ≡ Some Reserved))
+        → (standing_of new other ≡ standing_of old other)
+        ⊎ ((is_among (take (i + 1) txs) other ≡ true) × (standing_of old other ≡ None) × (standing_of new other ≡ Some Reserved))
     by other false same o e (inl stays) = inl (new_is other false same ∙ stays)
     by other false same o e (inr h) = inr (more other h.0, h.1, new_is other false same ∙ h.2)
     by other true same (Some s) e (inl stays) = inl (new_is other true same ∙ ap (λ (p : Option Standing). Some (unwrap_or p Reserved)) e ∙ sym e ∙ stays)
     by other true same (Some s) e (inr h) = inr (more other h.0, h.1, new_is other true same ∙ ap (λ (p : Option Standing). Some (unwrap_or p Reserved)) h.2)
-    by other true same None e (inl stays) = inr (among_now other true (both (is_among (take i txs) other) (bytes_eq tx other) same), sym stays ∙ e, new_is other true same ∙ ap (λ (p : Option Standing). Some (unwrap_or p Reserved)) e)
+    by other true same None e (inl stays) =
+        inr (
+          among_now other true (both (is_among (take i txs) other) (bytes_eq tx other) same),
+          sym stays ∙ e,
+          new_is other true same
+              ∙ ap (λ (p : Option Standing). Some (unwrap_or p Reserved)) e,
+        )
     by other true same None e (inr h) = absurd (cc (sym e ∙ h.2))
 
 pub have_room_none : (table : Table) → HaveRoom table []
@@ -209,7 +225,7 @@ settles_reserved old mid new txs reserves settles = record {
     by tx false e (inr h) = absurd (cc (sym e ∙ h.0))
 
 -- what was reserved for transactions is given back with them
-pub stays_released : (old mid new : Table) (txs : List (List ℕ)) → IsSound old → Reserves old mid txs → Releases mid new txs → Stays old new
+pub stays_released : (old mid new : Table) (txs : List (List ℕ)) → IsClean old → Reserves old mid txs → Releases mid new txs → Stays old new
 stays_released old mid new txs sound reserves releases = record {
   ordered = releases.ordered;
   is = λ tx. releases.is tx ∙ by tx (is_among txs tx) refl (reserves.is tx);

@@ -1,5 +1,6 @@
 -- The list of a pool and its table go together.
-use Rattle.std.proofs.Common.{◌≡◌, ℕ, Bool, true, false, not, ◌&&◌, ◌||◌, List, [], ◌∷◌, ◌++◌, Option, None, Some, is_some, if◌then◌else◌, refl, sym, ap, ◌∙◌, bytes_eq, filter}
+use Rattle.std.proofs.Common.{◌≡◌, ℕ, Bool, true, false, not, ◌&&◌, ◌||◌, List, [], ◌∷◌, ◌++◌, Option, None, Some, is_some, if◌then◌else◌}
+use Rattle.std.proofs.Common.{refl, sym, ap, ◌∙◌, bytes_eq, filter}
 use Rattle.std.specs.Cmp.Lexicographic.{nat_list_eq_equiv}
 use Rattle.std.specs.List.{IsDistinct, AllByRecursion}
 use Rattle.std.specs.List.Sorted.{IsStrictlySortedBy}
@@ -7,7 +8,8 @@ use Rattle.std.proofs.Math.Bool.{or-false}
 use Rattle.std.proofs.lemmas.List.Elements.{All-nil, All-push, All-filter}
 use Rattle.std.proofs.lemmas.Map.Keys.{IsDistinct-push}
 use Rattle.std.proofs.lemmas.Slice.Eq.{bytes_eq-Decides}
-use Rattle.tx_pool.specs.Pool.{IsTransaction, is_known, is_among, without}
+use Rattle.hb_base.specs.Limits.{IsTransaction}
+use Rattle.tx_pool.specs.Pool.{is_known, is_among, without}
 use Rattle.tx_pool.specs.Standings.{Table, standing_of, is_settled, is_pooled, is_reserved, settled_of, Sets, Stays, Settles, IsTied}
 use Rattle.tx_pool.specs.declared.standings.Standing.{Standing}
 use Rattle.tx_pool.specs.declared.standings.Standing.TheVariants.{Pooled, Settled, Reserved}
@@ -24,7 +26,8 @@ tied_none = record {
 }
 
 -- a new transaction at the end of the list, which stands as pooled
-pub tied_push : (pooled : List (List ℕ)) (old new : Table) (tx : List ℕ) → IsTransaction tx → IsTied pooled old → standing_of old tx ≡ None → Sets old new tx (Some Pooled)
+pub tied_push : (pooled : List (List ℕ)) (old new : Table) (tx : List ℕ) → IsTransaction tx → IsTied pooled old → standing_of old tx ≡ None
+    → Sets old new tx (Some Pooled)
     → IsTied (pooled ++ tx ∷ []) new
 tied_push pooled old new tx fits tied fresh sets = record {
   sound = record {
@@ -56,7 +59,8 @@ all_filter : (test : List ℕ → Bool) (first : List ℕ) (txs : List (List ℕ
 all_filter test first [] all = all
 all_filter test first (tx ∷ txs) all = by (test tx) (all_filter test first txs all.1)
   where
-    by : (b : Bool) → AllByRecursion (λ x. bytes_eq first x ≡ false) (filter test txs) → AllByRecursion (λ x. bytes_eq first x ≡ false) (if b then tx ∷ filter test txs else filter test txs)
+    by : (b : Bool) → AllByRecursion (λ x. bytes_eq first x ≡ false) (filter test txs)
+        → AllByRecursion (λ x. bytes_eq first x ≡ false) (if b then tx ∷ filter test txs else filter test txs)
     by true rest = (all.0, rest)
     by false rest = rest
 
@@ -65,7 +69,8 @@ unfolding IsDistinct
 distinct_filter test [] once = once
 distinct_filter test (tx ∷ txs) once = by (test tx) (all_filter test tx txs once.0) (distinct_filter test txs once.1)
   where
-    by : (b : Bool) → AllByRecursion (λ y. bytes_eq tx y ≡ false) (filter test txs) → IsDistinct bytes_eq (filter test txs) → IsDistinct bytes_eq (if b then tx ∷ filter test txs else filter test txs)
+    by : (b : Bool) → AllByRecursion (λ y. bytes_eq tx y ≡ false) (filter test txs) → IsDistinct bytes_eq (filter test txs)
+        → IsDistinct bytes_eq (if b then tx ∷ filter test txs else filter test txs)
     by true all rest = (all, rest)
     by false all rest = rest
 
@@ -91,7 +96,8 @@ tied_settle pooled old new txs tied settles = record {
     clean false tx = tied.sound.clean tx
 
     now : (b : Bool) (tx : List ℕ)
-        → (is_pooled (if b then Some Settled else standing_of old tx) && is_pooled (standing_of old tx)) ≡ is_pooled (if b then Some Settled else standing_of old tx)
+        → (is_pooled (if b then Some Settled else standing_of old tx) && is_pooled (standing_of old tx))
+        ≡ is_pooled (if b then Some Settled else standing_of old tx)
     now true tx = refl
     now false tx = same (is_pooled (standing_of old tx))
       where
@@ -146,7 +152,8 @@ pub settled_of-push : (pooled : List (List ℕ)) (old new : Table) (tx : List �
 settled_of-push pooled old new tx tied fresh sets =
     settled_of-same old new tied.sound.ordered sets.ordered (λ other. ap is_settled (sets.is other) ∙ by other (bytes_eq tx other) refl)
   where
-    by : (other : List ℕ) (b : Bool) → bytes_eq tx other ≡ b → is_settled (if b then Some Pooled else standing_of old other) ≡ is_settled (standing_of old other)
+    by : (other : List ℕ) (b : Bool) → bytes_eq tx other ≡ b
+        → is_settled (if b then Some Pooled else standing_of old other) ≡ is_settled (standing_of old other)
     by other true same = sym (ap (λ (x : List ℕ). is_settled (standing_of old x)) (sym ((bytes_eq-Decides tx other).0 same)) ∙ ap is_settled fresh)
     by other false same = refl
 

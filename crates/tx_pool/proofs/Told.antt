@@ -46,7 +46,8 @@ pooled-submit gone txs tx =
         → (if (not g && s) || g then without gone (first_places txs) else without gone (first_places txs) ++ tx ∷ [])
         ≡ without gone (if s then first_places txs else first_places txs ++ tx ∷ [])
     by true true e = refl
-    by true false e = sym (without-push gone (first_places txs) tx ∙ ap (λ (b : Bool). without gone (first_places txs) ++ (if b then [] else tx ∷ [])) e ∙ append-nil (without gone (first_places txs)))
+    by true false e = sym (without-push gone (first_places txs) tx
+        ∙ ap (λ (b : Bool). without gone (first_places txs) ++ (if b then [] else tx ∷ [])) e ∙ append-nil (without gone (first_places txs)))
     by false true e = refl
     by false false e = sym (without-push gone (first_places txs) tx ∙ ap (λ (b : Bool). without gone (first_places txs) ++ (if b then [] else tx ∷ [])) e)
 
@@ -55,11 +56,13 @@ pub told_submit : (calls : List Call) (tx : List ℕ) (old new : PoolView) → I
 told_submit calls tx old new is_of pooled settled = record {
   pooled = pooled
       ∙ ap (λ (b : Bool). if b then old.pooled else old.pooled ++ tx ∷ []) (known_is calls old tx is_of)
-      ∙ ap (λ (l : List (List ℕ)). if (not (is_among (settled_in calls) tx) && is_among (submitted_in calls) tx) || is_among (settled_in calls) tx then l else l ++ tx ∷ []) is_of.pooled
+      ∙ ap (λ (l : List (List ℕ)). if (not (is_among (settled_in calls) tx) && is_among (submitted_in calls) tx) || is_among (settled_in calls) tx
+      then l else l ++ tx ∷ []) is_of.pooled
       ∙ pooled-submit (settled_in calls) (submitted_in calls) tx
       ∙ ap (λ (l : List (List ℕ)). without (settled_in calls) (first_places l)) (sym (submitted-submit calls tx))
       ∙ ap (λ (l : List (List ℕ)). without l (first_places (submitted_in (calls ++ Submit tx ∷ [])))) (sym (settled-submit calls tx));
-  settled = λ other. ap (λ (l : List (List ℕ)). is_among l other) settled ∙ is_of.settled other ∙ ap (λ (l : List (List ℕ)). is_among l other) (sym (settled-submit calls tx));
+  settled = λ other. ap (λ (l : List (List ℕ)). is_among l other) settled ∙ is_of.settled other
+      ∙ ap (λ (l : List (List ℕ)). is_among l other) (sym (settled-submit calls tx));
 }
 
 pub told_settle : (calls : List Call) (txs : List (List ℕ)) (old new : PoolView) → IsPoolOf calls old → new.pooled ≡ without txs old.pooled

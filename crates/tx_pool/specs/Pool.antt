@@ -1,10 +1,6 @@
 -- The transaction pool as contracts see it.
-use Rattle.std.specs.Prelude.{ℕ, ◌≤◌, Bool, not, ◌||◌, List, length, bytes_eq, filter}
+use Rattle.std.specs.Prelude.{ℕ, Bool, not, ◌||◌, List, bytes_eq, filter}
 use Rattle.std.specs.List.{list_any}
-
--- a transaction has 1 to 256 bytes
-abbrev pub IsTransaction : List ℕ → Type 0
-IsTransaction tx = (1 ≤ length tx) × (length tx ≤ 256)
 
 -- the pooled transactions, in the order in which they came, and the settled ones
 pub record PoolView : Type 0 where

@@ -5,7 +5,8 @@ use Rattle.std.specs.Cmp.Lexicographic.{slice_cmp}
 use Rattle.std.specs.List.{All, IsDistinct}
 use Rattle.std.specs.List.Sorted.{IsStrictlySortedBy}
 use Rattle.std.specs.Map.{lookup, keys_of}
-use Rattle.tx_pool.specs.Pool.{IsTransaction, is_among}
+use Rattle.hb_base.specs.Limits.{IsTransaction}
+use Rattle.tx_pool.specs.Pool.{is_among}
 use Rattle.tx_pool.specs.declared.standings.Standing.{Standing}
 use Rattle.tx_pool.specs.declared.standings.Standing.TheVariants.{Pooled, Settled, Reserved}
 
@@ -44,7 +45,7 @@ abbrev pub IsOrdered : Table → Type 0
 IsOrdered table = IsStrictlySortedBy (slice_cmp nat_cmp) (keys_of table)
 
 -- in order, and no place is reserved
-pub record IsSound (table : Table) : Type 0 where
+pub record IsClean (table : Table) : Type 0 where
   pub ordered : IsOrdered table
   pub clean : (tx : List ℕ) → is_reserved (standing_of table tx) ≡ false
 
@@ -87,7 +88,7 @@ pub record Releases (old new : Table) (txs : List (List ℕ)) : Type 0 where
 
 -- the list has just the transactions that the table has as pooled, each once and within its bounds
 pub record IsTied (pooled : List (List ℕ)) (table : Table) : Type 0 where
-  pub sound : IsSound table
+  pub sound : IsClean table
   pub listed : (tx : List ℕ) → is_among pooled tx ≡ is_pooled (standing_of table tx)
   pub once : IsDistinct bytes_eq pooled
   pub fit : All IsTransaction pooled

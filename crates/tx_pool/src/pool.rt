@@ -1,6 +1,9 @@
-ghost use Rattle.std.specs.Prelude.{◌≡◌, ℕ, ◌<◌, true, false, ◌||◌, List, [], ◌∷◌, ◌++◌, take, filter, bytes_eq, vec_len, vec_capacity, IfOk, OnOk, OnErr, if◌then◌else◌};
+//! The pool, told of submissions and settlements.
+ghost use Rattle.std.specs.Prelude.{◌≡◌, ℕ, ◌<◌, true, false, ◌||◌, List, [], ◌∷◌, ◌++◌, take, filter, bytes_eq, vec_len, vec_capacity};
+ghost use Rattle.std.specs.Prelude.{IfOk, OnOk, OnErr, if◌then◌else◌};
 ghost use Rattle.std.specs.List.{AllByRecursion, IsDistinct};
-ghost use Rattle.tx_pool.specs.Pool.{IsTransaction, is_among, is_known, without};
+ghost use Rattle.hb_base.specs.Limits.{IsTransaction};
+ghost use Rattle.tx_pool.specs.Pool.{is_among, is_known, without};
 ghost use Rattle.tx_pool.specs.Standings.{standing_of, is_pooled};
 ghost use Rattle.tx_pool.specs.Calls.{Call, Submit, Settle, IsPoolOf};
 
@@ -75,7 +78,8 @@ impl Pool {
         Ok(Submitted::Added)
     }
 
-    /// The first `count` pooled transactions, or all where there are fewer. It copies these, and looks at no others.
+    /// The first `count` pooled transactions, or all where there are fewer. Their bytes are shared with the pool, not copied,
+    /// and it looks at no others.
     pub fn oldest(&self, count: u8) -> Result<Vec<Bytes>, AllocError>
         ensures first { IfOk result (λ txs. txs.items ≡ take count self.now.pooled) }
         ensures fit { IfOk result (λ txs. AllByRecursion IsTransaction txs.items) }

@@ -1,5 +1,6 @@
+//! How each transaction stands that a pool was told of.
 ghost use Rattle.std.specs.Prelude.{◌≡◌, [], IsSome, unwrap_or, OnOk, OnErr};
-ghost use Rattle.tx_pool.specs.Standings.{standing_of, IsOrdered, IsSound, Sets, Stays, Settles, Reserves, HaveRoom, unreserved, Releases};
+ghost use Rattle.tx_pool.specs.Standings.{standing_of, IsOrdered, IsClean, Sets, Stays, Settles, Reserves, HaveRoom, unreserved, Releases};
 
 use hb_base::Bytes;
 use std::alloc::{AllocError, Global};
@@ -63,7 +64,7 @@ impl Standings {
 
     /// Settles these transactions. Where it finds no memory it gives back what it took, and all stand as before.
     pub fn settle(&mut self, alloc: Global, txs: &[Bytes]) -> Result<(), AllocError>
-        requires { IsSound self.old }
+        requires { IsClean self.old }
         ensures ok { OnOk result (Settles self.old self.new txs.now) }
         ensures err { OnErr result (Stays self.old self.new) }
     {

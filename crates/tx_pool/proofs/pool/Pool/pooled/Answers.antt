@@ -1,6 +1,6 @@
 use Rattle.std.proofs.Common.{sym, ◌∙◌}
 use Rattle.std.proofs.lemmas.List.Elements.{recursion_from_All}
-use Rattle.tx_pool.specs.Pool.{IsTransaction}
+use Rattle.hb_base.specs.Limits.{IsTransaction}
 use Rattle.tx_pool.specs.Standings.{standing_of}
 use Rattle.tx_pool.proofs.Tables.{is_among-settled_of, pooled_or_settled}
 use Rattle.tx_pool.proofs.pool.Pool.pooled.Goals as goal

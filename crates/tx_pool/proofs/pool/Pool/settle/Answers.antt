@@ -16,11 +16,13 @@ returns-in_err-settle-clause-err c =
     rw failed.1 (ap view same ∙ c.self.view_is)
 
 pub invariant_of-self-2 : goal.invariant_of-self-2
-invariant_of-self-2 c = rw c.keep_pooled.ensures (tied_settle c.self.inside.pooled.items c.self.inside.standings c.settle.new.self c.args.txs.now c.self.invariant c.in_ok-settle.ensures.ok)
+invariant_of-self-2 c = rw c.keep_pooled.ensures
+    (tied_settle c.self.inside.pooled.items c.self.inside.standings c.settle.new.self c.args.txs.now c.self.invariant c.in_ok-settle.ensures.ok)
 
 pub returns-clause-pooled : goal.returns-clause-pooled
 returns-clause-pooled c =
-    rw (c.keep_pooled.ensures, ← c.self.view_is) (filter_is_without c.self.inside.pooled.items c.self.inside.standings c.settle.new.self c.args.txs.now c.self.invariant c.in_ok-settle.ensures.ok)
+    rw (c.keep_pooled.ensures, ← c.self.view_is)
+    (filter_is_without c.self.inside.pooled.items c.self.inside.standings c.settle.new.self c.args.txs.now c.self.invariant c.in_ok-settle.ensures.ok)
 
 pub returns-clause-settled : goal.returns-clause-settled
 returns-clause-settled c =

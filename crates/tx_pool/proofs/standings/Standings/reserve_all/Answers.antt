@@ -10,6 +10,8 @@ pub loop-tx-preserved : goal.loop-tx-preserved
 loop-tx-preserved c =
     let item : c.as_slice.result.now ≡ get_or c.args.txs.now c.loop-tx.tx-index c.as_slice.result.now = rw c.as_slice.ensures c.tx-item.is in
     record {
-      reserves = reserves_more c.args.self.now c.loop-tx.self c.reserve.new.self c.args.txs.now c.loop-tx.tx-index c.as_slice.result.now c.loop-tx-test.true item c.loop-tx.invariant.reserves c.in_ok-reserve.ensures.ok;
-      room = have_room_more c.loop-tx.self c.reserve.new.self c.args.txs.now c.loop-tx.tx-index c.as_slice.result.now c.loop-tx-test.true item c.loop-tx.invariant.room c.in_ok-reserve.ensures.ok;
+      reserves = reserves_more c.args.self.now c.loop-tx.self c.reserve.new.self c.args.txs.now c.loop-tx.tx-index c.as_slice.result.now
+          c.loop-tx-test.true item c.loop-tx.invariant.reserves c.in_ok-reserve.ensures.ok;
+      room = have_room_more c.loop-tx.self c.reserve.new.self c.args.txs.now c.loop-tx.tx-index c.as_slice.result.now c.loop-tx-test.true item
+          c.loop-tx.invariant.room c.in_ok-reserve.ensures.ok;
     }

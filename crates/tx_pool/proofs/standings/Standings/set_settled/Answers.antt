@@ -11,4 +11,5 @@ set-requires c =
 pub loop-tx-preserved : goal.loop-tx-preserved
 loop-tx-preserved c =
     let item : c.as_slice.result.now ≡ get_or c.args.txs.now c.loop-tx.tx-index c.as_slice.result.now = rw c.as_slice.ensures c.tx-item.is in
-    settles_more c.args.self.now c.loop-tx.self c.set.new.self c.args.txs.now c.loop-tx.tx-index c.as_slice.result.now c.loop-tx-test.true item c.loop-tx.invariant c.set.ensures
+    settles_more c.args.self.now c.loop-tx.self c.set.new.self c.args.txs.now c.loop-tx.tx-index c.as_slice.result.now c.loop-tx-test.true item
+    c.loop-tx.invariant c.set.ensures
