@@ -1,0 +1,10 @@
+-- The items of a list.
+use Rattle.std.proofs.Common.{◌≡◌, ℕ, ◌+◌, ◌<◌, ◌≤◌, List, [], ◌∷◌, length, drop, get_or, refl, ap, add-one, drop-cons, sym, arith, map}
+use Rattle.serde_json.specs.View.{view, items_view}
+use Rattle.serde_json.specs.Data.{no_items, item}
+use Rattle.serde_json.specs.declared.value.Value.{Value}
+use Rattle.net_script.specs.Entries.{count_items}
+
+pub count_items_view : (vs : List Value) → count_items (items_view vs) ≡ length vs
+count_items_view [] = refl
+count_items_view (v ∷ vs) = rw (count_items_view vs) (omega arith)
