@@ -1,0 +1,2 @@
+pub mod LiesLemmas
+pub mod Votes

@@ -1,0 +1,74 @@
+//! The liar that hands out a share of no coin.
+
+ghost use Rattle.std.specs.Prelude.{◌≡◌, codes};
+
+use crate::heard::Heard;
+use crate::liar::{Liar, LiarSeat};
+use crate::lies::Lies;
+use crate::speech::{Hushed, lane_of, tell_vote};
+use hb_base::LiarName;
+use hb_wire::{Post, Vote, VoteView, view};
+use merkle_branch::{Branch, MAX_HEIGHT, height};
+use std::alloc::Global;
+
+/// Answers the first COIN of each lane, epoch and round: a COIN with the share 0, and a salt and a branch of zero
+/// bytes, to all.
+#[derive(Drop)]
+pub struct FalseShare {
+    heard: Heard,
+}
+
+impl FalseShare {
+    /// One that has heard nothing yet.
+    pub fn new() -> FalseShare {
+        FalseShare {
+            heard: Heard::nothing(),
+        }
+    }
+
+    fn answer(
+        &mut self,
+        alloc: Global,
+        me: &LiarSeat,
+        post: &Post,
+        lies: &mut Lies,
+    ) -> Result<(), Hushed> {
+        let n = me.config.n();
+        let version = me.config.version();
+        let lane = lane_of(me, post)?;
+        let heard = view(n, version, post.bytes.as_slice());
+        let Some(VoteView::Coin { epoch, round, .. }) = heard else {
+            return Ok(());
+        };
+        if !self.heard.mark(lane, epoch, round) {
+            return Ok(());
+        }
+        let coin = Vote::Coin {
+            epoch,
+            round,
+            share: 0,
+            salt: [0; 16],
+            branch: Branch {
+                len: height(n),
+                digests: [[0; 32]; MAX_HEIGHT],
+            },
+        };
+        tell_vote(alloc, n, version, lies, lane, &coin)
+    }
+}
+
+impl Liar for FalseShare {
+    fn name(&self) -> LiarName
+        ensures { result ≡ codes "false_share" }
+    {
+        LiarName::of("false_share").unwrap()
+    }
+
+    fn start(&mut self, _alloc: Global, _me: &LiarSeat, lies: &mut Lies)
+        ensures { lies.new ≡ lies.old }
+    {}
+
+    fn hear(&mut self, alloc: Global, me: &LiarSeat, post: &Post, lies: &mut Lies) {
+        let _ = self.answer(alloc, me, post, lies);
+    }
+}
