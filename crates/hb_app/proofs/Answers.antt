@@ -8,7 +8,7 @@ use Rattle.serde_json.specs.Read.{read}
 use Rattle.hb_base.specs.Outside.{AppendsFront, HasCause, Puts}
 use Rattle.hb_rules.specs.declared.report.Report.{Report}
 use Rattle.hb_app.specs.declared.scenario.Scenario.{Scenario}
-use Rattle.hb_app.specs.Input.{most_input}
+use Rattle.hb_base.specs.Limits.{longest_scenario}
 use Rattle.hb_app.specs.Scenario.{scenario_at, scenario_of}
 use Rattle.hb_app.specs.Text.{AreShort}
 use Rattle.hb_app.specs.Run.{IsPlain, IsRunOf}
@@ -26,12 +26,12 @@ refuses_all (Some xs) None input all says = absurd all
 refuses_all (Some xs) (Some ys) input all says = ap scenario_of all.0 ∙ says
 
 -- more bytes than are read at most say no scenario
-pub refuses_long : (left : Option (List ℕ)) → IfSome left (λ xs. most_input < length xs) → Refuses left
+pub refuses_long : (left : Option (List ℕ)) → IfSome left (λ xs. longest_scenario < length xs) → Refuses left
 refuses_long None long = tt
-refuses_long (Some xs) long = by (nat_le (length xs) most_input) refl
+refuses_long (Some xs) long = by (nat_le (length xs) longest_scenario) refl
   where
-    by : (b : Bool) → nat_le (length xs) most_input ≡ b → (if b && is_utf8 xs then option_and_then scenario_at (read xs) else None) ≡ None
-    by true is = absurd (omega (arith, long, leb-true (length xs) most_input is))
+    by : (b : Bool) → nat_le (length xs) longest_scenario ≡ b → (if b && is_utf8 xs then option_and_then scenario_at (read xs) else None) ≡ None
+    by true is = absurd (omega (arith, long, leb-true (length xs) longest_scenario is))
     by false is = refl
 
 -- a put leaves a front of its bytes, whether it failed or not

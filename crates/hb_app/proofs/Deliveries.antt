@@ -4,6 +4,7 @@ use Rattle.std.proofs.lemmas.Bool.{eqb-true}
 use Rattle.std.proofs.lemmas.List.Elements.{Contains-append_right}
 use Rattle.std.specs.List.{cons_option}
 use Rattle.std.specs.Option.{option_or}
+use Rattle.hb_base.specs.Limits.{longest_transaction}
 use Rattle.hb_rules.specs.declared.vote.Vote.{Vote}
 use Rattle.hb_rules.specs.declared.vote.Vote.TheVariants.{Propose, Val, Echo, Ready, Delivered}
 use Rattle.hb_rules.specs.declared.post.Post.{Post}
@@ -48,7 +49,7 @@ first_delivered (vote ∷ votes) value h = by (delivered 0 vote) refl h (first_d
     by (Some v) is h later = let same : delivered 0 vote ≡ Some value = cc in (0, omega arith, sym (is_delivery 0 vote value same))
 
 -- so it fits into a line
-pub short_delivered : (history : List Post) (i : ℕ) (value : List ℕ) → AreShort history → delivered_at i history ≡ Some value → length value ≤ 256
+pub short_delivered : (history : List Post) (i : ℕ) (value : List ℕ) → AreShort history → delivered_at i history ≡ Some value → length value ≤ longest_transaction
 short_delivered history i value short h = short.short i 0 0 value (first_delivered (own_in i 0 history) value h)
 
 pub no_deliveries : (history : List Post) → history ≡ [] → AreShort history

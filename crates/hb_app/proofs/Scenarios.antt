@@ -6,16 +6,16 @@ use Rattle.std.proofs.lemmas.Bool.{le-leb}
 use Rattle.serde_json.specs.Read.{read}
 use Rattle.serde_json.specs.View.{items_view}
 use Rattle.serde_json.specs.declared.value.Value.{Value}
-use Rattle.hb_app.specs.Input.{most_input}
+use Rattle.hb_base.specs.Limits.{longest_scenario}
 use Rattle.hb_app.specs.Scenario.{only_item, scenario_at, scenario_of}
 
 -- bytes in UTF-8 say what their JSON value says
-pub scenario_of_text : (bytes : List ℕ) → length bytes ≤ most_input → IsUtf8 bytes → scenario_of bytes ≡ option_and_then scenario_at (read bytes)
-scenario_of_text bytes short text = rw (le-leb (length bytes) most_input short, is_utf8-from_IsUtf8 bytes text) refl
+pub scenario_of_text : (bytes : List ℕ) → length bytes ≤ longest_scenario → IsUtf8 bytes → scenario_of bytes ≡ option_and_then scenario_at (read bytes)
+scenario_of_text bytes short text = rw (le-leb (length bytes) longest_scenario short, is_utf8-from_IsUtf8 bytes text) refl
 
 -- bytes that aren't in UTF-8 say nothing
 pub scenario_of_no_text : (bytes : List ℕ) → ¬ (IsUtf8 bytes) → scenario_of bytes ≡ None
-scenario_of_no_text bytes no_text = by (nat_le (length bytes) most_input) (is_utf8 bytes) refl
+scenario_of_no_text bytes no_text = by (nat_le (length bytes) longest_scenario) (is_utf8 bytes) refl
   where
     by : (b c : Bool) → is_utf8 bytes ≡ c → (if b && c then option_and_then scenario_at (read bytes) else None) ≡ None
     by false c is = refl

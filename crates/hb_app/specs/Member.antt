@@ -1,6 +1,7 @@
 -- The actors of a run.
-use Rattle.std.specs.Prelude.{◌≡◌, ◌≢◌, ◌⊎◌, ℕ, ◌<◌, ◌≤◌, ◌^◌, length, true, List, [], ◌∷◌, ◌++◌, Contains, slice_get, Some}
+use Rattle.std.specs.Prelude.{◌≡◌, ◌≢◌, ◌⊎◌, ℕ, ◌<◌, ◌≤◌, length, true, List, [], ◌∷◌, ◌++◌, Contains, slice_get, Some}
 use Rattle.std.specs.List.{list_any}
+use Rattle.hb_base.specs.Limits.{most_posts}
 use Rattle.hb_base.specs.Numbers.{Numbers}
 use Rattle.hb_rules.specs.declared.vote.Vote.{Vote}
 use Rattle.hb_rules.specs.declared.post.Post.{Post}
@@ -23,7 +24,7 @@ IsReady c i x own heard Desk = (x ≡ c.n) × (list_any (is_any_proposal 0) own 
 
 -- no post more may stand
 abbrev pub IsFull : List Post → Type 0
-IsFull posts = 2 ^ 22 ≤ length posts
+IsFull posts = most_posts ≤ length posts
 
 -- an actor with a seat of its own, which received only what reaches it, and is ready for more if it works; it found the
 -- book full only where it is

@@ -1,6 +1,7 @@
 -- What a run of one broadcast comes to.
 use Rattle.std.specs.Prelude.{◌≡◌, ℕ, ◌-◌, ◌<◌, ◌≤◌, true, false, Some, List, [], ◌∷◌, length, replicate, Contains}
 use Rattle.hb_base.specs.Counting.{count_nodes}
+use Rattle.hb_base.specs.Limits.{most_nodes, longest_transaction}
 use Rattle.hb_rules.specs.declared.vote.Vote.TheVariants.{Delivered}
 use Rattle.hb_rules.specs.declared.post.Post.{Post}
 use Rattle.hb_rules.specs.declared.report.Fate.TheVariants.{Full}
@@ -16,9 +17,9 @@ use Rattle.hb_app.specs.declared.scenario.Scenario.{Scenario}
 -- a scenario of one broadcast among correct nodes
 pub record IsPlain (s : Scenario) : Type 0 where
   pub node : s.submit.node ≡ 0
-  pub tx : length s.submit.tx ≤ 256
+  pub tx : length s.submit.tx ≤ longest_transaction
   pub epochs : s.config.epochs ≡ 1
-  pub liars : s.config.liars ≡ replicate 16 false
+  pub liars : s.config.liars ≡ replicate most_nodes false
 
 -- every value that an actor has delivered is this one
 pub record Agree (value : List ℕ) (history : List Post) : Type 0 where

@@ -7,12 +7,12 @@ use Rattle.serde_json.specs.Find.{get, as_number, as_u64, as_str, as_array, as_o
 use Rattle.serde_json.specs.Read.{read}
 use Rattle.hex.specs.declared.error.FromHexError.{FromHexError}
 use Rattle.hex.specs.Hex.{decode_of}
+use Rattle.hb_base.specs.Limits.{most_nodes, most_faulty, most_rounds, most_batch, longest_transaction, longest_scenario}
 use Rattle.hb_base.specs.Numbers.{numbers}
 use Rattle.hb_rules.specs.declared.report.Submit.{Submit}
 use Rattle.hb_app.specs.declared.scenario.Scenario.{Scenario}
 use Rattle.hb_app.specs.declared.scenario.ScenarioFault.{ScenarioFault}
 use Rattle.hb_app.specs.declared.scenario.ScenarioFault.TheVariants.{NotBuilt, Memory}
-use Rattle.hb_app.specs.Input.{most_input}
 
 -- what a reader returned is what reading gives, unless memory ran out
 abbrev pub Fails : {X : Type 0} → ScenarioFault → Option X → Type 0
@@ -55,7 +55,7 @@ number_at low high key d = option_and_then (number_in low high) (option_and_then
 
 -- the bytes of a decoded text, 1 to 256 of them
 abbrev pub some_bytes : Result (List ℕ) FromHexError → Option (List ℕ)
-some_bytes (Ok bytes) = if nat_le 1 (length bytes) && nat_le (length bytes) 256 then Some bytes else None
+some_bytes (Ok bytes) = if nat_le 1 (length bytes) && nat_le (length bytes) longest_transaction then Some bytes else None
 some_bytes (Err e) = None
 
 -- the transaction that an object has at the key tx, as hex
@@ -84,12 +84,12 @@ submit_at d = option_and_then submit_of (option_and_then only_item (option_and_t
 unfoldable pub scenario_at : Data → Option Scenario
 scenario_at d = do
   known ← check (is_object_of (codes "nodes" ∷ codes "faulty" ∷ codes "epochs" ∷ codes "submit" ∷ []) d)
-  n ← number_at 1 16 (codes "nodes") d
-  f ← number_at 0 5 (codes "faulty") d
+  n ← number_at 1 most_nodes (codes "nodes") d
+  f ← number_at 0 most_faulty (codes "faulty") d
   epochs ← number_at 1 1 (codes "epochs") d
   submit ← submit_at d
-  if nat_lt (3 * f) n then Some (record { config = numbers n f epochs 32 64 0 1 (replicate 16 false); submit = submit }) else None
+  if nat_lt (3 * f) n then Some (record { config = numbers n f epochs most_rounds most_batch 0 1 (replicate most_nodes false); submit = submit }) else None
 
 -- the scenario that bytes say: no more than are read, in UTF-8, and one JSON value
 abbrev pub scenario_of : List ℕ → Option Scenario
-scenario_of bytes = if nat_le (length bytes) most_input && is_utf8 bytes then option_and_then scenario_at (read bytes) else None
+scenario_of bytes = if nat_le (length bytes) longest_scenario && is_utf8 bytes then option_and_then scenario_at (read bytes) else None

@@ -2,6 +2,7 @@
 use Rattle.std.specs.Prelude.{◌≡◌, ℕ, ◌≤◌, ◌==◌, List, [], ◌++◌, length, codes, decimal, Contains, Option, None, Some, option_and_then, Result, OnOk, OnErr, if◌then◌else◌}
 use Rattle.std.specs.List.{flat_map, range_with_len}
 use Rattle.hex.specs.Hex.{encode_lower}
+use Rattle.hb_base.specs.Limits.{longest_transaction}
 use Rattle.hb_base.specs.Numbers.{Numbers}
 use Rattle.hb_base.specs.Outside.{Rose, Puts}
 use Rattle.hb_rules.specs.declared.vote.Vote.TheVariants.{Delivered}
@@ -84,9 +85,9 @@ nodes_text report n = flat_map (node_text report) (range_with_len 0 n)
 unfoldable pub run_text : Report → List ℕ
 run_text report = run_line report.config ++ (nodes_text report report.config.n ++ status_line report.status)
 
--- every value that was delivered has at most 256 bytes, so that it fits into a line
+-- every value that was delivered is as short as a transaction, so that it fits into a line
 pub record AreShort (history : List Post) : Type 0 where
-  pub short : (i x e : ℕ) (value : List ℕ) → Contains (own_in i x history) (Delivered e value) → length value ≤ 256
+  pub short : (i x e : ℕ) (value : List ℕ) → Contains (own_in i x history) (Delivered e value) → length value ≤ longest_transaction
 
 -- ---- the other answers
 

@@ -1,17 +1,15 @@
 ghost use Rattle.hb_app.specs.Input.{Takes};
 
 use hb_base::Source;
+use hb_base::limits::LONGEST_SCENARIO;
 use std::alloc::Global;
-
-/// How many bytes of input are read at most.
-pub const MOST_INPUT: usize = 1_048_576;
 
 /// What reading the input came to.
 #[derive(Debug, Drop)]
 pub enum Input {
-    /// All bytes of the input, at most `MOST_INPUT`.
+    /// All bytes of the input, at most `LONGEST_SCENARIO`.
     Whole(Vec<u8>),
-    /// There are more than `MOST_INPUT` bytes. The rest is left unread.
+    /// There are more than `LONGEST_SCENARIO` bytes. The rest is left unread.
     TooLong,
     /// The source failed.
     Failed,
@@ -19,13 +17,13 @@ pub enum Input {
     Memory,
 }
 
-/// Reads the input to its end, in pieces, as long as it has at most `MOST_INPUT` bytes.
+/// Reads the input to its end, in pieces, as long as it has at most `LONGEST_SCENARIO` bytes.
 pub fn read_input<S: Source>(alloc: Global, source: &mut S) -> Input
     ensures { Takes (S.left source.old) (S.left source.new) (S.faults source.old) (S.faults source.new) result }
 {
     let mut bytes = Vec::new(alloc);
     let mut piece = [0u8; 4096];
-    'pieces: while bytes.len() <= MOST_INPUT {
+    'pieces: while bytes.len() <= LONGEST_SCENARIO {
         match source.take(&mut piece) {
             Err(_) => return Input::Failed,
             Ok(0) => return Input::Whole(bytes),

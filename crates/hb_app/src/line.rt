@@ -1,5 +1,6 @@
 ghost use Rattle.std.specs.Prelude.{◌≡◌, ◌+◌, ◌*◌, ◌≤◌, [], ◌++◌, length, decimal};
 ghost use Rattle.hex.specs.Hex.{encode_lower};
+ghost use Rattle.hb_base.specs.Limits.{longest_transaction};
 
 use arrayvec::ArrayVec;
 use itoa::Buffer;
@@ -51,7 +52,7 @@ impl Line {
 
     /// Appends bytes in lower-case hex. There must be room.
     pub fn hex(&mut self, bytes: &[u8])
-        requires short { length bytes.now ≤ 256 }
+        requires short { length bytes.now ≤ longest_transaction }
         requires room { length self.old + 2 * length bytes.now ≤ 640 }
         ensures value { self.new ≡ self.old ++ encode_lower bytes.now }
         ensures len { length self.new ≡ length self.old + 2 * length bytes.now }

@@ -3,11 +3,14 @@ ghost use Rattle.serde_json.specs.Find.{get, as_object};
 ghost use Rattle.serde_json.specs.Read.{read};
 ghost use Rattle.serde_json.specs.View.{view, items_view, members_view};
 ghost use Rattle.hex.specs.Hex.{decode_of};
+ghost use Rattle.hb_base.specs.Limits.{most_nodes, most_faulty, most_rounds, most_batch, longest_transaction};
 ghost use Rattle.hb_base.specs.Numbers.{numbers};
 ghost use Rattle.hb_app.specs.Scenario.{Gives, is_key, number_at, number_in, is_object_of, has_only, some_bytes, only_item, transaction_at, submit_of, submit_at, scenario_at, scenario_of};
 ghost use Rattle.hb_app.specs.Run.{IsPlain};
 
-use crate::input::MOST_INPUT;
+use hb_base::limits::{
+    LONGEST_SCENARIO, LONGEST_TRANSACTION, MOST_BATCH, MOST_FAULTY, MOST_NODES, MOST_ROUNDS,
+};
 use hb_base::{Bytes, Config, NodeSet};
 use hb_rules::Submit;
 use serde_json::{Map, Value};
@@ -48,7 +51,7 @@ pub fn read_scenario(alloc: Global, bytes: &[u8]) -> Result<Scenario, ScenarioFa
     ensures gives { Gives result (scenario_of bytes.now) }
     ensures plain { IfOk result IsPlain }
 {
-    if bytes.len() > MOST_INPUT {
+    if bytes.len() > LONGEST_SCENARIO {
         return Err(ScenarioFault::NotBuilt);
     }
     let Ok(text) = str::from_utf8(bytes) else {
@@ -69,8 +72,8 @@ fn scenario_at(alloc: Global, value: &Value) -> Result<Scenario, ScenarioFault>
     if !is_object_of(value, &["nodes", "faulty", "epochs", "submit"]) {
         return Err(ScenarioFault::NotBuilt);
     }
-    let n = number_at(value, "nodes", 1, 16).ok_or(ScenarioFault::NotBuilt)?;
-    let f = number_at(value, "faulty", 0, 5).ok_or(ScenarioFault::NotBuilt)?;
+    let n = number_at(value, "nodes", 1, MOST_NODES).ok_or(ScenarioFault::NotBuilt)?;
+    let f = number_at(value, "faulty", 0, MOST_FAULTY).ok_or(ScenarioFault::NotBuilt)?;
     let epochs = number_at(value, "epochs", 1, 1).ok_or(ScenarioFault::NotBuilt)?;
     let submit = submit_at(alloc, value)?;
     let config = config_of(n, f, epochs).ok_or(ScenarioFault::NotBuilt)?;
@@ -124,18 +127,18 @@ fn number_at(value: &Value, key: &str, low: u8, high: u8) -> Option<u8>
 
 // The config of a run of correct nodes, where more than three times as many as may be faulty.
 fn config_of(n: u8, f: u8, epochs: u8) -> Option<Config>
-    requires nodes { (1 ≤ n) × (n ≤ 16) }
-    requires faulty { f ≤ 5 }
+    requires nodes { (1 ≤ n) × (n ≤ most_nodes) }
+    requires faulty { f ≤ most_faulty }
     requires epochs { (1 ≤ epochs) × (epochs ≤ 1) }
-    ensures value { result ≡ (if nat_lt (3 * f) n then Some (numbers n f epochs 32 64 0 1 (replicate 16 false)) else None) }
-    ensures plain { IfSome result (λ config. (config.epochs ≡ 1) × (config.liars ≡ replicate 16 false)) }
+    ensures value { result ≡ (if nat_lt (3 * f) n then Some (numbers n f epochs most_rounds most_batch 0 1 (replicate most_nodes false)) else None) }
+    ensures plain { IfSome result (λ config. (config.epochs ≡ 1) × (config.liars ≡ replicate most_nodes false)) }
 {
-    Config::new(n, f, epochs, 32, 64, 0, 1, NodeSet::new())
+    Config::new(n, f, epochs, MOST_ROUNDS, MOST_BATCH, 0, 1, NodeSet::new())
 }
 
 fn submit_at(alloc: Global, value: &Value) -> Result<Submit, ScenarioFault>
     ensures gives { Gives result (submit_at (view value.now)) }
-    ensures plain { IfOk result (λ submit. (submit.node ≡ 0) × (length submit.tx ≤ 256)) }
+    ensures plain { IfOk result (λ submit. (submit.node ≡ 0) × (length submit.tx ≤ longest_transaction)) }
 {
     let list = value.get("submit").and_then(Value::as_array);
     match list.and_then(only_item) {
@@ -158,7 +161,7 @@ fn only_item(list: &Vec<Value>) -> Option<&Value>
 #[tactic(auto, unfolding(crate::specs::Scenario::submit_of))]
 fn submit_of(alloc: Global, value: &Value) -> Result<Submit, ScenarioFault>
     ensures gives { Gives result (submit_of (view value.now)) }
-    ensures plain { IfOk result (λ submit. (submit.node ≡ 0) × (length submit.tx ≤ 256)) }
+    ensures plain { IfOk result (λ submit. (submit.node ≡ 0) × (length submit.tx ≤ longest_transaction)) }
 {
     if !is_object_of(value, &["node", "tx"]) {
         return Err(ScenarioFault::NotBuilt);
@@ -170,7 +173,7 @@ fn submit_of(alloc: Global, value: &Value) -> Result<Submit, ScenarioFault>
 
 fn transaction_at(alloc: Global, value: &Value) -> Result<Bytes, ScenarioFault>
     ensures gives { Gives result (transaction_at (view value.now)) }
-    ensures short { IfOk result (λ bytes. length bytes ≤ 256) }
+    ensures short { IfOk result (λ bytes. length bytes ≤ longest_transaction) }
 {
     let Some(text) = value.get("tx").and_then(Value::as_str) else {
         return Err(ScenarioFault::NotBuilt);
@@ -181,10 +184,12 @@ fn transaction_at(alloc: Global, value: &Value) -> Result<Bytes, ScenarioFault>
 // The bytes of a hex text, 1 to 256 of them.
 fn decode(alloc: Global, text: &str) -> Result<Bytes, ScenarioFault>
     ensures gives { Gives result (some_bytes (decode_of text.now)) }
-    ensures short { IfOk result (λ bytes. length bytes ≤ 256) }
+    ensures short { IfOk result (λ bytes. length bytes ≤ longest_transaction) }
 {
     match hex::decode(alloc, text) {
-        Ok(bytes) if 1 <= bytes.len() && bytes.len() <= 256 => Ok(Bytes::from(bytes)),
+        Ok(bytes) if 1 <= bytes.len() && bytes.len() <= LONGEST_TRANSACTION => {
+            Ok(Bytes::from_vec(bytes)?)
+        }
         Err(hex::FromHexError::OutOfMemory) => Err(ScenarioFault::Memory),
         _ => Err(ScenarioFault::NotBuilt),
     }

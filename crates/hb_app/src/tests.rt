@@ -1,7 +1,8 @@
 //! What no clause says: that calls find memory, and that the definitions say what was meant.
-use crate::input::{Input, MOST_INPUT, read_input};
+use crate::input::{Input, read_input};
 use crate::scenario::{ScenarioFault, read_scenario};
 use crate::text::print_run;
+use hb_base::limits::LONGEST_SCENARIO;
 use hb_base::{Bytes, Config, MemorySink, MemorySource, NodeSet};
 use hb_rules::{End, Fate, Report};
 use std::alloc::{AllocError, Global};
@@ -33,7 +34,12 @@ fn with_zeros(alloc: Global, count: usize) -> Result<Vec<u8>, AllocError> {
 #[test]
 fn inputs_in_pieces(rt: HostRuntime) -> Result<(), Fail> {
     let alloc = rt.alloc();
-    for (len, step) in [(ROW.len(), 1), (70, 3), (9000, 5000), (MOST_INPUT, 4000)] {
+    for (len, step) in [
+        (ROW.len(), 1),
+        (70, 3),
+        (9000, 5000),
+        (LONGEST_SCENARIO, 4000),
+    ] {
         let bytes = padded(alloc, len)?;
         let copy = Bytes::copy(alloc, bytes.as_slice())?;
         let mut source = MemorySource::new(copy, step, vec![in alloc]?);

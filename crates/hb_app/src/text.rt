@@ -1,5 +1,6 @@
 ghost use Rattle.std.specs.Prelude.{◌≡◌, ◌≤◌, length, IfSome, option_map};
 ghost use Rattle.std.specs.List.{flat_map};
+ghost use Rattle.hb_base.specs.Limits.{longest_transaction};
 ghost use Rattle.hb_app.specs.Text.{Prints, AreShort, run_line, running_line, ended_line, memory_end_line, full_end_line, delivered_line, status_line, fate_text, end_text, state_text, delivered_by, delivered_at, value_text, node_text, nodes_text, run_text};
 
 use crate::line::Line;
@@ -78,7 +79,7 @@ fn delivered_by(post: &Post, node: u8) -> Option<&[u8]>
 }
 
 fn put_value<O: Sink>(value: Option<&[u8]>, out: &mut O) -> Result<(), Failed>
-    requires { IfSome value (λ bytes. length bytes.now ≤ 256) }
+    requires { IfSome value (λ bytes. length bytes.now ≤ longest_transaction) }
     ensures { Prints (O.held out.old) (O.held out.new) (O.faults out.old) (O.faults out.new) result
         (value_text (option_map (λ bytes. bytes.now) value.entry)) }
 {
@@ -193,7 +194,7 @@ fn put_full_end<O: Sink>(actor: u8, out: &mut O) -> Result<(), Failed>
 
 #[tactic(auto, unfolding(crate::specs::Text::delivered_line))]
 fn put_delivered<O: Sink>(value: &[u8], out: &mut O) -> Result<(), Failed>
-    requires { length value.now ≤ 256 }
+    requires { length value.now ≤ longest_transaction }
     ensures { Prints (O.held out.old) (O.held out.new) (O.faults out.old) (O.faults out.new) result (delivered_line value.now) }
 {
     let mut line = Line::new();

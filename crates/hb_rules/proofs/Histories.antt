@@ -1,6 +1,7 @@
 -- Legal histories, one post after another.
-use Rattle.std.proofs.Common.{Contains, inl, inr, ap, ◌^◌, ◌<◌, List, [], ◌∷◌, ◌++◌, length, arith, append_assoc, append-nil, length-append}
+use Rattle.std.proofs.Common.{Contains, inl, inr, ap, ◌<◌, List, [], ◌∷◌, ◌++◌, length, arith, append_assoc, append-nil, length-append}
 use Rattle.std.proofs.lemmas.List.Elements.{Contains-push_cases}
+use Rattle.hb_base.specs.Limits.{most_posts}
 use Rattle.hb_base.specs.Numbers.{Numbers}
 use Rattle.hb_rules.specs.declared.post.Post.{Post}
 use Rattle.hb_rules.specs.History.{MayFollow, AreLegalAfter, IsLegal}
@@ -14,7 +15,7 @@ pub IsLegal-nil : (c : Numbers) → IsLegal c []
 IsLegal-nil c = record { short = omega arith; each = tt }
 
 -- a legal history with room goes on by a post that may follow
-pub IsLegal-push : (c : Numbers) (history : List Post) (post : Post) → IsLegal c history → length history < 2 ^ 22 → MayFollow c history post → IsLegal c (history ++ post ∷ [])
+pub IsLegal-push : (c : Numbers) (history : List Post) (post : Post) → IsLegal c history → length history < most_posts → MayFollow c history post → IsLegal c (history ++ post ∷ [])
 IsLegal-push c history post legal room may = record {
   short = rw length-append (omega arith);
   each = AreLegalAfter-push c [] history post legal.each may;

@@ -1,7 +1,8 @@
 -- What a seat knows stays true while others post.
-use Rattle.std.proofs.Common.{◌≡◌, ℕ, ◌^◌, ◌<◌, inl, inr, List, [], ◌∷◌, ◌++◌, length, refl, sym, ap, ◌∙◌, subst, arith, append-nil}
+use Rattle.std.proofs.Common.{◌≡◌, ℕ, ◌<◌, inl, inr, List, [], ◌∷◌, ◌++◌, length, refl, sym, ap, ◌∙◌, subst, arith, append-nil}
 use Rattle.std.proofs.lemmas.Bool.{eq-eqb}
 use Rattle.std.proofs.lemmas.List.Elements.{filter_map-append}
+use Rattle.hb_base.specs.Limits.{most_posts}
 use Rattle.hb_base.specs.Numbers.{Numbers}
 use Rattle.hb_rules.specs.declared.vote.Vote.{Vote}
 use Rattle.hb_rules.specs.declared.post.Post.{Post}
@@ -36,7 +37,7 @@ pub Watched-refl : (i x : ℕ) (posts : List Post) → Watched i x posts posts
 Watched-refl i x posts = record { between = []; others = refl; is = sym (append-nil posts) }
 
 -- a legal history with room goes on by an allowed vote of a correct node
-pub IsLegal-posted : (c : Numbers) (i x : ℕ) (posts : List Post) (v : Vote) → IsLegal c posts → length posts < 2 ^ 22 → i < c.n → IsAllowed c i x posts v → IsLegal c (posts ++ post_of i x v ∷ [])
+pub IsLegal-posted : (c : Numbers) (i x : ℕ) (posts : List Post) (v : Vote) → IsLegal c posts → length posts < most_posts → i < c.n → IsAllowed c i x posts v → IsLegal c (posts ++ post_of i x v ∷ [])
 IsLegal-posted c i x posts v legal room known allowed =
     IsLegal-push c posts (post_of i x v) legal room (record { known = known; correct = λ _. record { address = refl; allowed = allowed } })
 
@@ -49,7 +50,7 @@ Extended-posted i x posts v = record { added = post_of i x v ∷ []; mine = rw (
 
 -- what a seat was allowed to post leaves its book's history legal
 pub IsLegal-next : (book : BookView) (seat : SeatView) (v : Vote) → IsLegal book.config book.posts → IsSeatOf book seat
-    → IsAllowed seat.config seat.node seat.actor seat.seen v → length book.posts < 2 ^ 22
+    → IsAllowed seat.config seat.node seat.actor seat.seen v → length book.posts < most_posts
     → IsLegal book.config (book.posts ++ post_of seat.node seat.actor v ∷ [])
 IsLegal-next book seat v legal is_seat allowed room =
     let now : IsAllowed seat.config seat.node seat.actor book.posts v =

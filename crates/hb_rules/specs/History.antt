@@ -1,6 +1,7 @@
 -- Histories of posts, and which are legal.
-use Rattle.std.specs.Prelude.{◌≡◌, ℕ, ◌^◌, ◌<◌, ◌≤◌, ◌⊎◌, false, List, [], ◌∷◌, ◌++◌, length, Contains}
+use Rattle.std.specs.Prelude.{◌≡◌, ℕ, ◌<◌, ◌≤◌, ◌⊎◌, false, List, [], ◌∷◌, ◌++◌, length, Contains}
 use Rattle.hb_base.specs.Numbers.{Numbers}
+use Rattle.hb_base.specs.Limits.{most_posts}
 use Rattle.hb_base.specs.NodeSet.{is_in}
 use Rattle.hb_rules.specs.declared.vote.Vote.{Vote}
 use Rattle.hb_rules.specs.declared.post.Post.{Post}
@@ -28,7 +29,7 @@ abbrev pub AreLegalAfter : Numbers → List Post → List Post → Type 0
 AreLegalAfter c before [] = Unit {0}
 AreLegalAfter c before (post ∷ posts) = MayFollow c before post × AreLegalAfter c (before ++ post ∷ []) posts
 
--- a history that a run may have: at most 2^22 posts, each of which may follow those before it
+-- a history that a run may have: no more posts than a book holds, each of which may follow those before it
 pub record IsLegal (c : Numbers) (history : List Post) : Type 0 where
-  pub short : length history ≤ 2 ^ 22
+  pub short : length history ≤ most_posts
   pub each : AreLegalAfter c [] history

@@ -1,4 +1,5 @@
-ghost use Rattle.std.specs.Prelude.{◌≡◌, ◌≢◌, ℕ, ◌^◌, ◌<◌, ◌≤◌, List, length, IfOk, OnErr, slice_get};
+ghost use Rattle.std.specs.Prelude.{◌≡◌, ◌≢◌, ℕ, ◌<◌, ◌≤◌, List, length, IfOk, OnErr, slice_get};
+ghost use Rattle.hb_base.specs.Limits.{most_posts};
 ghost use Rattle.hb_base.specs.Numbers.{Numbers};
 ghost use Rattle.hb_rules.specs.declared.post.Post.{Post};
 ghost use Rattle.hb_rules.specs.History.{IsAllowed};
@@ -12,7 +13,7 @@ use thiserror::Error;
 /// Why a book did not take a post.
 #[derive(Clone, Copy, Debug, PartialEq, Eq, Error)]
 pub enum BookFault {
-    /// 2^22 posts stand in it already.
+    /// As many posts stand in it as may (`MOST_POSTS` of hb_base).
     #[error("the book is full")]
     Full,
     #[error("out of memory")]
@@ -41,17 +42,17 @@ pub trait Book {
     ghost moved: { ℕ → ℕ → Self → Self → Type 0 };
 
     /// Posts a vote that the rules allow, under the seat's name, and answers the number of the post. `Full` comes only
-    /// where 2^22 posts stand. A refusal posts nothing.
+    /// where no post more may stand. A refusal posts nothing.
     fn post(&mut self, seat: &mut Self::Seat, vote: &Vote) -> Result<u32, BookFault>
         requires seat { knows self.old seat.old }
         requires allowed { IsAllowed (config seat.old) (node seat.old) (actor seat.old) (seen seat.old) vote.now }
         ensures seat { knows self.new seat.new }
         ensures same { (config seat.new ≡ config seat.old) × (node seat.new ≡ node seat.old) × (actor seat.new ≡ actor seat.old) }
         ensures moved { moved (node seat.old) (actor seat.old) self.old self.new }
-        ensures posted { IfOk result (λ k. (k < 2 ^ 22)
+        ensures posted { IfOk result (λ k. (k < most_posts)
             × Posted (node seat.old) (actor seat.old) vote.now k (seen seat.old) (seen seat.new)) }
         ensures refused { OnErr result (Watched (node seat.old) (actor seat.old) (seen seat.old) (seen seat.new)) }
-        ensures full { result ≡ Err BookFault.Full → length (seen seat.new) ≡ 2 ^ 22 };
+        ensures full { result ≡ Err BookFault.Full → length (seen seat.new) ≡ most_posts };
 
     /// A copy of post k: None exactly where fewer posts stand.
     fn read(

@@ -1,4 +1,5 @@
-ghost use Rattle.std.specs.Prelude.{◌≡◌, ℕ, ◌^◌, ◌<◌, ◌≤◌, [], ◌∷◌, ◌++◌, length, take, IfOk, OnOk, OnErr, slice_get};
+ghost use Rattle.std.specs.Prelude.{◌≡◌, ℕ, ◌<◌, ◌≤◌, [], ◌∷◌, ◌++◌, length, take, IfOk, OnOk, OnErr, slice_get};
+ghost use Rattle.hb_base.specs.Limits.{most_posts};
 ghost use Rattle.hb_rules.specs.Hearing.{own_in};
 ghost use Rattle.hb_rules.specs.History.{IsAllowed, IsLegal};
 ghost use Rattle.hb_rules.specs.Book.{post_of, Watched, Posted, IsSeatOf, Moved};
@@ -9,12 +10,10 @@ use crate::plain_seat::PlainSeat;
 use crate::post::Post;
 use crate::vote::Vote;
 use hb_base::Config;
+use hb_base::limits::MOST_POSTS;
 use std::alloc::{AllocError, Global};
 use std::marker::Model;
 use std::snapshot::Snapshot;
-
-/// How many posts a book holds.
-const MOST_POSTS: usize = 4_194_304;
 
 /// A book that one thread keeps. Its history is legal at every moment. Clauses see a `BookView`.
 #[derive(Drop)]
@@ -113,15 +112,15 @@ impl Book for PlainBook {
         ensures seat { IsSeatOf self.new seat.new }
         ensures same { (seat.new.config ≡ seat.old.config) × (seat.new.node ≡ seat.old.node) × (seat.new.actor ≡ seat.old.actor) }
         ensures moved { Moved seat.old.node seat.old.actor self.old self.new }
-        ensures posted { IfOk result (λ k. (k < 2 ^ 22)
+        ensures posted { IfOk result (λ k. (k < most_posts)
             × Posted seat.old.node seat.old.actor vote.now k seat.old.seen seat.new.seen) }
         ensures refused { OnErr result (Watched seat.old.node seat.old.actor seat.old.seen seat.new.seen) }
-        ensures full { result ≡ Err BookFault.Full → length seat.new.seen ≡ 2 ^ 22 }
+        ensures full { result ≡ Err BookFault.Full → length seat.new.seen ≡ most_posts }
         ensures whole { seat.new.seen ≡ self.new.posts }
         ensures nothing { OnErr result (self.new ≡ self.old) }
     {
         let number = see(&self.history, seat);
-        if number as usize >= MOST_POSTS {
+        if number >= MOST_POSTS {
             return Err(BookFault::Full);
         }
         add(&mut self.history, seat.node, seat.actor, vote)?;
@@ -180,7 +179,7 @@ fn add(history: &mut Vec<Post>, node: u8, actor: u8, vote: &Vote) -> Result<(), 
 
 // Shows the whole history to a seat, and answers how many posts it has.
 fn see(history: &Vec<Post>, seat: &mut PlainSeat) -> u32
-    requires { length history.now.items ≤ 2 ^ 22 }
+    requires { length history.now.items ≤ most_posts }
     ensures seat { seat.new ≡ record { config = seat.old.config; node = seat.old.node; actor = seat.old.actor; seen = history.now.items } }
     ensures count { result ≡ length history.now.items }
 {

@@ -1,4 +1,5 @@
-use Rattle.std.specs.Prelude.{◌^◌, ◌-◌}
+use Rattle.std.specs.Prelude.{◌-◌}
+use Rattle.hb_base.specs.Limits.{most_posts}
 use Rattle.hb_app.proofs.Runs.{IsDeliveringAll}
 use Rattle.hb_app.proofs.driver.deliver_all.Given as goal
 
@@ -6,4 +7,4 @@ abbrev pub invariant-posts : goal.invariant-posts
 invariant-posts l = IsDeliveringAll l.fn.book l.fn.team.items l.book l.team.items l.k
 
 abbrev pub decreases-posts : goal.decreases-posts
-decreases-posts l = 2 ^ 22 - l.k
+decreases-posts l = most_posts - l.k

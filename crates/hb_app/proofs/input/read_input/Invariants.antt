@@ -1,6 +1,6 @@
 use Rattle.std.proofs.Common.{◌≡◌, ◌+◌, ◌-◌, vec_len}
 use Rattle.std.specs.Io.KnownBytes.{Consumes}
-use Rattle.hb_app.specs.Input.{most_input}
+use Rattle.hb_base.specs.Limits.{longest_scenario}
 use Rattle.hb_app.proofs.input.read_input.Given as goal
 
 abbrev pub invariant-pieces : goal.invariant-pieces
@@ -10,4 +10,4 @@ invariant-pieces g l = record {
 }
 
 abbrev pub decreases-pieces : goal.decreases-pieces
-decreases-pieces g l = most_input + 1 - vec_len l.bytes
+decreases-pieces g l = longest_scenario + 1 - vec_len l.bytes
