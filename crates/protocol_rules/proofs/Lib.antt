@@ -1,0 +1,10 @@
+pub mod Lists
+pub mod Counts
+pub mod Passing
+pub mod Within
+pub mod Tested
+pub mod Rows
+pub mod Among
+pub mod FirstShards
+pub mod BroadcastParts
+pub mod BroadcastSlots

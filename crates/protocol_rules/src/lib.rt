@@ -1,0 +1,21 @@
+//! The rules of the protocol: who hears which post, what an actor may cast and what it has to cast, which histories of
+//! posts are legal, the books that keep the posts, the actors that cast them, and the report of a run.
+#![tactic(auto)]
+
+pub mod actor;
+pub mod agreement_slot;
+pub mod book;
+pub mod due;
+pub mod laws;
+pub mod outbox;
+pub mod report;
+#[cfg(test)]
+mod tests;
+
+pub use actor::{Actor, ActorFault};
+pub use agreement_slot::AgreementSlot;
+pub use book::{Book, BookFault};
+pub use due::Due;
+pub use laws::{broadcast_slot_laws, row_laws, slot_laws};
+pub use outbox::Outbox;
+pub use report::{End, Fate, Report, running};
