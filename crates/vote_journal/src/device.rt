@@ -7,6 +7,16 @@ ghost use Rattle.vote_journal.specs.Runs.{IsStep};
 use crate::JournalFault;
 use disk_model::{Disk, Half};
 
+/// Makes durable what is pending.
+pub(crate) fn make_durable<D: Disk>(disk: &mut D) -> Result<(), JournalFault>
+    ensures seen { D.seen disk.new ≡ D.seen disk.old }
+    ensures step { IsStep D.seen D.may_leave D.moment D.left_since D.faults D.supply D.explains disk.old disk.new
+        (D.may_leave disk.old) result }
+{
+    disk.sync()?;
+    Ok(())
+}
+
 /// Writes over what is durable, and makes it durable.
 pub(crate) fn write_through<D: Disk>(
     disk: &mut D,
@@ -22,8 +32,7 @@ pub(crate) fn write_through<D: Disk>(
         (OnHalf half (TornWrite at (length bytes.now)) (D.seen disk.old)) result }
 {
     disk.write_at(half, at, bytes)?;
-    disk.sync()?;
-    Ok(())
+    make_durable(disk)
 }
 
 /// Cuts what is durable, and makes that durable.
@@ -35,6 +44,5 @@ pub(crate) fn cut_through<D: Disk>(disk: &mut D, half: Half, len: u64) -> Result
         (OnHalf half (Cut len) (D.seen disk.old)) result }
 {
     disk.cut(half, len)?;
-    disk.sync()?;
-    Ok(())
+    make_durable(disk)
 }

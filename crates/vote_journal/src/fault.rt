@@ -16,7 +16,7 @@ pub enum JournalFault {
     /// A half holds more than 9 bytes and doesn't begin with the magic.
     #[error("the disk holds no journal")]
     NotAJournal,
-    /// No memory was left.
+    /// No memory was left, for the journal or for the disk.
     #[error("no memory was left")]
     Memory,
 }

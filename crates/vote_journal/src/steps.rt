@@ -7,7 +7,7 @@ ghost use Rattle.vote_journal.specs.Text.{half_entries, size_bytes, blocks, Hold
 ghost use Rattle.vote_journal.specs.Steps.{MayGain, MayShut, BothTorn, MayBegin, begun, begun_half};
 
 use crate::JournalFault;
-use crate::device::{cut_through, write_through};
+use crate::device::{cut_through, make_durable, write_through};
 use disk_model::{Disk, Half};
 use std::alloc::{AllocError, Global};
 
@@ -138,8 +138,7 @@ fn begin_both<D: Disk>(disk: &mut D) -> Result<(), JournalFault>
 {
     disk.write_at(Half::A, 0, &START)?;
     disk.write_at(Half::B, 0, &START)?;
-    disk.sync()?;
-    Ok(())
+    make_durable(disk)
 }
 
 /// Begins each half that is short, and makes that durable where there is one.

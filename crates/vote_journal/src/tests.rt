@@ -130,7 +130,7 @@ fn many_entries_are_folded_into_one(rt: HostRuntime) -> Result<(), Fail> {
     Ok(())
 }
 
-// What was seen of a disk on which a journal was begun, appended to three times and folded, up to the first call that failed,
+// What was seen of a disk on which a journal was begun, appended to so many times and folded, up to the first call that failed,
 // and which was then switched on where it was off, and recovered, until that went well.
 #[derive(Clone, Copy, Debug, PartialEq, Eq)]
 struct Outcome {
@@ -142,21 +142,21 @@ struct Outcome {
     found: Option<u32>,
 }
 
-// Begins a journal, appends three times and folds, up to the first call that fails.
-fn written(alloc: Global, disk: MemoryDisk) -> (MemoryDisk, u32, bool)
+// Begins a journal, appends so many times and folds, up to the first call that fails.
+fn written(alloc: Global, disk: MemoryDisk, count: u32) -> (MemoryDisk, u32, bool)
     requires { IsEmpty ⟦<MemoryDisk as Disk>⟧.seen ⟦<MemoryDisk as Disk>⟧.may_leave disk }
 {
     let mut journal = match Journal::recover(alloc, disk) {
         Ok((journal, _)) => journal,
         Err((disk, _)) => return (disk, 0, false),
     };
-    for done in 0..3 {
+    for done in 0..count {
         if journal.append(&PAYLOAD).is_err() {
             return (journal.into_disk(), done, false);
         }
     }
     let folded = fold(&mut journal).is_ok();
-    (journal.into_disk(), 3, folded)
+    (journal.into_disk(), count, folded)
 }
 
 impl Outcome {
@@ -180,10 +180,15 @@ fn payloads_in(text: &[u8]) -> Option<u32> {
     }
 }
 
-fn outcome_of(alloc: Global, stops: &[Stop], faults: &[u32]) -> Result<Outcome, JournalFault>
+fn outcome_of(
+    alloc: Global,
+    count: u32,
+    stops: &[Stop],
+    faults: &[u32],
+) -> Result<Outcome, JournalFault>
     requires { length stops.now < 5 }
 {
-    let (mut disk, acknowledged, folded) = written(alloc, new_disk(alloc, stops, faults)?);
+    let (mut disk, acknowledged, folded) = written(alloc, new_disk(alloc, stops, faults)?, count);
     let mut switched_on: u32 = 0;
     for refused in 0..8 {
         if disk.is_off() {
@@ -212,9 +217,38 @@ fn is_off_each_time(outcome: Outcome) -> bool {
     outcome.refused >= 1 && outcome.switched_on == outcome.refused.saturating_add(1)
 }
 
-// The recovery of a new disk takes the calls 1 to 6, three appends 7 to 18, and the fold 19 to 27. Each of them is stopped, with
-// each of the things that a stop may leave, or fails. What was acknowledged is found, and of the append that failed the entry or
-// nothing.
+// Whether so many appends and a fold of which this call is stopped, with each of the things that a stop may leave, or fails,
+// come out with so many acknowledged, and then as many found or `most`.
+fn is_kept(
+    alloc: Global,
+    count: u32,
+    call: u32,
+    acknowledged: u32,
+    most: u32,
+) -> Result<bool, JournalFault> {
+    let want = Outcome {
+        acknowledged,
+        folded: false,
+        switched_on: 1,
+        refused: 0,
+        found: Some(acknowledged),
+    };
+    for leave in LEAVES {
+        let outcome = outcome_of(alloc, count, &[Stop { call, leave }], &[])?;
+        if outcome != want && outcome != want.with(most) {
+            return Ok(false);
+        }
+    }
+    let want = Outcome {
+        switched_on: 0,
+        ..want
+    };
+    let outcome = outcome_of(alloc, count, &[], &[call])?;
+    Ok(outcome == want || outcome == want.with(most))
+}
+
+// The recovery of a new disk takes the calls 1 to 6, three appends 7 to 18, and the fold 19 to 27. Each of them is stopped or fails.
+// What was acknowledged is found, and of the append that failed the entry or nothing.
 #[test]
 fn each_call_is_stopped_or_fails(rt: HostRuntime) -> Result<(), Fail> {
     let alloc = rt.alloc();
@@ -225,26 +259,22 @@ fn each_call_is_stopped_or_fails(rt: HostRuntime) -> Result<(), Fail> {
         } else {
             acknowledged + 1
         };
-        let want = Outcome {
-            acknowledged,
-            folded: false,
-            switched_on: 1,
-            refused: 0,
-            found: Some(acknowledged),
-        };
-        for leave in LEAVES {
-            let outcome = outcome_of(alloc, &[Stop { call, leave }], &[])?;
-            assert!(rt; outcome == want || outcome == want.with(most), "at {call}");
-        }
-        let want = Outcome {
-            switched_on: 0,
-            ..want
-        };
-        let outcome = outcome_of(alloc, &[], &[call])?;
-        assert!(rt; outcome == want || outcome == want.with(most), "at {call}");
+        assert!(rt; is_kept(alloc, 3, call, acknowledged, most)?, "at {call}");
     }
-    let outcome = outcome_of(alloc, &[], &[28])?;
+    let outcome = outcome_of(alloc, 3, &[], &[28])?;
     assert!(rt; outcome.folded && outcome.found == Some(3));
+    Ok(())
+}
+
+// With 64 appends, at which number an actor folds, the fold takes the calls 263 to 271. All of the entries are found.
+#[test]
+fn each_call_of_a_long_fold_is_stopped_or_fails(rt: HostRuntime) -> Result<(), Fail> {
+    let alloc = rt.alloc();
+    for call in 263u32..272 {
+        assert!(rt; is_kept(alloc, 64, call, 64, 64)?, "at {call}");
+    }
+    let outcome = outcome_of(alloc, 64, &[], &[272])?;
+    assert!(rt; outcome.folded && outcome.found == Some(64));
     Ok(())
 }
 
@@ -258,7 +288,7 @@ fn a_recovery_that_is_stopped_is_taken_up_again(rt: HostRuntime) -> Result<(), F
                 call: call + 2,
                 leave,
             };
-            let outcome = outcome_of(alloc, &[Stop { call, leave }, next], &[])?;
+            let outcome = outcome_of(alloc, 3, &[Stop { call, leave }, next], &[])?;
             assert_eq!(rt; (outcome.switched_on, outcome.refused), (2, 1), "at {call}");
             assert_eq!(rt; outcome.found, Some(0), "at {call}");
         }
@@ -283,12 +313,12 @@ fn a_recovery_of_two_halves_keeps_the_text(rt: HostRuntime) -> Result<(), Fail> 
                     call: call + later,
                     leave,
                 };
-                let outcome = outcome_of(alloc, &[fold_stops, Stop { call, leave }, next], &[])?;
+                let outcome = outcome_of(alloc, 3, &[fold_stops, Stop { call, leave }, next], &[])?;
                 assert_eq!(rt; outcome.found, Some(3), "at {call} and {later} later");
                 assert!(rt; is_off_each_time(outcome), "at {call} and {later} later");
             }
         }
-        let outcome = outcome_of(alloc, &[fold_stops], &[call])?;
+        let outcome = outcome_of(alloc, 3, &[fold_stops], &[call])?;
         assert_eq!(rt; outcome.found, Some(3), "at {call}");
         assert_eq!(rt; (outcome.switched_on, outcome.refused), (1, 1), "at {call}");
     }
@@ -314,14 +344,25 @@ fn appends_cost_the_same(rt: HostRuntime) -> Result<(), Fail> {
     Ok(())
 }
 
+// How many device calls a disk has had once it was used for a payload of so many bytes.
+fn calls_with(alloc: Global, len: u16) -> Result<u32, AllocError> {
+    let payload = vec![in alloc; 7; len as usize]?;
+    let disk = used(alloc, new_disk(alloc, &[], &[])?, &payload);
+    Ok(disk.note().calls())
+}
+
 // The law of rows of calls is of calls that can be made. The second recovery takes five: a sync, two reads, and a write
-// and a sync that begin half B again, which has no more than 9 bytes.
+// and a sync that begin half B again, which has no more than 9 bytes. Half A has 14 bytes more than the payload, so from
+// 4,082 bytes of payload on it takes a read more, and from 8,178 on another.
 #[test]
 fn a_disk_is_used(rt: HostRuntime) -> Result<(), Fail> {
     let alloc = rt.alloc();
     let disk = used(alloc, new_disk(alloc, &[], &[])?, &PAYLOAD);
     assert_eq!(rt; disk.note().calls(), 6 + 4 + 5);
     assert_eq!(rt; found_on(alloc, disk)?, (1, Some(1)));
+    for (len, want) in [(4081, 15), (4082, 16), (8177, 16), (8178, 17)] {
+        assert_eq!(rt; calls_with(alloc, len)?, want, "{len} bytes");
+    }
     Ok(())
 }
 
@@ -361,5 +402,52 @@ fn the_bytes_say_what_is_recovered(rt: HostRuntime) -> Result<(), Fail> {
     }
     let refused = recovered(alloc, none, &[0xFF; 10]).err();
     assert_eq!(rt; refused, Some(JournalFault::NotAJournal));
+    Ok(())
+}
+
+// A half of so many bytes with no entry: the magic and zeros, or the front of that.
+fn blank(alloc: Global, len: usize) -> Result<Vec<u8>, AllocError> {
+    let mut half = Vec::from_slice(alloc, b"HBVJ0002")?;
+    half.resize(len, 0)?;
+    Ok(half)
+}
+
+// How many device calls the recovery of two halves without an entry takes.
+fn calls_of_recovery(alloc: Global, a: usize, b: usize) -> Result<u32, JournalFault> {
+    let mut disk = new_disk(alloc, &[], &[])?;
+    disk.write_at(Half::A, 0, &blank(alloc, a)?)?;
+    disk.write_at(Half::B, 0, &blank(alloc, b)?)?;
+    match Journal::recover(alloc, disk) {
+        Ok((journal, _)) => Ok(journal.disk().note().calls().saturating_sub(2)),
+        Err((_, fault)) => Err(fault),
+    }
+}
+
+// A recovery syncs, and reads each half in pieces of 4,096 bytes up to the first that comes short: a half of L bytes takes
+// L / 4,096 + 1 reads. A half of at most 9 bytes is begun by one write, and one sync follows. No clause says how many calls
+// there are, since a disk of any kind counts none.
+#[test]
+fn halves_are_read_in_pieces(rt: HostRuntime) -> Result<(), Fail> {
+    let alloc = rt.alloc();
+    for (a, b, want) in [
+        (0, 0, 6),
+        (9, 9, 6),
+        (10, 9, 5),
+        (9, 10, 5),
+        (10, 10, 3),
+        (999, 1000, 3),
+        (4095, 10, 3),
+        (4096, 10, 4),
+        (4097, 10, 4),
+        (10, 4095, 3),
+        (10, 4096, 4),
+        (4096, 4096, 5),
+        (8191, 10, 4),
+        (8192, 9, 7),
+        (12_287, 8192, 7),
+        (12_288, 0, 8),
+    ] {
+        assert_eq!(rt; calls_of_recovery(alloc, a, b)?, want, "{a} and {b} bytes");
+    }
     Ok(())
 }

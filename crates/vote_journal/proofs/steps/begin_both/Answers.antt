@@ -1,5 +1,5 @@
 use Rattle.std.proofs.Common.{rules}
-use Rattle.vote_journal.proofs.Moments.{one_call}
+use Rattle.vote_journal.proofs.Moments.{and_then}
 use Rattle.vote_journal.proofs.Starts.{both_run, left_by_both}
 use Rattle.vote_journal.proofs.steps.begin_both.Goals as goal
 
@@ -16,38 +16,13 @@ returns-in_err-write_at-2-clause-step g c =
       no_other = search rules;
     }
 
-pub returns-in_err-sync-clause-step : goal.returns-in_err-sync-clause-step
-returns-in_err-sync-clause-step g c =
-    let old = c.args.disk.now in
-    let image = g.D.Disk.seen old in
-    let one = c.write_at.ensures in
-    let two = c.write_at-2.ensures in
-    let last = c.sync.ensures in
-    let run = both_run image _ _ _ c.requires.durable one.crash two.crash _ c.write_at.new.self c.write_at-2.new.self (g.met.D.Disk.only_now old)
-    one.time one.cause.later one.supply two.time two.cause.later two.supply in
-    record {
-      durable = search rules;
-      runs = one_call run last.time
-          (λ c' may. left_by_both image _ _ _ c.requires.durable one.crash two.crash c' (last.crash c' may))
-          last.cause.later last.supply;
-      failed = search rules;
-      no_other = search rules;
-    }
-
 pub returns-clause-step : goal.returns-clause-step
 returns-clause-step g c =
     let old = c.args.disk.now in
     let image = g.D.Disk.seen old in
     let one = c.write_at.ensures in
     let two = c.write_at-2.ensures in
-    let last = c.sync.ensures in
-    let run = both_run image _ _ _ c.requires.durable one.crash two.crash _ c.write_at.new.self c.write_at-2.new.self (g.met.D.Disk.only_now old)
-    one.time one.cause.later one.supply two.time two.cause.later two.supply in
-    record {
-      durable = search rules;
-      runs = one_call run last.time
-          (λ c' may. left_by_both image _ _ _ c.requires.durable one.crash two.crash c' (last.crash c' may))
-          last.cause.later last.supply;
-      failed = search rules;
-      no_other = search rules;
-    }
+    and_then
+    (both_run image _ _ _ c.requires.durable one.crash two.crash _ c.write_at.new.self c.write_at-2.new.self (g.met.D.Disk.only_now old)
+    one.time one.cause.later one.supply two.time two.cause.later two.supply)
+    c.make_durable.ensures.step (λ c' both. both) (left_by_both image _ _ _ c.requires.durable one.crash two.crash)
