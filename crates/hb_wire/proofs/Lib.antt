@@ -5,3 +5,4 @@ pub mod ListLemmas
 pub mod VoteLemmas
 pub mod GlanceLemmas
 pub mod BatchLemmas
+pub mod Equality

@@ -36,10 +36,15 @@ pub record Front (n version kind epoch : ℕ) (bytes : List ℕ) (vote : Vote) (
   pub has_row : HasRow n version kind epoch (flat_map field_bytes (row vote).fields) vote
   pub parts : bytes ≡ flat_map field_bytes (row vote).fields ++ rest
 
+-- what is read of bytes is a vote of this kind and epoch, and they begin with its fields
+abbrev Takes : ℕ → ℕ → ℕ → ℕ → (List ℕ → Option (Vote × List ℕ)) → Type 0
+Takes n version kind epoch read =
+    (bytes : List ℕ) (vote : Vote) (rest : List ℕ) → IsBytes bytes → read bytes ≡ Some (vote, rest) → Front n version kind epoch bytes vote rest
+
 made_takes : {X : Type 0} {p : List ℕ → Option (X × List ℕ)} {f : X → List ℕ} {F : X → Type 0} (h : X → Vote) → Reads p f F
     → (n version kind epoch : ℕ)
     → ((x : X) → F x → HasRow n version kind epoch (f x) (h x))
-    → (bytes : List ℕ) (vote : Vote) (rest : List ℕ) → IsBytes bytes → made h p bytes ≡ Some (vote, rest) → Front n version kind epoch bytes vote rest
+    → Takes n version kind epoch (made h p)
 made_takes {X} {p} {f} {F} h reads n version kind epoch shape bytes vote rest fits e =
     let a = bind_some (p bytes) (λ x. Some (h x.0, x.1)) (vote, rest) e in
     let t = reads.takes bytes a.0.0 a.0.1 fits a.1 in
@@ -56,113 +61,85 @@ made_again : {X : Type 0} {p : List ℕ → Option (X × List ℕ)} {f : X → L
     → (x : X) (rest : List ℕ) → F x → made h p (f x ++ rest) ≡ Some (h x, rest)
 made_again {X} h reads x rest fits = ap (λ (r : Option (X × List ℕ)). r >>= λ y. Some (h y.0, y.1)) (reads.again x rest fits)
 
-val_takes : (n version epoch : ℕ) → 1 ≤ version → (bytes : List ℕ) (vote : Vote) (rest : List ℕ) → IsBytes bytes
-    → val_at n epoch bytes ≡ Some (vote, rest)
-    → Front n version 1 epoch bytes vote rest
+val_takes : (n version epoch : ℕ) → 1 ≤ version → Takes n version 1 epoch (val_at n epoch)
 unfolding val_at
 val_takes n version epoch begun =
     made_takes (λ x. Val epoch x.0 x.1.0 x.1.1.0 x.1.1.1.0) (reads_pair (reads_byte n) (reads_pair (reads_block 32) (reads_pair (reads_sized 1 longest_shard (omega arith)) (reads_pair (reads_path n) reads_ended)))) n version 1 epoch
     (λ x fits. record { kind_is = refl; epoch_is = refl; begun = begun; fields = fits; parts = refl })
 
-echo_takes : (n version epoch : ℕ) → 1 ≤ version → (bytes : List ℕ) (vote : Vote) (rest : List ℕ) → IsBytes bytes
-    → echo_at n epoch bytes ≡ Some (vote, rest)
-    → Front n version 2 epoch bytes vote rest
+echo_takes : (n version epoch : ℕ) → 1 ≤ version → Takes n version 2 epoch (echo_at n epoch)
 unfolding echo_at
 echo_takes n version epoch begun =
     made_takes (λ x. Echo epoch x.0 x.1.0 x.1.1.0) (reads_pair (reads_block 32) (reads_pair (reads_sized 1 longest_shard (omega arith)) (reads_pair (reads_path n) reads_ended))) n version 2 epoch
     (λ x fits. record { kind_is = refl; epoch_is = refl; begun = begun; fields = fits; parts = refl })
 
-ready_takes : (n version epoch : ℕ) → 1 ≤ version → (bytes : List ℕ) (vote : Vote) (rest : List ℕ) → IsBytes bytes
-    → ready_at epoch bytes ≡ Some (vote, rest)
-    → Front n version 3 epoch bytes vote rest
+ready_takes : (n version epoch : ℕ) → 1 ≤ version → Takes n version 3 epoch (ready_at epoch)
 unfolding ready_at
 ready_takes n version epoch begun =
     made_takes (λ x. Ready epoch x.0) (reads_pair (reads_block 32) reads_ended) n version 3 epoch
     (λ x fits. record { kind_is = refl; epoch_is = refl; begun = begun; fields = fits; parts = refl })
 
-delivered_takes : (n version epoch : ℕ) → 1 ≤ version → (bytes : List ℕ) (vote : Vote) (rest : List ℕ) → IsBytes bytes
-    → delivered_at epoch bytes ≡ Some (vote, rest)
-    → Front n version 4 epoch bytes vote rest
+delivered_takes : (n version epoch : ℕ) → 1 ≤ version → Takes n version 4 epoch (delivered_at epoch)
 unfolding delivered_at
 delivered_takes n version epoch begun =
     made_takes (λ x. Delivered epoch x.0) (reads_pair (reads_sized 0 longest_value (omega arith)) reads_ended) n version 4 epoch
     (λ x fits. record { kind_is = refl; epoch_is = refl; begun = begun; fields = fits; parts = refl })
 
-est_takes : (n version epoch : ℕ) → 1 ≤ version → (bytes : List ℕ) (vote : Vote) (rest : List ℕ) → IsBytes bytes
-    → est_at epoch bytes ≡ Some (vote, rest)
-    → Front n version 5 epoch bytes vote rest
+est_takes : (n version epoch : ℕ) → 1 ≤ version → Takes n version 5 epoch (est_at epoch)
 unfolding est_at
 est_takes n version epoch begun =
     made_takes (λ x. Est epoch x.0 x.1.0) (reads_pair (reads_byte most_rounds) (reads_pair reads_bit reads_ended)) n version 5 epoch
     (λ x fits. record { kind_is = refl; epoch_is = refl; begun = begun; fields = fits; parts = refl })
 
-bval_takes : (n version epoch : ℕ) → 1 ≤ version → (bytes : List ℕ) (vote : Vote) (rest : List ℕ) → IsBytes bytes
-    → bval_at epoch bytes ≡ Some (vote, rest)
-    → Front n version 6 epoch bytes vote rest
+bval_takes : (n version epoch : ℕ) → 1 ≤ version → Takes n version 6 epoch (bval_at epoch)
 unfolding bval_at
 bval_takes n version epoch begun =
     made_takes (λ x. Bval epoch x.0 x.1.0) (reads_pair (reads_byte most_rounds) (reads_pair reads_bit reads_ended)) n version 6 epoch
     (λ x fits. record { kind_is = refl; epoch_is = refl; begun = begun; fields = fits; parts = refl })
 
-aux_takes : (n version epoch : ℕ) → 1 ≤ version → (bytes : List ℕ) (vote : Vote) (rest : List ℕ) → IsBytes bytes
-    → aux_at epoch bytes ≡ Some (vote, rest)
-    → Front n version 7 epoch bytes vote rest
+aux_takes : (n version epoch : ℕ) → 1 ≤ version → Takes n version 7 epoch (aux_at epoch)
 unfolding aux_at
 aux_takes n version epoch begun =
     made_takes (λ x. Aux epoch x.0 x.1.0) (reads_pair (reads_byte most_rounds) (reads_pair reads_bit reads_ended)) n version 7 epoch
     (λ x fits. record { kind_is = refl; epoch_is = refl; begun = begun; fields = fits; parts = refl })
 
-pick_takes : (n version epoch : ℕ) → 1 ≤ version → (bytes : List ℕ) (vote : Vote) (rest : List ℕ) → IsBytes bytes
-    → pick_at epoch bytes ≡ Some (vote, rest)
-    → Front n version 8 epoch bytes vote rest
+pick_takes : (n version epoch : ℕ) → 1 ≤ version → Takes n version 8 epoch (pick_at epoch)
 unfolding pick_at
 pick_takes n version epoch begun =
     made_takes (λ x. Pick epoch x.0 x.1.0) (reads_pair (reads_byte most_rounds) (reads_pair reads_set reads_ended)) n version 8 epoch
     (λ x fits. record { kind_is = refl; epoch_is = refl; begun = begun; fields = fits; parts = refl })
 
-coin_takes : (n version epoch : ℕ) → 1 ≤ version → (bytes : List ℕ) (vote : Vote) (rest : List ℕ) → IsBytes bytes
-    → coin_at n epoch bytes ≡ Some (vote, rest)
-    → Front n version 9 epoch bytes vote rest
+coin_takes : (n version epoch : ℕ) → 1 ≤ version → Takes n version 9 epoch (coin_at n epoch)
 unfolding coin_at
 coin_takes n version epoch begun =
     made_takes (λ x. Coin epoch x.0 x.1.0 x.1.1.0 x.1.1.1.0) (reads_pair (reads_byte most_rounds) (reads_pair (reads_byte 256) (reads_pair (reads_block 16) (reads_pair (reads_path n) reads_ended)))) n version 9 epoch
     (λ x fits. record { kind_is = refl; epoch_is = refl; begun = begun; fields = fits; parts = refl })
 
-decided_takes : (n version epoch : ℕ) → 1 ≤ version → (bytes : List ℕ) (vote : Vote) (rest : List ℕ) → IsBytes bytes
-    → decided_at epoch bytes ≡ Some (vote, rest)
-    → Front n version 10 epoch bytes vote rest
+decided_takes : (n version epoch : ℕ) → 1 ≤ version → Takes n version 10 epoch (decided_at epoch)
 unfolding decided_at
 decided_takes n version epoch begun =
     made_takes (λ x. Decided epoch x.0) (reads_pair reads_bit reads_ended) n version 10 epoch
     (λ x fits. record { kind_is = refl; epoch_is = refl; begun = begun; fields = fits; parts = refl })
 
-conf_takes : (n version epoch : ℕ) → 2 ≤ version → (bytes : List ℕ) (vote : Vote) (rest : List ℕ) → IsBytes bytes
-    → conf_at epoch bytes ≡ Some (vote, rest)
-    → Front n version 11 epoch bytes vote rest
+conf_takes : (n version epoch : ℕ) → 2 ≤ version → Takes n version 11 epoch (conf_at epoch)
 unfolding conf_at
 conf_takes n version epoch begun =
     made_takes (λ x. Conf epoch x.0 x.1.0) (reads_pair (reads_byte most_rounds) (reads_pair reads_set reads_ended)) n version 11 epoch
     (λ x fits. record { kind_is = refl; epoch_is = refl; begun = begun; fields = fits; parts = refl })
 
-propose_takes : (n version epoch : ℕ) → 1 ≤ version → (bytes : List ℕ) (vote : Vote) (rest : List ℕ) → IsBytes bytes
-    → propose_at epoch bytes ≡ Some (vote, rest)
-    → Front n version 16 epoch bytes vote rest
+propose_takes : (n version epoch : ℕ) → 1 ≤ version → Takes n version 16 epoch (propose_at epoch)
 unfolding propose_at
 propose_takes n version epoch begun =
     made_takes (λ x. Propose epoch x.0) (reads_pair (reads_sized 0 longest_value (omega arith)) reads_ended) n version 16 epoch
     (λ x fits. record { kind_is = refl; epoch_is = refl; begun = begun; fields = fits; parts = refl })
 
-no_more_takes : (n version epoch : ℕ) → 1 ≤ version → (bytes : List ℕ) (vote : Vote) (rest : List ℕ) → IsBytes bytes
-    → no_more_at epoch bytes ≡ Some (vote, rest)
-    → Front n version 17 epoch bytes vote rest
+no_more_takes : (n version epoch : ℕ) → 1 ≤ version → Takes n version 17 epoch (no_more_at epoch)
 unfolding no_more_at
 no_more_takes n version epoch begun =
     made_takes (λ x. NoMore epoch) (reads_ended) n version 17 epoch
     (λ x fits. record { kind_is = refl; epoch_is = refl; begun = begun; fields = fits; parts = refl })
 
-closed_takes : (n version epoch : ℕ) → 1 ≤ version → (bytes : List ℕ) (vote : Vote) (rest : List ℕ) → IsBytes bytes
-    → closed_at n epoch bytes ≡ Some (vote, rest)
-    → Front n version 18 epoch bytes vote rest
+closed_takes : (n version epoch : ℕ) → 1 ≤ version → Takes n version 18 epoch (closed_at n epoch)
 unfolding closed_at
 closed_takes n version epoch begun =
     made_takes (λ x. Closed epoch x.0) (reads_pair (reads_list n) reads_ended) n version 18 epoch
@@ -186,9 +163,7 @@ of_kind : {n version epoch : ℕ} {bytes : List ℕ} {vote : Vote} {rest : List 
     → Front n version kind epoch bytes vote rest
 of_kind {n} {version} {epoch} {bytes} {vote} {rest} kind k is front = subst (λ j. Front n version j epoch bytes vote rest) (sym is) front
 
-broadcast_takes : (n version kind epoch : ℕ) → 1 ≤ version → (bytes : List ℕ) (vote : Vote) (rest : List ℕ) → IsBytes bytes
-    → broadcast_at n kind epoch bytes ≡ Some (vote, rest)
-    → Front n version kind epoch bytes vote rest
+broadcast_takes : (n version kind epoch : ℕ) → 1 ≤ version → Takes n version kind epoch (broadcast_at n kind epoch)
 unfolding broadcast_at
 broadcast_takes n version kind epoch begun bytes vote rest fits e0 =
     let G = Front n version kind epoch bytes vote rest in
@@ -198,9 +173,7 @@ broadcast_takes n version kind epoch begun bytes vote rest fits e0 =
     at_kind kind 4 e3 G (λ is r. of_kind kind 4 is (delivered_takes n version epoch begun bytes vote rest fits r)) (λ e4.
     absurd cc))))
 
-agreement_takes : (n version kind epoch : ℕ) → 1 ≤ version → (bytes : List ℕ) (vote : Vote) (rest : List ℕ) → IsBytes bytes
-    → agreement_at n version kind epoch bytes ≡ Some (vote, rest)
-    → Front n version kind epoch bytes vote rest
+agreement_takes : (n version kind epoch : ℕ) → 1 ≤ version → Takes n version kind epoch (agreement_at n version kind epoch)
 unfolding agreement_at
 agreement_takes n version kind epoch begun bytes vote rest fits e0 =
     let G = Front n version kind epoch bytes vote rest in
@@ -218,9 +191,7 @@ agreement_takes n version kind epoch begun bytes vote rest fits e0 =
     at_kind kind 10 e5 G (λ is r. of_kind kind 10 is (decided_takes n version epoch begun bytes vote rest fits r)) (λ e6.
     chosen (eqb kind 11 && eqb version 2) (conf_at epoch bytes) None (Some (vote, rest)) e6 G at_conf (λ _ none. absurd cc)))))))
 
-desk_takes : (n version kind epoch : ℕ) → 1 ≤ version → (bytes : List ℕ) (vote : Vote) (rest : List ℕ) → IsBytes bytes
-    → desk_at n kind epoch bytes ≡ Some (vote, rest)
-    → Front n version kind epoch bytes vote rest
+desk_takes : (n version kind epoch : ℕ) → 1 ≤ version → Takes n version kind epoch (desk_at n kind epoch)
 unfolding desk_at
 desk_takes n version kind epoch begun bytes vote rest fits e0 =
     let G = Front n version kind epoch bytes vote rest in

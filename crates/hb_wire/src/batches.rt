@@ -65,7 +65,7 @@ fn count_of(bytes: &[u8]) -> Option<u16>
     if rest.is_empty() { Some(count) } else { None }
 }
 
-/// The length of the list that `read_batch` gives.
+/// The length of the list that `read_batch` gives: 0 to 64. It takes no memory.
 pub fn batch_len(bytes: &[u8]) -> u8
     ensures exact { result ≡ length (batch_of bytes.now) }
 
@@ -78,7 +78,7 @@ pub fn batch_len(bytes: &[u8]) -> u8
     }
 }
 
-/// Transaction t of the batch.
+/// Transaction t of the batch, from 0 on: 1 to 256 bytes. It takes no memory.
 pub fn batch_at(bytes: &[u8], t: u8) -> &[u8]
     requires { t < length (batch_of bytes.now) }
     ensures { (d : List ℕ) → slice_index_or (batch_of bytes.now) t d ≡ result.now }
@@ -109,7 +109,8 @@ fn transactions_of(alloc: Global, count: u8, bytes: &[u8]) -> Result<Vec<Bytes>,
     Ok(batch)
 }
 
-/// The transactions of the batch that the bytes are: none where they are no batch.
+/// The transactions of the batch that the bytes are: none where they are no batch. Err where there is no memory for
+/// their copies.
 pub fn read_batch(alloc: Global, bytes: &[u8]) -> Result<Vec<Bytes>, AllocError>
     ensures { IfOk result (λ batch. batch.items ≡ batch_of bytes.now) }
 {
@@ -139,7 +140,8 @@ fn put_batch(out: &mut Vec<u8>, batch: &[Bytes]) -> Result<(), AllocError>
     Ok(())
 }
 
-/// The bytes of a batch, from which the same transactions are read. They can be proposed as a value.
+/// The bytes of a batch, from which the same transactions are read. They can be proposed as a value. Err where there is
+/// no memory for them.
 pub fn write_batch(alloc: Global, batch: &[Bytes]) -> Result<Bytes, AllocError>
     requires { IsBatch batch.now }
     ensures spelled { IfOk result (λ bytes. bytes ≡ batch_bytes batch.now) }

@@ -3,12 +3,14 @@
 use std::alloc::AllocError;
 use thiserror::Error;
 
+/// Why [`read`](crate::read) gave no vote.
 #[derive(Debug, Drop, Error, PartialEq, Eq)]
 pub enum WireFault {
-    /// The bytes are no vote's spelling.
+    /// The bytes spell no vote among so many nodes under this version of the rules. It comes exactly then, and before
+    /// any memory is asked for.
     #[error("not a message")]
     NotAMessage,
-    /// There is no memory for the vote.
+    /// The bytes spell a vote, and there was no memory for a copy of its byte strings.
     #[error("no memory")]
     Memory,
 }

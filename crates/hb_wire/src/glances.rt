@@ -10,7 +10,8 @@ use crate::glimpse::Glance;
 use crate::items_view::front_item;
 use crate::reading::view;
 
-/// What stands at the front of the bytes, if they spell a vote among n nodes under this version.
+/// What stands at the front of the bytes, if they spell a vote among n nodes under this version of the rules, and None
+/// where they spell none. It takes no memory.
 pub fn glance<'a>(n: u8, version: u8, bytes: &'a [u8]) -> Option<Glance<'a>>
     requires some { 1 ≤ n }
     requires few { n ≤ 16 }
@@ -43,8 +44,8 @@ fn nth_item(list: &[u8], j: u8) -> (u8, &[u8])
     front_item(left).0
 }
 
-/// The node and the value of item j of a closed vote, of which `rest` is what stands behind the
-/// first two bytes.
+/// The node and the value of item j, from 0 on, of a closed vote, of which `rest` is what stands behind the first two
+/// bytes. It takes no memory.
 pub fn item(rest: &[u8], j: u8) -> (u8, &[u8])
     requires { HasItemAt rest.now j }
     ensures { (items : List Item) → IsClosedRest rest.now items → (d : Item) → slice_index_or items j d ≡ item_of result.0 result.1.now }

@@ -1,6 +1,6 @@
 //! The type of what a glance gives.
 
-/// The kind and the epoch of a vote, and the bytes behind them.
+/// The kind and the epoch of a vote, which are its first two bytes, and the bytes behind them.
 #[derive(Clone, Copy, Debug, PartialEq, Eq)]
 pub struct Glance<'a> {
     pub kind: u8,

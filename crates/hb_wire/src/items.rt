@@ -9,7 +9,7 @@ use hb_base::Bytes;
 use std::alloc::{AllocError, Global};
 use std::marker::Model;
 
-/// A node and the value of its broadcast.
+/// A node and the value of its broadcast, of at most 16,514 bytes in a vote.
 #[derive(Debug, PartialEq, Eq, Drop)]
 pub struct Item {
     pub node: u8,
@@ -27,7 +27,8 @@ impl Clone for Item {
     }
 }
 
-/// A list of items. A contract sees the list.
+/// A list of items, as a closed vote has it. It takes any items; those of a vote have rising nodes. A contract sees the
+/// list.
 #[derive(Debug, Drop)]
 pub struct Items {
     items: Vec<Item>,

@@ -28,7 +28,7 @@ impl<'a> Model for ItemsView<'a> {
 }
 
 impl ItemsView<'_> {
-    /// The list, with a copy of each value.
+    /// The list, with a copy of each value. Err where there is no memory for it.
     pub fn to_items(&self, alloc: Global) -> Result<Items, AllocError>
         ensures { IfOk result (λ items. items ≡ self.now) }
     {

@@ -30,7 +30,7 @@ impl Clone for Post {
     }
 }
 
-/// What a liar posts under its node's name.
+/// What a liar posts under its node's name, in the name of whichever actor, to whomever, with any bytes.
 #[derive(Debug, PartialEq, Eq, Drop)]
 pub struct Lie {
     pub node: u8,

@@ -12,7 +12,8 @@ use crate::vote::Vote;
 use crate::vote_view::VoteView;
 use std::alloc::Global;
 
-/// The vote that the bytes spell among n nodes under this version of the rules, with nothing copied.
+/// The vote that the bytes spell among n nodes under this version of the rules, with nothing copied, and None where they
+/// spell none. It takes no memory.
 pub fn view(n: u8, version: u8, bytes: &[u8]) -> Option<VoteView<'_>>
     requires some { 1 ≤ n }
     requires few { n ≤ 16 }
@@ -22,7 +23,7 @@ pub fn view(n: u8, version: u8, bytes: &[u8]) -> Option<VoteView<'_>>
     scan(n, version, bytes)
 }
 
-/// The vote that the bytes spell among n nodes under this version of the rules.
+/// The vote that the bytes spell among n nodes under this version of the rules, with a copy of each byte string.
 pub fn read(alloc: Global, n: u8, version: u8, bytes: &[u8]) -> Result<Vote, WireFault>
     requires some { 1 ≤ n }
     requires few { n ≤ 16 }

@@ -47,6 +47,7 @@ pub enum To {
 
 /// One vote of an actor. Epochs and rounds are 0 to 31, a target is a node. `root` is the root of the
 /// Merkle tree over the shards of a value, and `branch` leads from the shard or the share to a root.
+/// A shard has 1 to 16,520 bytes, a value 0 to 16,514.
 #[derive(Debug, PartialEq, Eq, Drop)]
 pub enum Vote {
     /// The sender of a broadcast hands one node its shard (CCS 2016, figure 2).
@@ -98,7 +99,7 @@ pub enum Vote {
         round: u8,
         vals: Vals,
     },
-    /// A node's share of the coin of a round.
+    /// A node's share of the coin of a round, and the salt that was dealt with it.
     Coin {
         epoch: u8,
         round: u8,

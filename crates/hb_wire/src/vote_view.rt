@@ -83,7 +83,7 @@ pub enum VoteView<'a> {
 }
 
 impl VoteView<'_> {
-    /// The vote, with a copy of each byte string.
+    /// The vote, with a copy of each byte string. Err where there is no memory for one.
     pub fn to_vote(self, alloc: Global) -> Result<Vote, AllocError>
         ensures { IfOk result (λ vote. vote ≡ vote_of self.entry) }
     {

@@ -146,7 +146,7 @@ fn put_vote(out: &mut Vec<u8>, n: u8, version: u8, vote: &Vote) -> Result<(), Al
     put_fields(out, n, version, vote)
 }
 
-/// The one spelling of the vote among n nodes under this version of the rules.
+/// The one spelling of the vote among n nodes under this version of the rules. Err where there is no memory for it.
 pub fn write(alloc: Global, n: u8, version: u8, vote: &Vote) -> Result<Bytes, AllocError>
     requires { IsVote n version vote.now }
     ensures spelled { IfOk result (λ bytes. Spells n version bytes vote.now) }
