@@ -1,48 +1,44 @@
 -- From what the parts of the program said to what it answers.
-use Rattle.std.proofs.Common.{inl, inr, ◌≡◌, ℕ, ◌<◌, Bool, true, false, ◌&&◌, nat_le, List, [], ◌∷◌, ◌++◌, length, map, slice_index_or, Option, None, Some, Result, Ok, Err, IfSome, option_and_then, if◌then◌else◌, refl, sym, ap, ◌∙◌, arith, append-nil}
+use Rattle.std.proofs.Common.{inl, inr, ◌≡◌, ℕ, ◌<◌, Bool, true, false, ◌&&◌, nat_le, List, [], ◌∷◌, ◌++◌, length, map, slice_index_or, Option, None, Some, Result, Ok, Err, option_and_then, if◌then◌else◌, refl, sym, ap, ◌∙◌, arith, append-nil, length-append}
 use Rattle.std.specs.Str.{is_utf8}
 use Rattle.std.specs.Io.KnownBytes.{Consumes, IsAtEnd}
-use Rattle.std.proofs.Math.Seq.{take-length}
 use Rattle.std.proofs.lemmas.Bool.{leb-true}
 use Rattle.serde_json.specs.Read.{read}
-use Rattle.hb_base.specs.Outside.{AppendsFront, HasCause, Puts}
+use Rattle.hb_base.specs.Outside.{HasCause, Puts}
 use Rattle.hb_rules.specs.declared.report.Report.{Report}
 use Rattle.hb_app.specs.declared.scenario.Scenario.{Scenario}
 use Rattle.hb_base.specs.Limits.{longest_scenario}
+use Rattle.hb_app.specs.Input.{most_taken}
 use Rattle.hb_app.specs.Scenario.{scenario_at, scenario_of}
+use Rattle.hb_app.specs.Streams.{SinkView, PutsOrFails}
 use Rattle.hb_app.specs.Text.{AreShort}
 use Rattle.hb_app.specs.Run.{IsPlain, IsRunOf}
-use Rattle.hb_app.specs.Top.{ReadsAll, Refuses, Told}
+use Rattle.hb_app.specs.Top.{Refuses}
 
--- all that was consumed until the end is the input
-pub whole_is_all : (left left_after : Option (List ℕ)) (input : List ℕ) → Consumes left left_after input → IsAtEnd left_after → ReadsAll left left_after input
-whole_is_all None left_after input taken none = tt
-whole_is_all (Some xs) None input taken none = absurd taken
-whole_is_all (Some xs) (Some ys) input taken none = (taken ∙ ap (λ rest. input ++ rest) none ∙ append-nil input, none)
+-- where all was read, and says no scenario, the input says none
+pub refuses_all : (left left_after : Option (List ℕ)) (input : List ℕ) → Consumes left left_after input → IsAtEnd left_after → scenario_of input ≡ None → Refuses left
+refuses_all None left_after input taken none says = tt
+refuses_all (Some xs) None input taken none says = absurd taken
+refuses_all (Some xs) (Some ys) input taken none says = ap scenario_of (taken ∙ ap (λ rest. input ++ rest) none ∙ append-nil input) ∙ says
 
-pub refuses_all : (left left_after : Option (List ℕ)) (input : List ℕ) → ReadsAll left left_after input → scenario_of input ≡ None → Refuses left
-refuses_all None left_after input all says = tt
-refuses_all (Some xs) None input all says = absurd all
-refuses_all (Some xs) (Some ys) input all says = ap scenario_of all.0 ∙ says
-
--- more bytes than are read at most say no scenario
-pub refuses_long : (left : Option (List ℕ)) → IfSome left (λ xs. longest_scenario < length xs) → Refuses left
-refuses_long None long = tt
-refuses_long (Some xs) long = by (nat_le (length xs) longest_scenario) refl
+-- more bytes than a scenario may have say none
+pub refuses_long : (xs : List ℕ) → longest_scenario < length xs → scenario_of xs ≡ None
+refuses_long xs long = by (nat_le (length xs) longest_scenario) refl
   where
     by : (b : Bool) → nat_le (length xs) longest_scenario ≡ b → (if b && is_utf8 xs then option_and_then scenario_at (read xs) else None) ≡ None
     by true is = absurd (omega (arith, long, leb-true (length xs) longest_scenario is))
     by false is = refl
 
--- a put leaves a front of its bytes, whether it failed or not
-pub puts_front : {T E : Type 0} (old new : Option (List ℕ)) (r : Result T E) (bytes : List ℕ) → Puts old new r bytes → AppendsFront old new bytes
-puts_front old new (Ok x) bytes put = (length bytes, omega arith, rw (take-length bytes) put)
-puts_front old new (Err e) bytes put = put
+-- where the most was taken that ever is, the input says no scenario
+pub refuses_taken : (left left_after : Option (List ℕ)) (bytes : List ℕ) → length bytes ≡ most_taken → Consumes left left_after bytes → Refuses left
+refuses_taken None left_after bytes many taken = tt
+refuses_taken (Some xs) None bytes many taken = absurd taken
+refuses_taken (Some xs) (Some ys) bytes many taken = refuses_long xs (omega (arith, many, ap (λ (zs : List ℕ). length zs) taken, length-append bytes ys))
 
--- a put tells its bytes, or it failed and told a front of them
-pub puts_told : {T E : Type 0} (old new : Option (List ℕ)) (before after : ℕ) (r : Result T E) (bytes : List ℕ) → Puts old new r bytes → HasCause before after r → Told old new before after bytes
-puts_told old new before after (Ok x) bytes put cause = inl put
-puts_told old new before after (Err e) bytes put cause = inr (cause.failed, put)
+-- a put does all, or fails within
+pub puts_or_fails : {T E : Type 0} (old new : SinkView) (r : Result T E) (bytes : List ℕ) → Puts old.held new.held r bytes → HasCause old.faults new.faults r → PutsOrFails old new bytes
+puts_or_fails old new (Ok x) bytes put cause = inl (put, cause.quiet)
+puts_or_fails old new (Err e) bytes put cause = inr (put, cause.failed)
 
 -- one word is the first one
 pub one_word : {X : Type 0} (f : X → List ℕ) (xs : List X) (x : X) (word : List ℕ) → length xs ≡ 1 → x ≡ slice_index_or xs 0 x → (f x ≡ word → map f xs ≡ word ∷ []) × (map f xs ≡ word ∷ [] → f x ≡ word)

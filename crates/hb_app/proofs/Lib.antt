@@ -6,6 +6,7 @@ pub mod Quiet
 pub mod Reports
 pub mod Runs
 pub mod Scenarios
+pub mod Statuses
 pub mod Taking
 pub mod Teams
 pub mod Totality

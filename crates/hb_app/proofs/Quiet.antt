@@ -7,7 +7,7 @@ use Rattle.std.proofs.lemmas.Option.{slice_get_within, slice_get-get_or}
 use Rattle.hb_base.specs.Numbers.{Numbers, AreSound}
 use Rattle.hb_base.specs.NodeSet.{is_in}
 use Rattle.hb_rules.specs.declared.vote.Vote.{Vote}
-use Rattle.hb_rules.specs.declared.vote.Vote.TheVariants.{Propose, Delivered}
+use Rattle.hb_rules.specs.declared.vote.Vote.TheVariants.{Propose, Val, Echo, Ready, Delivered}
 use Rattle.hb_rules.specs.declared.post.Post.{Post}
 use Rattle.hb_rules.specs.declared.report.Submit.{Submit}
 use Rattle.hb_rules.specs.declared.report.Fate.TheVariants.{Running}
@@ -15,18 +15,20 @@ use Rattle.hb_rules.specs.declared.report.End.{End}
 use Rattle.hb_rules.specs.declared.report.Report.{Report}
 use Rattle.hb_rules.specs.Vote.{is_any_proposal, is_proposal, is_delivery}
 use Rattle.rbc_core.specs.Broadcast.{Place, slots_at}
-use Rattle.hb_rules.specs.Hearing.{Hearing, own_in}
+use Rattle.hb_rules.specs.Hearing.{Hearing, own_in, heard_in}
 use Rattle.hb_rules.specs.History.{IsLegal}
+use Rattle.hb_rules.specs.Rules.{MayCast}
 use Rattle.hb_rules.specs.Owing.{Slot, IsIdle, each, val_slots, echo_slot, ready_slot, delivery_slot, broadcast_slots, lane_slots, desk_slots}
 use Rattle.hb_rules.specs.Report.{heard_of, IsReceived, IsSettled, IsQuiet, slots_of, submitted_at}
 use Rattle.hb_rules.proofs.Sayings.{said, list_any-from}
-use Rattle.hb_rules.proofs.Validity.{broadcast_validity, delivery_in_lane, is_value_if}
+use Rattle.hb_rules.proofs.Histories.{legal_induction}
+use Rattle.hb_rules.proofs.Validity.{broadcast_validity, delivery_in_lane, is_value_if, newly_said}
 use Rattle.hb_app.specs.declared.member.Core.{Core}
 use Rattle.hb_app.specs.declared.member.Core.TheVariants.{Lane, Desk}
 use Rattle.hb_app.specs.declared.member.Member.{Member}
 use Rattle.hb_app.specs.Member.{IsReady, end_of}
 use Rattle.hb_app.specs.Team.{IsRun, HasProposed}
-use Rattle.hb_app.specs.Run.{Agree}
+use Rattle.hb_app.specs.Run.{Proposes, Agree}
 
 -- the ends of actors are at their places
 map-end_of : (team : List Member) → map {B = ℕ × ℕ} (λ (e : End). (e.node, e.actor)) (map end_of team) ≡ map {B = ℕ × ℕ} (λ (m : Member). (m.node, m.actor)) team
@@ -96,6 +98,36 @@ proposed_value c value posts x e v proposed silent h = elim (cases_Bool (x == 0)
   ]
   | inr other ↦ absurd (cc (sym (ap (list_any (is_proposal e v)) (silent x (λ e. absurd (cc (sym other ∙ eq-eqb x 0 e))))) ∙ h))
 ]
+
+is_proposal-self : (e : ℕ) (v : List ℕ) → is_proposal e v (Propose e v) ≡ true
+is_proposal-self e v = rw (eq-eqb e e refl) ((bytes_eq-Decides v v).1 refl)
+
+desk_proposes : (c : Numbers) (e : ℕ) (v : List ℕ) (i x : ℕ) (own : List Vote) (heard : List Hearing) (vote : Vote) → is_proposal e v vote ≡ true → MayCast c i x own heard vote → x ≡ c.n
+desk_proposes c e v i x own heard vote passes (inr may) = may.0
+desk_proposes c e v i x own heard (Propose d w) passes (inl may) = absurd may.1
+desk_proposes c e v i x own heard (Val d t w) passes (inl may) = absurd (cc (passes))
+desk_proposes c e v i x own heard (Echo d w) passes (inl may) = absurd (cc (passes))
+desk_proposes c e v i x own heard (Ready d w) passes (inl may) = absurd (cc (passes))
+desk_proposes c e v i x own heard (Delivered d w) passes (inl may) = absurd (cc (passes))
+
+-- an actor of a correct node that has proposed is a desk
+proposal_at_desk : (c : Numbers) (e : ℕ) (v : List ℕ) (i x : ℕ) → is_in c.liars i ≡ false → (history : List Post) → IsLegal c history → said (is_proposal e v) i x history ≡ true → x ≡ c.n
+proposal_at_desk c e v i x correct history legal said_it =
+    legal_induction c (λ (h : List Post). said (is_proposal e v) i x h ≡ true → x ≡ c.n) (λ none. absurd (cc (none)))
+    (λ before post holds follows h. elim (newly_said c (is_proposal e v) i x before post correct follows h) [
+      | inl earlier ↦ holds earlier
+      | inr new ↦ desk_proposes c e v i x (own_in i x before) (heard_in c i x before) post.vote new.passes new.may
+    ]) history legal said_it
+
+-- every proposed value is the one that was submitted
+pub proposes : (c : Numbers) (value : List ℕ) (posts : List Post) → ((i : ℕ) → is_in c.liars i ≡ false) → IsLegal c posts → HasProposed c value posts
+    → ((i : ℕ) → i ≢ 0 → own_in i c.n posts ≡ []) → Proposes value posts
+proposes c value posts correct legal proposed silent = record {
+  on = λ i x e v stands.
+      let says : said (is_proposal e v) i x posts ≡ true = list_any-from (is_proposal e v) (own_in i x posts) (Propose e v) stands (is_proposal-self e v) in
+      let desk : x ≡ c.n = proposal_at_desk c e v i x (correct i) posts legal says in
+      proposed_value c value posts i e v proposed silent (subst (λ (a : ℕ). said (is_proposal e v) i a posts ≡ true) desk says);
+}
 
 -- every delivered value is the one that was submitted
 pub agree : (c : Numbers) (value : List ℕ) (posts : List Post) → AreSound c → c.liars ≡ replicate 16 false → IsLegal c posts → HasProposed c value posts

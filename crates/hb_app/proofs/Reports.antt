@@ -12,7 +12,7 @@ use Rattle.hb_app.specs.Member.{end_of}
 use Rattle.hb_app.specs.Team.{IsRun}
 use Rattle.hb_app.specs.Run.{IsPlain, IsRunOf}
 use Rattle.hb_rules.specs.declared.report.End.{End}
-use Rattle.hb_app.proofs.Quiet.{HasEnded, ended, agree, none_lies, proposed_value, quiet}
+use Rattle.hb_app.proofs.Quiet.{HasEnded, ended, proposes, agree, none_lies, proposed_value, quiet}
 use Rattle.hb_app.proofs.Totality.{Premises, all_deliver}
 
 -- the report of a run
@@ -43,6 +43,7 @@ IsRunOf-run s report config posts team plain sound same legal0 run0 config_is su
       legal = legal;
       once = run.once;
       quiet = rests;
+      proposed = proposes report.config s.submit.tx report.history.items correct legal run.proposed run.silent;
       agreed = agree report.config s.submit.tx report.history.items (subst AreSound (sym config_is) sound) (ap (λ (c : Numbers). c.liars) config_is ∙ plain.liars) legal run.proposed run.silent;
       status = status_is;
       complete = all_deliver report s.submit.tx alive status_is;

@@ -1,16 +1,24 @@
 -- Reading the input to its end.
-use Rattle.std.specs.Prelude.{◌≡◌, ℕ, ◌<◌, ◌≤◌, List, length, Option, IfSome}
-use Rattle.std.specs.Io.KnownBytes.{Consumes, IsAtEnd}
+use Rattle.std.specs.Prelude.{◌≡◌, ℕ, ◌+◌, ◌≤◌, List, length}
+use Rattle.std.specs.Io.KnownBytes.{Consumes}
 use Rattle.hb_base.specs.Limits.{longest_scenario}
 use Rattle.hb_base.specs.Outside.{Rose}
 use Rattle.hb_app.specs.declared.input.Input.{Input}
 use Rattle.hb_app.specs.declared.input.Input.TheVariants.{Whole, TooLong, Failed, Memory}
+use Rattle.hb_app.specs.Streams.{SourceView, IsFaultless, ReadsAll}
 
--- What was read of a source, and what it tells then. Whole: all that it had. TooLong: it had more than is read at most.
--- Failed: a take failed. Memory: some of it was read.
-abbrev pub Takes : Option (List ℕ) → Option (List ℕ) → ℕ → ℕ → Input → Type 0
-Takes left left_after faults faults_after (Whole bytes) =
-    (length bytes.items ≤ longest_scenario) × Consumes left left_after bytes.items × IsAtEnd left_after × (faults_after ≡ faults)
-Takes left left_after faults faults_after TooLong = IfSome left (λ xs. longest_scenario < length xs) × (faults_after ≡ faults)
-Takes left left_after faults faults_after Failed = Rose faults faults_after
-Takes left left_after faults faults_after Memory = faults_after ≡ faults
+-- bytes that are taken at most: one more than a scenario may have shows that there are more
+abbrev pub most_taken : ℕ
+most_taken = longest_scenario + 1
+
+-- so many were taken
+abbrev pub ReadsMost : SourceView → SourceView → Type 0
+ReadsMost old new = (bytes : List ℕ) × (length bytes ≡ most_taken) × Consumes old.left new.left bytes × IsFaultless old new
+
+-- What a source was read as. Whole: all that it had. TooLong: as many bytes as are taken at most. Failed: a take failed.
+-- Memory: there was none for the bytes that were taken.
+abbrev pub ReadsAs : SourceView → SourceView → Input → Type 0
+ReadsAs old new (Whole bytes) = (length bytes.items ≤ longest_scenario) × ReadsAll old new bytes.items
+ReadsAs old new TooLong = ReadsMost old new
+ReadsAs old new Failed = Rose old.faults new.faults
+ReadsAs old new Memory = IsFaultless old new

@@ -3,6 +3,7 @@ pub mod Input
 pub mod Member
 pub mod Run
 pub mod Scenario
+pub mod Streams
 pub mod Team
 pub mod Text
 pub mod Top

@@ -2,7 +2,7 @@
 use Rattle.std.specs.Prelude.{◌≡◌, ℕ, ◌-◌, ◌<◌, ◌≤◌, true, false, Some, List, [], ◌∷◌, length, replicate, Contains}
 use Rattle.hb_base.specs.Counting.{count_nodes}
 use Rattle.hb_base.specs.Limits.{most_nodes, longest_transaction}
-use Rattle.hb_rules.specs.declared.vote.Vote.TheVariants.{Delivered}
+use Rattle.hb_rules.specs.declared.vote.Vote.TheVariants.{Propose, Delivered}
 use Rattle.hb_rules.specs.declared.post.Post.{Post}
 use Rattle.hb_rules.specs.declared.report.Fate.TheVariants.{Full}
 use Rattle.hb_rules.specs.declared.report.End.{End}
@@ -21,6 +21,10 @@ pub record IsPlain (s : Scenario) : Type 0 where
   pub epochs : s.config.epochs ≡ 1
   pub liars : s.config.liars ≡ replicate most_nodes false
 
+-- every value that an actor has proposed is this one
+pub record Proposes (value : List ℕ) (history : List Post) : Type 0 where
+  pub on : (i x e : ℕ) (v : List ℕ) → Contains (own_in i x history) (Propose e v) → v ≡ value
+
 -- every value that an actor has delivered is this one
 pub record Agree (value : List ℕ) (history : List Post) : Type 0 where
   pub on : (i x e : ℕ) (v : List ℕ) → Contains (own_in i x history) (Delivered e v) → v ≡ value
@@ -33,14 +37,15 @@ pub record AllDeliver (value : List ℕ) (report : Report) : Type 0 where
   pub ok : report.status ≡ 0 → (i : ℕ) → i < report.config.n → delivered_at i report.history.items ≡ Some value
 
 -- The report of a run of a scenario: its history is legal, no vote of an actor stands in it twice, nothing is left to do,
--- every delivered value is the one that was submitted, the running nodes have delivered it, and an actor found the book
--- full only where it is.
+-- every proposed and every delivered value is the one that was submitted, the running nodes have delivered it, and an
+-- actor found the book full only where it is.
 pub record IsRunOf (s : Scenario) (report : Report) : Type 0 where
   pub config : report.config ≡ s.config
   pub submit : report.submit.items ≡ s.submit ∷ []
   pub legal : IsLegal report.config report.history.items
   pub once : NoVoteTwice report.history.items
   pub quiet : IsQuiet report
+  pub proposed : Proposes s.submit.tx report.history.items
   pub agreed : Agree s.submit.tx report.history.items
   pub complete : AllDeliver s.submit.tx report
   pub full : (end : End) → Contains report.ends.items end → end.fate ≡ Full → IsFull report.history.items

@@ -1,4 +1,5 @@
-ghost use Rattle.hb_app.specs.Input.{Takes};
+ghost use Rattle.hb_app.specs.Input.{ReadsAs, most_taken};
+ghost use Rattle.hb_app.specs.Streams.{TakesAtMost, source_view};
 
 use hb_base::Source;
 use hb_base::limits::LONGEST_SCENARIO;
@@ -17,14 +18,16 @@ pub enum Input {
     Memory,
 }
 
-/// Reads the input to its end, in pieces, as long as it has at most `LONGEST_SCENARIO` bytes.
+/// Reads the input to its end, in pieces, as long as it has at most `LONGEST_SCENARIO` bytes. It takes one byte more at most.
 pub fn read_input<S: Source>(alloc: Global, source: &mut S) -> Input
-    ensures { Takes (S.left source.old) (S.left source.new) (S.faults source.old) (S.faults source.new) result }
+    ensures read { ReadsAs (source_view S.left S.faults source.old) (source_view S.left S.faults source.new) result }
+    ensures taken { TakesAtMost most_taken (source_view S.left S.faults source.old) (source_view S.left S.faults source.new) }
 {
     let mut bytes = Vec::new(alloc);
     let mut piece = [0u8; 4096];
     'pieces: while bytes.len() <= LONGEST_SCENARIO {
-        match source.take(&mut piece) {
+        let room = piece.len().min(LONGEST_SCENARIO + 1 - bytes.len());
+        match source.take(&mut piece[..room]) {
             Err(_) => return Input::Failed,
             Ok(0) => return Input::Whole(bytes),
             Ok(count) => {

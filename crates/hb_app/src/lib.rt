@@ -13,4 +13,5 @@ mod top;
 #[cfg(test)]
 mod top_tests;
 
+pub use text::NO_MEMORY;
 pub use top::hb_main;

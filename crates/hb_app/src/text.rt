@@ -19,7 +19,7 @@ pub const READ_FAILED: &[u8; 12] = b"read failed\n";
 /// What it says where the output can't be written.
 pub const WRITE_FAILED: &[u8; 13] = b"write failed\n";
 
-/// What it says for want of memory.
+/// What `hb_ledger` says for want of memory, on its error sink.
 pub const NO_MEMORY: &[u8; 10] = b"no memory\n";
 
 /// Prints the text of a run, each line by one put. It takes no memory.

@@ -1,9 +1,10 @@
 ghost use Rattle.std.specs.Prelude.{◌≡◌, ◌≢◌, ◌↔◌, ℕ, List, Some, IsTrue, codes, string_bytes};
-ghost use Rattle.std.specs.Io.KnownBytes.{Keeps};
 ghost use Rattle.hb_app.specs.Scenario.{scenario_of};
 ghost use Rattle.hb_app.specs.Text.{usage_line, memory_line};
 ghost use Rattle.hb_app.specs.Run.{IsPlain};
-ghost use Rattle.hb_app.specs.Top.{AsksRun, Tells, Told, ComesOf, Comes, RunAnswers};
+ghost use Rattle.hb_app.specs.Input.{most_taken};
+ghost use Rattle.hb_app.specs.Streams.{TakesAtMost, IsUnused, PutsOrFails, PutsOr7, source_view, sink_view};
+ghost use Rattle.hb_app.specs.Top.{AsksRun, ComesOf, Comes, RunAnswers};
 
 use crate::driver::run;
 use crate::input::{Input, read_input};
@@ -36,6 +37,7 @@ pub enum Outcome {
 ///   7 if the output can't be written, and
 ///   9 if memory ran out.
 /// All but 0 and 4 tell a line on `err`. The report is of the run; without one it stays, and nothing is written to `out`.
+/// At most 1,048,577 bytes of the input are taken, one more than a scenario may have, and the rest is left.
 pub fn hb_main<S: Source, O: Sink, E: Sink>(
     alloc: Global,
     words: &[String],
@@ -45,10 +47,16 @@ pub fn hb_main<S: Source, O: Sink, E: Sink>(
     report: &mut Report,
 ) -> u8
     ensures run { AsksRun words.now → RunAnswers
-        (record { left = S.left source.old; reads = S.faults source.old; out = O.held out.old; writes = O.faults out.old; report = report.old })
-        (record { left = S.left source.new; reads = S.faults source.new; out = O.held out.new; writes = O.faults out.new; report = report.new })
-        (E.held err.old) (E.held err.new) (E.faults err.old) (E.faults err.new) result }
-    ensures usage { (AsksRun words.now → ⊥) → Tells (E.held err.old) (E.held err.new) (E.faults err.old) (E.faults err.new) usage_line 2 result
+        (record {
+          work = record { source = source_view S.left S.faults source.old; out = sink_view O.held O.faults out.old; report = report.old };
+          err = sink_view E.held E.faults err.old;
+        })
+        (record {
+          work = record { source = source_view S.left S.faults source.new; out = sink_view O.held O.faults out.new; report = report.new };
+          err = sink_view E.held E.faults err.new;
+        })
+        result }
+    ensures usage { (AsksRun words.now → ⊥) → PutsOr7 (sink_view E.held E.faults err.old) (sink_view E.held E.faults err.new) usage_line 2 result
         × (report.new ≡ report.old) × (out.new ≡ out.old) × (source.new ≡ source.old) }
 {
     if asks_run(words) {
@@ -79,9 +87,15 @@ fn run_command<S: Source, O: Sink, E: Sink>(
     report: &mut Report,
 ) -> u8
     ensures { RunAnswers
-        (record { left = S.left source.old; reads = S.faults source.old; out = O.held out.old; writes = O.faults out.old; report = report.old })
-        (record { left = S.left source.new; reads = S.faults source.new; out = O.held out.new; writes = O.faults out.new; report = report.new })
-        (E.held err.old) (E.held err.new) (E.faults err.old) (E.faults err.new) result }
+        (record {
+          work = record { source = source_view S.left S.faults source.old; out = sink_view O.held O.faults out.old; report = report.old };
+          err = sink_view E.held E.faults err.old;
+        })
+        (record {
+          work = record { source = source_view S.left S.faults source.new; out = sink_view O.held O.faults out.new; report = report.new };
+          err = sink_view E.held E.faults err.new;
+        })
+        result }
 {
     match run_source(alloc, source, out, report) {
         Outcome::Refused => tell(REFUSED, 3, err),
@@ -93,17 +107,18 @@ fn run_command<S: Source, O: Sink, E: Sink>(
 }
 
 // Runs the scenario that the whole input says, and prints the run.
-#[tactic(auto, using(crate::proofs::Answers::whole_is_all, crate::proofs::Answers::refuses_all, crate::proofs::Answers::refuses_long))]
+#[tactic(auto, using(crate::proofs::Answers::refuses_all, crate::proofs::Answers::refuses_taken))]
 fn run_source<S: Source, O: Sink>(
     alloc: Global,
     source: &mut S,
     out: &mut O,
     report: &mut Report,
 ) -> Outcome
-    ensures { Comes
-        (record { left = S.left source.old; reads = S.faults source.old; out = O.held out.old; writes = O.faults out.old; report = report.old })
-        (record { left = S.left source.new; reads = S.faults source.new; out = O.held out.new; writes = O.faults out.new; report = report.new })
+    ensures comes { Comes
+        (record { source = source_view S.left S.faults source.old; out = sink_view O.held O.faults out.old; report = report.old })
+        (record { source = source_view S.left S.faults source.new; out = sink_view O.held O.faults out.new; report = report.new })
         result }
+    ensures taken { TakesAtMost most_taken (source_view S.left S.faults source.old) (source_view S.left S.faults source.new) }
 {
     match read_input(alloc, source) {
         Input::Whole(bytes) => run_bytes(alloc, bytes.as_slice(), out, report),
@@ -114,7 +129,7 @@ fn run_source<S: Source, O: Sink>(
 }
 
 fn run_bytes<O: Sink>(alloc: Global, bytes: &[u8], out: &mut O, report: &mut Report) -> Outcome
-    ensures { ComesOf bytes.now (O.held out.old) (O.held out.new) (O.faults out.old) (O.faults out.new) report.old report.new result }
+    ensures { ComesOf bytes.now (sink_view O.held O.faults out.old) (sink_view O.held O.faults out.new) report.old report.new result }
 {
     match read_scenario(alloc, bytes) {
         Ok(scenario) => run_scenario(alloc, scenario, out, report),
@@ -132,7 +147,7 @@ fn run_scenario<O: Sink>(
 ) -> Outcome
     requires { IsPlain scenario }
     ensures { (input : List ℕ) → scenario_of input ≡ Some scenario
-        → ComesOf input (O.held out.old) (O.held out.new) (O.faults out.old) (O.faults out.new) report.old report.new result }
+        → ComesOf input (sink_view O.held O.faults out.old) (sink_view O.held O.faults out.new) report.old report.new result }
 {
     let Ok(made) = run(alloc, scenario) else {
         return Outcome::Memory;
@@ -147,8 +162,8 @@ fn run_scenario<O: Sink>(
 // Answers a run's status, and tells that there was no memory if that is what it says.
 fn answer<E: Sink>(status: u8, err: &mut E) -> u8
     ensures status { result ≡ status }
-    ensures quiet { status ≢ 9 → Keeps (E.held err.old) (E.held err.new) }
-    ensures line { status ≡ 9 → Told (E.held err.old) (E.held err.new) (E.faults err.old) (E.faults err.new) memory_line }
+    ensures unused { status ≢ 9 → IsUnused (sink_view E.held E.faults err.old) (sink_view E.held E.faults err.new) }
+    ensures line { status ≡ 9 → PutsOrFails (sink_view E.held E.faults err.old) (sink_view E.held E.faults err.new) memory_line }
 {
     if status == 9 {
         hint(NO_MEMORY, 9, err)
@@ -158,9 +173,8 @@ fn answer<E: Sink>(status: u8, err: &mut E) -> u8
 }
 
 // Tells a line and answers a status, or 7 if that fails.
-#[tactic(auto, using(crate::proofs::Answers::puts_front))]
 fn tell<E: Sink>(line: &[u8], status: u8, err: &mut E) -> u8
-    ensures { Tells (E.held err.old) (E.held err.new) (E.faults err.old) (E.faults err.new) line.now status result }
+    ensures { PutsOr7 (sink_view E.held E.faults err.old) (sink_view E.held E.faults err.new) line.now status result }
 {
     match err.put(line) {
         Ok(()) => status,
@@ -169,10 +183,10 @@ fn tell<E: Sink>(line: &[u8], status: u8, err: &mut E) -> u8
 }
 
 // Tells a line if that works, and answers a status.
-#[tactic(auto, using(crate::proofs::Answers::puts_told))]
+#[tactic(auto, using(crate::proofs::Answers::puts_or_fails))]
 fn hint<E: Sink>(line: &[u8], status: u8, err: &mut E) -> u8
     ensures status { result ≡ status }
-    ensures line { Told (E.held err.old) (E.held err.new) (E.faults err.old) (E.faults err.new) line.now }
+    ensures line { PutsOrFails (sink_view E.held E.faults err.old) (sink_view E.held E.faults err.new) line.now }
 {
     let _told = err.put(line);
     status

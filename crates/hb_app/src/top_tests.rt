@@ -9,7 +9,7 @@ const ROW: &str = r#"{"nodes":4,"faulty":1,"epochs":1,"submit":[{"node":0,"tx":"
 
 // What a call answered and left.
 #[derive(Drop)]
-struct Told {
+struct Answer {
     status: u8,
     report: Report,
     out: MemorySink,
@@ -31,7 +31,7 @@ fn call(
     take: u32,
     put: u32,
     tell: u32,
-) -> Result<Told, AllocError> {
+) -> Result<Answer, AllocError> {
     let mut owned = Vec::new(alloc);
     for word in words {
         owned.push(String::from_str(alloc, word)?)?;
@@ -49,7 +49,7 @@ fn call(
         &mut err,
         &mut report,
     );
-    Ok(Told {
+    Ok(Answer {
         status,
         report,
         out,
@@ -79,10 +79,10 @@ fn answers_and_what_they_leave(rt: HostRuntime) -> Result<(), Fail> {
         (&["run"], ROW, 0, 3, 0, 7, front, "write failed\n"),
         (&["run"], ROW, 0, 1, 1, 7, "", ""),
     ] {
-        let told = call(rt.alloc(), words, input, take, put, tell)?;
-        assert_eq!(rt; told.status, status, "{input}");
-        assert_eq!(rt; told.out.held(), out.as_bytes(), "{input}");
-        assert_eq!(rt; told.err.held(), err.as_bytes(), "{input}");
+        let answer = call(rt.alloc(), words, input, take, put, tell)?;
+        assert_eq!(rt; answer.status, status, "{input}");
+        assert_eq!(rt; answer.out.held(), out.as_bytes(), "{input}");
+        assert_eq!(rt; answer.err.held(), err.as_bytes(), "{input}");
     }
     Ok(())
 }
@@ -101,15 +101,15 @@ fn every_node_delivers(rt: HostRuntime) -> Result<(), Fail> {
         let input = format!(in alloc;
             "{{\"nodes\":{n},\"faulty\":{f},\"epochs\":1,\"submit\":[{{\"node\":0,\"tx\":\"6869\"}}]}}"
         )?;
-        let told = call(alloc, &["run"], input.as_str(), 0, 0, 0)?;
-        let delivered = told
+        let answer = call(alloc, &["run"], input.as_str(), 0, 0, 0)?;
+        let delivered = answer
             .report
             .history
             .iter()
             .filter(|post| delivers_hi(post))
             .count();
-        assert_eq!(rt; told.status, 0, "{n} nodes");
-        assert_eq!(rt; told.report.history.len(), 1 + 4 * n, "{n} nodes");
+        assert_eq!(rt; answer.status, 0, "{n} nodes");
+        assert_eq!(rt; answer.report.history.len(), 1 + 4 * n, "{n} nodes");
         assert_eq!(rt; delivered, n, "{n} nodes");
     }
     Ok(())
