@@ -8,3 +8,7 @@ pub mod Among
 pub mod FirstShards
 pub mod BroadcastParts
 pub mod BroadcastSlots
+pub mod MoreHeard
+pub mod Histories
+pub mod Seats
+pub mod PlainBooks

@@ -1,5 +1,5 @@
 -- The post book and its seats. The letters: the seat of actor x of node i, in a book of config c.
-use Rattle.std.specs.Prelude.{◌≡◌, ◌≢◌, ℕ, ◌<◌, Bool, true, false, ◌&&◌, ◌||◌, ◌==◌, List, [], ◌∷◌, ◌++◌, length, filter}
+use Rattle.std.specs.Prelude.{◌≡◌, ◌≢◌, ℕ, ◌<◌, Bool, true, false, ◌&&◌, ◌||◌, ◌==◌, List, [], ◌∷◌, ◌++◌, length, filter, All}
 use Rattle.std.specs.List.{list_all}
 use Rattle.hb_base.specs.Numbers.{Numbers}
 use Rattle.hb_base.specs.NodeSet.{is_in}
@@ -7,6 +7,7 @@ use Rattle.hb_wire.specs.declared.vote.To.{To}
 use Rattle.hb_wire.specs.declared.vote.Vote.{Vote}
 use Rattle.hb_wire.specs.declared.post.Post.{Post}
 use Rattle.hb_wire.specs.Votes.{address_of, spelling}
+use Rattle.protocol_rules.specs.History.{IsLegal}
 
 -- what a seat knows: the config, whose seat it is, and the beginning of the history that it has seen
 pub record SeatView : Type 0 where
@@ -19,6 +20,15 @@ pub record SeatView : Type 0 where
 pub record BookView : Type 0 where
   pub config : Numbers
   pub posts : List Post
+
+-- what holds of all posts that a book keeps: they are a legal history, and name actors below 256
+pub record AreKept (book : BookView) : Type 0 where
+  pub legal : IsLegal book.config book.posts
+  pub actors : All (λ post. post.actor < 256) book.posts
+
+-- the seat has seen the whole history of the book
+abbrev pub HasSeenAll : BookView → SeatView → Type 0
+HasSeenAll book seat = seat.seen ≡ book.posts
 
 -- the post of a vote: it has the vote's bytes, and goes where the vote goes
 abbrev pub post_of : ℕ → ℕ → Vote → Post

@@ -23,6 +23,7 @@ pub mod Tested
 pub mod Ledger
 pub mod Report
 pub mod Book
+pub mod BookLaws
 pub mod Room
 pub mod Terms
 pub mod Actor

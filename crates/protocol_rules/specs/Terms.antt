@@ -1,5 +1,5 @@
 -- By what an actor goes, and the votes that an actor may keep in its journal.
-use Rattle.std.specs.Prelude.{◌≡◌, ℕ, ◌⊎◌, Bool, true, List, [], ◌∷◌, ◌++◌, Contains, bytes_eq, All}
+use Rattle.std.specs.Prelude.{◌≡◌, ℕ, ◌⊎◌, Bool, true, List, [], ◌∷◌, ◌++◌, Contains, bytes_eq}
 use Rattle.std.specs.List.{AllByRecursion}
 use Rattle.hb_base.specs.Numbers.{Numbers}
 use Rattle.hb_wire.specs.declared.vote.Vote.{Vote}

@@ -81,7 +81,7 @@ pub trait Actor<B: Book>: Drop {
 
     /// A copy of post k of the book: None exactly where fewer posts stand. It may be called in any state, and changes
     /// nothing but what the seat has seen.
-    fn read(&mut self, alloc: Global, book: &mut B, k: u32) -> Result<Option<Post>, AllocError>
+    fn read(&mut self, book: &mut B, k: u32) -> Result<Option<Post>, AllocError>
         requires seat { B.knows book.old (seat self.old) }
         ensures seat { B.knows book.new (seat self.new) }
         ensures same { (B.config (seat self.new) ≡ B.config (seat self.old)) × (B.node (seat self.new) ≡ B.node (seat self.old))

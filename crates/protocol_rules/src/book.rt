@@ -8,7 +8,7 @@ ghost use Rattle.protocol_rules.specs.Ledger.{IsPrefix};
 ghost use Rattle.protocol_rules.specs.Book.{post_of, lie_of, AreTwo, Watched, Posted};
 
 use hb_wire::{Post, To, Vote};
-use std::alloc::{AllocError, Global};
+use std::alloc::{AllocError, AllocFailed};
 use thiserror::Error;
 
 /// Why a book did not take a post.
@@ -19,6 +19,26 @@ pub enum BookFault {
     Full,
     #[error("out of memory")]
     Memory,
+}
+
+impl From<AllocError> for BookFault {
+    ghost use Rattle.protocol_rules.specs.declared.book.BookFault.TheVariants.{Memory};
+
+    ghost from_gives = { λ _ fault. fault ≡ Memory };
+
+    fn from(_: AllocError) -> BookFault {
+        BookFault::Memory
+    }
+}
+
+impl<T: Drop> From<AllocFailed<T>> for BookFault {
+    ghost use Rattle.protocol_rules.specs.declared.book.BookFault.TheVariants.{Memory};
+
+    ghost from_gives = { λ _ fault. fault ≡ Memory };
+
+    fn from(_: AllocFailed<T>) -> BookFault {
+        BookFault::Memory
+    }
 }
 
 /// One growing list of posts that all actors share. An actor posts and reads by a seat of its own, and a seat is handed
@@ -47,7 +67,7 @@ pub trait Book {
     ghost is_whole: { Self → Self → Self.Seat → Self.Seat → Type 0 };
 
     /// Posts a vote that has a spelling and that the rules allow, under the seat's name, and answers the number of the
-    /// post. `Full` comes only where 2^22 posts stand. A refusal posts nothing.
+    /// post. `Full` comes exactly where 2^22 posts stand. A refusal posts nothing.
     fn post(&mut self, seat: &mut Self::Seat, vote: &Vote) -> Result<u32, BookFault>
         requires seat { knows self.old seat.old }
         requires spelled { HasSpelling (config seat.old) vote.now }
@@ -60,10 +80,11 @@ pub trait Book {
             × Posted (config seat.old) (node seat.old) (actor seat.old) (post_of (node seat.old) (actor seat.old) vote.now) k
             (seen seat.old) (seen seat.new)) }
         ensures refused { OnErr result (Watched (config seat.old) (node seat.old) (actor seat.old) (seen seat.old) (seen seat.new)) }
-        ensures full { result ≡ Err BookFault.Full → length (seen seat.new) ≡ most_posts };
+        ensures full { result ≡ Err BookFault.Full → length (seen seat.new) ≡ most_posts }
+        ensures memory { result ≡ Err BookFault.Memory → length (seen seat.new) < most_posts };
 
     /// Posts any bytes under the node of a liar's seat, as any actor, and answers the number of the post. `Full` comes
-    /// only where 2^22 posts stand. A refusal posts nothing.
+    /// exactly where 2^22 posts stand. A refusal posts nothing.
     fn lie(
         &mut self,
         seat: &mut Self::Seat,
@@ -81,15 +102,12 @@ pub trait Book {
             × Posted (config seat.old) (node seat.old) (actor seat.old) (lie_of (node seat.old) as_actor to bytes.now) k
             (seen seat.old) (seen seat.new)) }
         ensures refused { OnErr result (Watched (config seat.old) (node seat.old) (actor seat.old) (seen seat.old) (seen seat.new)) }
-        ensures full { result ≡ Err BookFault.Full → length (seen seat.new) ≡ most_posts };
+        ensures full { result ≡ Err BookFault.Full → length (seen seat.new) ≡ most_posts }
+        ensures memory { result ≡ Err BookFault.Memory → length (seen seat.new) < most_posts };
 
-    /// A copy of post k: None exactly where fewer posts stand.
-    fn read(
-        &mut self,
-        alloc: Global,
-        seat: &mut Self::Seat,
-        k: u32,
-    ) -> Result<Option<Post>, AllocError>
+    /// Post k, and None exactly where there are no more than k. It shares the post's bytes and takes no memory; Err is as of
+    /// `Bytes::clone`.
+    fn read(&mut self, seat: &mut Self::Seat, k: u32) -> Result<Option<Post>, AllocError>
         requires seat { knows self.old seat.old }
         ensures seat { knows self.new seat.new }
         ensures same { (config seat.new ≡ config seat.old) × (node seat.new ≡ node seat.old) × (actor seat.new ≡ actor seat.old) }
@@ -128,4 +146,7 @@ pub trait Book {
     ghost goes_on: { (i x : ℕ) (a b c : Self) → moved i x a b → moved i x b c → moved i x a c };
 
     ghost keeps: { (i x : ℕ) (a b : Self) (s : Self.Seat) → moved i x a b → AreTwo (config s) i x (node s) (actor s) → knows a s → knows b s };
+
+    /// A call that left its seat as it was had nothing new to show: no seat of the book has seen more.
+    ghost looks: { (a b : Self) (s t : Self.Seat) → is_whole a b s s → knows b t → IsPrefix (seen t) (seen s) };
 }

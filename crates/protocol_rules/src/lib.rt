@@ -5,9 +5,14 @@
 pub mod actor;
 pub mod agreement_slot;
 pub mod book;
+#[cfg(test)]
+mod book_tests;
 pub mod due;
 pub mod laws;
 pub mod outbox;
+pub mod plain_book;
+pub mod plain_seat;
+pub mod posts;
 pub mod report;
 #[cfg(test)]
 mod tests;
@@ -18,4 +23,7 @@ pub use book::{Book, BookFault};
 pub use due::Due;
 pub use laws::{broadcast_slot_laws, row_laws, slot_laws};
 pub use outbox::Outbox;
+pub use plain_book::{PlainBook, plain_book_laws};
+pub use plain_seat::PlainSeat;
+pub use posts::Posts;
 pub use report::{End, Fate, Report, running};
