@@ -4,7 +4,8 @@
 
 mod streams;
 
-use hb_app::hb_main;
+use hb_app::{NO_MEMORY, hb_main};
+use hb_base::Sink;
 use hb_rules::Report;
 use std::alloc::{AllocError, Global};
 use std::env;
@@ -29,12 +30,13 @@ fn words(rt: &HostRuntime, alloc: Global) -> Result<Vec<String>, AllocError> {
 
 fn main(rt: HostRuntime) -> ExitCode {
     let alloc = rt.alloc();
-    let Ok(words) = words(&rt, alloc) else {
-        return ExitCode::from(9);
-    };
     let mut source = Reading::new(rt.stdin());
     let mut out = Writing::new(rt.stdout());
     let mut err = Writing::new(rt.stderr());
+    let Ok(words) = words(&rt, alloc) else {
+        let _told = err.put(NO_MEMORY);
+        return ExitCode::from(9);
+    };
     let mut report = Report::empty(alloc);
     let status = hb_main(
         alloc,
