@@ -2,7 +2,7 @@
 //! here, by their contracts alone.
 #![tactic(auto)]
 
-ghost use Rattle.std.specs.Prelude.{◌≡◌, ◌-◌, ◌*◌, ◌<◌, ◌≤◌, length, IfOk, OnOk, slice_index_or, [], ◌++◌};
+ghost use Rattle.std.specs.Prelude.{◌≡◌, ◌-◌, ◌*◌, ◌<◌, ◌≤◌, length, IfOk, OnOk, slice_index_or, [], ◌++◌, true, false};
 ghost use Rattle.std.specs.List.{filter_map};
 ghost use Rattle.std.specs.Option.{option_to_list};
 ghost use Rattle.hb_base.specs.Limits.{most_nodes, most_epochs, most_rounds, longest_value};
@@ -18,7 +18,7 @@ ghost use Rattle.hb_wire.specs.Batches.{IsBatch, batch_bytes};
 
 use coin_deal::{Deal, DealtShare};
 use hb_base::{Bytes, Config};
-use hb_wire::{Post, Vote, WireFault, read, write, write_batch};
+use hb_wire::{Post, Vote, WireFault, equality_laws, read, write, write_batch};
 use merkle_branch::{Leaves, Tree};
 use rs_shards::{encode, value_of};
 use std::alloc::{AllocError, Global};
@@ -155,6 +155,15 @@ pub fn heard(alloc: Global, config: &Config, posts: &[Post]) -> Result<Vec<Vote>
         hear(alloc, config, post, &mut votes)?;
     }
     Ok(votes)
+}
+
+/// Whether two votes are the same.
+pub fn are_same(one: &Vote, other: &Vote) -> bool
+    ensures same { one.now ≡ other.now → result ≡ true }
+    ensures different { (one.now ≡ other.now → ⊥) → result ≡ false }
+{
+    equality_laws();
+    one == other
 }
 
 fn hear(

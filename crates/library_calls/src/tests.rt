@@ -57,6 +57,14 @@ fn value_and_batch(rt: HostRuntime) -> Result<(), Fail> {
     Ok(())
 }
 
+fn aux(bit: bool) -> Vote {
+    Vote::Aux {
+        epoch: 0,
+        round: 3,
+        bit,
+    }
+}
+
 /// A NoMore, one byte that is no vote, and an Aux of version 1.
 #[test]
 fn votes_heard(rt: HostRuntime) -> Result<(), Fail> {
@@ -73,12 +81,13 @@ fn votes_heard(rt: HostRuntime) -> Result<(), Fail> {
     }
     let votes = heard(alloc, &four_nodes(&rt), &posts)?;
     let no_more = Vote::NoMore { epoch: 2 };
-    let aux = Vote::Aux {
-        epoch: 0,
-        round: 3,
-        bit: true,
-    };
     assert_eq!(rt; votes.len(), 2);
-    assert!(rt; votes.first() == Some(&no_more) && votes.last() == Some(&aux));
+    assert!(rt; votes.first() == Some(&no_more) && votes.last() == Some(&aux(true)));
     Ok(())
+}
+
+#[test]
+fn votes_compared(rt: HostRuntime) {
+    assert!(rt; are_same(&aux(true), &aux(true)));
+    assert!(rt; !are_same(&aux(true), &aux(false)));
 }
