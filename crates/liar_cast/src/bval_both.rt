@@ -2,15 +2,16 @@
 
 ghost use Rattle.std.specs.Prelude.{◌≡◌, codes};
 
-use crate::heard::Heard;
+use crate::heard::{Cue, Heard, Round};
 use crate::liar::{Liar, LiarSeat};
 use crate::lies::Lies;
-use crate::speech::{Hushed, lane_of, tell_vote};
+use crate::speech::{Hushed, tell_vote};
 use hb_base::LiarName;
-use hb_wire::{Post, Vote, VoteView, view};
+use hb_wire::{Post, Vote};
 use std::alloc::Global;
 
-/// Answers the first BVAL of each lane, epoch and round: BVAL of 0 and of 1, and AUX of 0 and of 1, to all.
+/// Answers the first BVAL of each lane, epoch and round: BVAL of 0 and of 1, and AUX of 0 and of 1, to all (the votes
+/// of a binary agreement, PODC 2014, figure 2).
 #[derive(Drop)]
 pub struct BvalBoth {
     heard: Heard,
@@ -20,49 +21,25 @@ impl BvalBoth {
     /// One that has heard nothing yet.
     pub fn new() -> BvalBoth {
         BvalBoth {
-            heard: Heard::nothing(),
+            heard: Heard::nothing(Cue::Bval),
         }
     }
+}
 
-    fn answer(
-        &mut self,
-        alloc: Global,
-        me: &LiarSeat,
-        post: &Post,
-        lies: &mut Lies,
-    ) -> Result<(), Hushed> {
-        let n = me.config.n();
-        let version = me.config.version();
-        let lane = lane_of(me, post)?;
-        let heard = view(n, version, post.bytes.as_slice());
-        let Some(VoteView::Bval { epoch, round, .. }) = heard else {
-            return Ok(());
-        };
-        if !self.heard.mark(lane, epoch, round) {
-            return Ok(());
-        }
-        for bit in [false, true] {
-            tell_vote(
-                alloc,
-                n,
-                version,
-                lies,
-                lane,
-                &Vote::Bval { epoch, round, bit },
-            )?;
-        }
-        for bit in [false, true] {
-            tell_vote(
-                alloc,
-                n,
-                version,
-                lies,
-                lane,
-                &Vote::Aux { epoch, round, bit },
-            )?;
-        }
-        Ok(())
+fn support_both(alloc: Global, me: &LiarSeat, lies: &mut Lies, at: Round) -> Result<(), Hushed> {
+    let n = me.config.n();
+    let version = me.config.version();
+    let epoch = at.epoch;
+    let round = at.number;
+    for bit in [false, true] {
+        let bval = Vote::Bval { epoch, round, bit };
+        tell_vote(alloc, n, version, lies, at.lane, &bval)?;
     }
+    for bit in [false, true] {
+        let aux = Vote::Aux { epoch, round, bit };
+        tell_vote(alloc, n, version, lies, at.lane, &aux)?;
+    }
+    Ok(())
 }
 
 impl Liar for BvalBoth {
@@ -77,6 +54,8 @@ impl Liar for BvalBoth {
     {}
 
     fn hear(&mut self, alloc: Global, me: &LiarSeat, post: &Post, lies: &mut Lies) {
-        let _ = self.answer(alloc, me, post, lies);
+        if let Ok(round) = self.heard.first(me, post) {
+            let _ = support_both(alloc, me, lies, round);
+        }
     }
 }

@@ -1,12 +1,12 @@
-//! The liar that echoes to one half of the nodes and not to the other.
+//! The liar that echoes to the even nodes and not to the odd ones.
 
 ghost use Rattle.std.specs.Prelude.{◌≡◌, codes};
 
 use crate::liar::{Liar, LiarSeat};
 use crate::lies::Lies;
-use crate::speech::{Half, Hushed, lane_of, tell_half};
+use crate::speech::{Hushed, Parity, heard_vote, tell_each};
 use hb_base::{Bytes, LiarName};
-use hb_wire::{Post, Vote, VoteView, view};
+use hb_wire::{Post, Vote, VoteView};
 use std::alloc::Global;
 
 /// Answers each VAL for its node: its ECHO goes to each even node, and a READY of the root of 32 bytes FF to each odd
@@ -24,22 +24,19 @@ impl EchoSplit {
 fn answer(alloc: Global, me: &LiarSeat, post: &Post, lies: &mut Lies) -> Result<(), Hushed> {
     let n = me.config.n();
     let version = me.config.version();
-    let lane = lane_of(me, post)?;
-    let heard = view(n, version, post.bytes.as_slice());
-    let Some(
-        VoteView::Val {
-            epoch,
-            target,
-            root,
-            shard,
-            branch,
-        },
-    ) = heard
+    let (lane, vote) = heard_vote(me, post)?;
+    let VoteView::Val {
+        epoch,
+        target,
+        root,
+        shard,
+        branch,
+    } = vote
     else {
-        return Ok(());
+        return Err(Hushed);
     };
     if target != me.node {
-        return Ok(());
+        return Err(Hushed);
     }
     let echo = Vote::Echo {
         epoch,
@@ -47,12 +44,12 @@ fn answer(alloc: Global, me: &LiarSeat, post: &Post, lies: &mut Lies) -> Result<
         shard: Bytes::copy(alloc, shard)?,
         branch,
     };
-    tell_half(alloc, n, version, lies, lane, Half::Even, &echo)?;
+    tell_each(alloc, n, version, lies, lane, Parity::Even, &echo)?;
     let ready = Vote::Ready {
         epoch,
         root: [0xFF; 32],
     };
-    tell_half(alloc, n, version, lies, lane, Half::Odd, &ready)
+    tell_each(alloc, n, version, lies, lane, Parity::Odd, &ready)
 }
 
 impl Liar for EchoSplit {

@@ -6,7 +6,7 @@ ghost use Rattle.hb_base.specs.Limits.{most_nodes, most_epochs, longest_shard};
 
 use crate::liar::{Liar, LiarSeat};
 use crate::lies::Lies;
-use crate::speech::{Half, Hushed, tell_vote};
+use crate::speech::{Hushed, Parity, tell_vote};
 use hb_base::{Bytes, Config, LiarName};
 use hb_wire::{Post, Vote, write_batch};
 use merkle_branch::{Leaves, Tree};
@@ -51,22 +51,23 @@ fn shards_of(alloc: Global, config: &Config, transaction: u8) -> Result<Vec<Byte
     encode(alloc, config.n(), config.k(), value.as_slice())
 }
 
-// Sends the batch of one transaction to half of the nodes.
+// Sends the batch of one transaction to the nodes of this parity.
 fn send(
     alloc: Global,
     me: &LiarSeat,
     lies: &mut Lies,
     epoch: u8,
     transaction: u8,
-    half: Half,
+    parity: Parity,
 ) -> Result<(), Hushed>
     requires { epoch < most_epochs }
 {
     let n = me.config.n();
+    let version = me.config.version();
     let shards = shards_of(alloc, &me.config, transaction)?;
     let tree = tree_of(alloc, &shards)?;
     for target in 0..n {
-        if half.has(target) {
+        if parity.has(target) {
             let val = Vote::Val {
                 epoch,
                 target,
@@ -74,7 +75,7 @@ fn send(
                 shard: shards[target as usize].clone()?,
                 branch: tree.branch(target),
             };
-            tell_vote(alloc, n, me.config.version(), lies, me.node, &val)?;
+            tell_vote(alloc, n, version, lies, me.node, &val)?;
         }
     }
     Ok(())
@@ -82,8 +83,8 @@ fn send(
 
 fn send_both(alloc: Global, me: &LiarSeat, lies: &mut Lies) -> Result<(), Hushed> {
     for epoch in 0..me.config.epochs() {
-        send(alloc, me, lies, epoch, 0x41, Half::Even)?;
-        send(alloc, me, lies, epoch, 0x42, Half::Odd)?;
+        send(alloc, me, lies, epoch, 0x41, Parity::Even)?;
+        send(alloc, me, lies, epoch, 0x42, Parity::Odd)?;
     }
     Ok(())
 }

@@ -2,12 +2,12 @@
 
 ghost use Rattle.std.specs.Prelude.{◌≡◌, codes};
 
-use crate::heard::Heard;
+use crate::heard::{Cue, Heard, Round};
 use crate::liar::{Liar, LiarSeat};
 use crate::lies::Lies;
-use crate::speech::{Hushed, lane_of, tell_vote};
+use crate::speech::{Hushed, tell_vote};
 use hb_base::LiarName;
-use hb_wire::{Post, Vote, VoteView, view};
+use hb_wire::{Post, Vote};
 use merkle_branch::{Branch, MAX_HEIGHT, height};
 use std::alloc::Global;
 
@@ -22,39 +22,25 @@ impl FalseShare {
     /// One that has heard nothing yet.
     pub fn new() -> FalseShare {
         FalseShare {
-            heard: Heard::nothing(),
+            heard: Heard::nothing(Cue::Coin),
         }
     }
+}
 
-    fn answer(
-        &mut self,
-        alloc: Global,
-        me: &LiarSeat,
-        post: &Post,
-        lies: &mut Lies,
-    ) -> Result<(), Hushed> {
-        let n = me.config.n();
-        let version = me.config.version();
-        let lane = lane_of(me, post)?;
-        let heard = view(n, version, post.bytes.as_slice());
-        let Some(VoteView::Coin { epoch, round, .. }) = heard else {
-            return Ok(());
-        };
-        if !self.heard.mark(lane, epoch, round) {
-            return Ok(());
-        }
-        let coin = Vote::Coin {
-            epoch,
-            round,
-            share: 0,
-            salt: [0; 16],
-            branch: Branch {
-                len: height(n),
-                digests: [[0; 32]; MAX_HEIGHT],
-            },
-        };
-        tell_vote(alloc, n, version, lies, lane, &coin)
-    }
+fn hand_out(alloc: Global, me: &LiarSeat, lies: &mut Lies, at: Round) -> Result<(), Hushed> {
+    let n = me.config.n();
+    let version = me.config.version();
+    let coin = Vote::Coin {
+        epoch: at.epoch,
+        round: at.number,
+        share: 0,
+        salt: [0; 16],
+        branch: Branch {
+            len: height(n),
+            digests: [[0; 32]; MAX_HEIGHT],
+        },
+    };
+    tell_vote(alloc, n, version, lies, at.lane, &coin)
 }
 
 impl Liar for FalseShare {
@@ -69,6 +55,8 @@ impl Liar for FalseShare {
     {}
 
     fn hear(&mut self, alloc: Global, me: &LiarSeat, post: &Post, lies: &mut Lies) {
-        let _ = self.answer(alloc, me, post, lies);
+        if let Ok(round) = self.heard.first(me, post) {
+            let _ = hand_out(alloc, me, lies, round);
+        }
     }
 }

@@ -21,11 +21,17 @@ use std::alloc::{AllocError, Global};
 /// A liar of one of the six kinds.
 #[derive(Drop)]
 pub enum Kind {
+    /// Says nothing.
     Silent(Silent),
+    /// Broadcasts two values at once.
     Equivocate(Equivocate),
+    /// Echoes to the even nodes, and not to the odd ones.
     EchoSplit(EchoSplit),
+    /// Supports both bits.
     BvalBoth(BvalBoth),
+    /// Hands out a share of no coin.
     FalseShare(FalseShare),
+    /// Says bytes that mean nothing.
     Babble(Babble),
 }
 

@@ -1,16 +1,17 @@
-//! How the six kinds speak.
+//! How the six kinds hear and speak.
 
 ghost use Rattle.std.specs.Prelude.{◌<◌, ◌≤◌, ◌≡◌, IfOk, OnOk, OnErr};
 ghost use Rattle.hb_base.specs.Limits.{most_nodes};
-ghost use Rattle.hb_wire.specs.Votes.{IsVote};
+ghost use Rattle.hb_wire.specs.Votes.{IsVote, Spells};
+ghost use Rattle.hb_wire.specs.Views.{vote_of};
 ghost use Rattle.liar_cast.specs.Lies.{with_lie};
 
 use crate::liar::LiarSeat;
 use crate::lies::{Lies, Said};
-use hb_wire::{Post, To, Vote, write};
+use hb_wire::{Post, To, Vote, VoteView, view, write};
 use std::alloc::{AllocError, Global};
 
-// A liar says no more in this call: there is no memory, its lies are spent, or what it heard is of no lane.
+// A liar says no more in this call: there is no memory, its lies are spent, or what it heard asks for no answer.
 #[derive(Debug, Drop)]
 pub(crate) struct Hushed;
 
@@ -20,18 +21,18 @@ impl From<AllocError> for Hushed {
     }
 }
 
-// Half of the nodes.
+// The even nodes, or the odd ones.
 #[derive(Clone, Copy)]
-pub(crate) enum Half {
+pub(crate) enum Parity {
     Even,
     Odd,
 }
 
-impl Half {
+impl Parity {
     pub(crate) fn has(self, node: u8) -> bool {
         match self {
-            Half::Even => node % 2 == 0,
-            Half::Odd => node % 2 == 1,
+            Parity::Even => node % 2 == 0,
+            Parity::Odd => node % 2 == 1,
         }
     }
 }
@@ -44,6 +45,18 @@ pub(crate) fn lane_of(me: &LiarSeat, post: &Post) -> Result<u8, Hushed>
         Ok(post.actor)
     } else {
         Err(Hushed)
+    }
+}
+
+// The lane in which a post is heard, and the vote that its bytes spell.
+pub(crate) fn heard_vote<'a>(me: &LiarSeat, post: &'a Post) -> Result<(u8, VoteView<'a>), Hushed>
+    ensures lane { IfOk result (λ heard. (heard.0 ≡ post.now.actor) × (heard.0 < most_nodes)) }
+    ensures vote { IfOk result (λ heard. Spells me.now.config.n me.now.config.version post.now.bytes (vote_of heard.1)) }
+{
+    let lane = lane_of(me, post)?;
+    match view(me.config.n(), me.config.version(), post.bytes.as_slice()) {
+        Some(vote) => Ok((lane, vote)),
+        None => Err(Hushed),
     }
 }
 
@@ -79,21 +92,21 @@ pub(crate) fn tell_vote(
     tell(alloc, lies, lane, vote.to(), bytes.as_slice())
 }
 
-// Tells the vote to each node of the half, wherever it should go.
-pub(crate) fn tell_half(
+// Tells the vote to each node of this parity, wherever it should go.
+pub(crate) fn tell_each(
     alloc: Global,
     n: u8,
     version: u8,
     lies: &mut Lies,
     lane: u8,
-    half: Half,
+    parity: Parity,
     vote: &Vote,
 ) -> Result<(), Hushed>
     requires { IsVote n version vote.now }
 {
     let bytes = write(alloc, n, version, vote)?;
     for node in 0..n {
-        if half.has(node) {
+        if parity.has(node) {
             tell(alloc, lies, lane, To::Node(node), bytes.as_slice())?;
         }
     }

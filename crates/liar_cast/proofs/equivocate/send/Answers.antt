@@ -7,7 +7,7 @@ use Rattle.liar_cast.proofs.equivocate.send.Goals as goal
 
 pub tell_vote-requires : goal.tell_vote-requires
 tell_vote-requires c =
-    let version = c.version.ensures.bounds in
+    let version = c.version-version.ensures.bounds in
     let shards = c.in_ok-shards.ensures in
     let target = c.loop-target.target in
     let same = c.in_ok-clone.ensures.cases in

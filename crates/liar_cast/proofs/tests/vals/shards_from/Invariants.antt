@@ -4,7 +4,7 @@ use Rattle.liar_cast.proofs.tests.vals.shards_from.Given as goal
 
 -- distinct, of nodes below this one, and short
 abbrev pub invariant-loop-node : goal.invariant-loop-node
-invariant-loop-node g l = record {
+invariant-loop-node l = record {
   distinct : AllPairs (λ x y. x.0 ≢ y.0) l.got.items;
   below : All (λ x. x.0 < l.node) l.got.items;
   short : All (λ x. length x.1 < 2 ^ 32) l.got.items;
