@@ -17,20 +17,17 @@ use Rattle.protocol_rules.specs.Desk.{IsAccepted, MayAtDesk}
 use Rattle.protocol_rules.specs.Parts.{Part, broadcast, agreement, desk, part_of}
 use Rattle.protocol_rules.specs.Rules.{MayInPart, MayCast}
 use Rattle.protocol_rules.specs.Terms.{AreAmong}
-use Rattle.protocol_rules.proofs.Among.{heard_by-grows, MayBroadcast-among}
+use Rattle.protocol_rules.proofs.Among.{heard_by-among, MayBroadcast-among}
 use Rattle.protocol_rules.proofs.Counts.{count_nodes-mono}
 
 -- what was heard is among what was heard, and more
 pub AreAmong-more : (heard more : List Hearing) → AreAmong heard (heard ++ more)
 AreAmong-more heard more = record { each = λ h stands. Contains-append_left heard more h stands }
 
-shown : (some all : List Hearing) (a : ℕ) (test : Vote → Bool) → AreAmong some all → heard_by some a test ≡ true → heard_by all a test ≡ true
-shown some all a test among h = (heard_by-grows some all among).grows a test h
-
 count_shown-among : (n : ℕ) (test : Vote → Bool) (some all : List Hearing) → AreAmong some all
     → count_shown n (heard_by some) test ≤ count_shown n (heard_by all) test
 count_shown-among n test some all among =
-    count_nodes-mono n (λ a. heard_by some a test) (λ a. heard_by all a test) (λ a below h. shown some all a test among h)
+    count_nodes-mono n (λ a. heard_by some a test) (λ a. heard_by all a test) (λ a below h. heard_by-among some all a test among h)
 
 -- ---- the agreement
 
@@ -40,7 +37,7 @@ support-among n e claim some all among = count_shown-among n (makes e claim) som
 share_count-among : (c : Numbers) (e j r : ℕ) (some all : List Hearing) → AreAmong some all → share_count c e j r some ≤ share_count c e j r all
 share_count-among c e j r some all among =
     count_nodes-mono c.n (λ a. heard_by some a (is_share c e j r a)) (λ a. heard_by all a (is_share c e j r a))
-    (λ a below h. shown some all a (is_share c e j r a) among h)
+    (λ a below h. heard_by-among some all a (is_share c e j r a) among h)
 
 HasCoin-among : (c : Numbers) (e j r : ℕ) (some all : List Hearing) (bit : Bool) → AreAmong some all → HasCoin c e j r some bit → HasCoin c e j r all bit
 HasCoin-among c e j r some all bit among coin = record {
@@ -98,7 +95,7 @@ IsLeftWith-among true c e r vals own some all among left = IsConfirmed-among c e
 MayBegin-among : (c : Numbers) (i j e r : ℕ) (b : Bool) (own : List Vote) (some all : List Hearing) → AreAmong some all
     → MayBegin c i j e r b own some → MayBegin c i j e r b own all
 MayBegin-among c i j e zero true own some all among may = may
-MayBegin-among c i j e zero false own some all among may = shown some all i (is_no_more e) among may
+MayBegin-among c i j e zero false own some all among may = heard_by-among some all i (is_no_more e) among may
 MayBegin-among c i j e (suc r) b own some all among may = record {
   shares = omega (arith, may.shares, share_count-among c e j r some all among);
   picked = elim may.picked [
@@ -144,7 +141,7 @@ IsAccepted-among : (c : Numbers) (e : ℕ) (some all : List Hearing) (list : Lis
     → IsAccepted c e some list → IsAccepted c e all list
 IsAccepted-among c e some all list among accepted = record {
   bits = accepted.bits;
-  decided = λ j below. shown some all j (is_decision e (accepted.bits j)) among (accepted.decided j below);
+  decided = λ j below. heard_by-among some all j (is_decision e (accepted.bits j)) among (accepted.decided j below);
   lanes = accepted.lanes;
   values =
       All-weaker (λ (item : Item). Contains some (hearing item.node (Delivered e item.value)))
