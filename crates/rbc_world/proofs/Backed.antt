@@ -1,0 +1,203 @@
+-- What stands behind the Ready and Delivered votes of correct nodes, and behind Val and Echo in the lane of a correct node.
+use Rattle.std.proofs.Common.{◌≡◌, ℕ, ◌+◌, ◌<◌, ◌≤◌, false, inl, inr, List, [], ◌∷◌, ◌++◌, Contains, arith}
+use Rattle.hb_base.specs.Counting.{count_nodes}
+use Rattle.hb_base.specs.Numbers.{Numbers, AreSound}
+use Rattle.hb_base.specs.NodeSet.{is_in}
+use Rattle.merkle_branch.specs.declared.Branch.{Branch}
+use Rattle.merkle_branch.specs.Digests.{tree_root}
+use Rattle.rs_shards.specs.Completing.{IsEncoding}
+use Rattle.hb_wire.specs.declared.vote.Vote.TheVariants.{Val, Echo, Ready, Delivered, Propose}
+use Rattle.hb_wire.specs.declared.post.Post.{Post}
+use Rattle.protocol_rules.specs.Claims.{is_echo, is_ready}
+use Rattle.protocol_rules.specs.Hearing.{hearing, heard_in, heard_by, own_in, said_in}
+use Rattle.protocol_rules.specs.Code.{data_count, HasQuorum, HasDelivery, ready_count}
+use Rattle.protocol_rules.specs.Rules.{MayCast}
+use Rattle.protocol_rules.specs.History.{MayFollow, IsLegal}
+use Rattle.protocol_rules.proofs.Counts.{count_nodes-wider, correct_member, shared_correct}
+use Rattle.protocol_rules.proofs.Among.{Grows, HasQuorum-grows, HasDelivery-grows, ready_count-grows}
+use Rattle.rbc_world.proofs.Histories.{AreAddressed, addressed_induction}
+use Rattle.rbc_world.proofs.Cast.{newly_cast, cast_stays, heard_cast, proposal_cast}
+use Rattle.rbc_world.proofs.Shown.{heard-said, said-stays, ready_said, echo_said}
+use Rattle.rbc_world.proofs.Once.{one_echo}
+
+pub few_liars : (c : Numbers) → AreSound c → count_nodes c.n (is_in c.liars) ≤ c.f
+few_liars c sound = omega (arith, sound.few, count_nodes-wider c.n 16 (is_in c.liars) sound.nodes.1)
+
+-- of more than f nodes that are ready one is correct
+pub ready_correct : (c : Numbers) (x e : ℕ) (root : List ℕ) (history : List Post) → AreSound c → c.f + 1 ≤ ready_count c.n e root (said_in c x history)
+    → (a : ℕ) × (a < c.n) × (is_in c.liars a ≡ false) × Contains (own_in c a x history) (Ready e root)
+ready_correct c x e root history sound many =
+    let found =
+    correct_member c.n c.f (is_in c.liars) (λ a. said_in c x history a (is_ready e root)) (few_liars c sound) (omega (arith, many)) in
+    (found.0, found.1, found.3, ready_said c x e found.0 root history found.2)
+
+-- ---- Ready and Delivered
+
+-- in the lanes of this number, what correct nodes are ready for has a quorum, and what they deliver a delivery
+record AreBacked (c : Numbers) (x : ℕ) (history : List Post) : Type 0 where
+  readies : (e i : ℕ) (root : List ℕ) → is_in c.liars i ≡ false → Contains (own_in c i x history) (Ready e root)
+      → HasQuorum c e root (said_in c x history)
+  deliveries : (e i : ℕ) (value : List ℕ) → is_in c.liars i ≡ false → Contains (own_in c i x history) (Delivered e value)
+      → HasDelivery c e value (said_in c x history)
+
+-- what a correct node may become ready for
+ready_source : (c : Numbers) (x e i : ℕ) (root : List ℕ) (history : List Post) → AreSound c → AreAddressed c history → AreBacked c x history
+    → is_in c.liars i ≡ false → MayCast c i x (own_in c i x history) (heard_in c i x history) (Ready e root)
+    → HasQuorum c e root (said_in c x history)
+ready_source c x e i root history sound addressed backed correct (inr may) = absurd may.1
+ready_source c x e i root history sound addressed backed correct (inl may) = elim may.1.0 [
+  | inl quorum ↦ HasQuorum-grows c e root (heard_by (heard_in c i x history)) (said_in c x history) grows quorum
+  | inr readies ↦
+      let more = ready_count-grows c.n e root (heard_by (heard_in c i x history)) (said_in c x history) grows in
+      let found = ready_correct c x e root history sound (omega (arith, readies, more)) in
+      backed.readies e found.0 root found.2 found.3
+]
+  where
+    grows : Grows (heard_by (heard_in c i x history)) (said_in c x history)
+    grows = heard-said c i x history addressed may.0 correct
+
+delivery_source : (c : Numbers) (x e i : ℕ) (value : List ℕ) (history : List Post) → AreAddressed c history → is_in c.liars i ≡ false
+    → MayCast c i x (own_in c i x history) (heard_in c i x history) (Delivered e value)
+    → HasDelivery c e value (said_in c x history)
+delivery_source c x e i value history addressed correct (inr may) = absurd may.1
+delivery_source c x e i value history addressed correct (inl may) =
+    HasDelivery-grows c e value (heard_by (heard_in c i x history)) (said_in c x history) (heard-said c i x history addressed may.0 correct) may.1.0
+
+AreBacked-push : (c : Numbers) (x : ℕ) → AreSound c → (history : List Post) (post : Post) → AreAddressed c history → AreBacked c x history
+    → MayFollow c history post
+    → AreBacked c x (history ++ post ∷ [])
+AreBacked-push c x sound history post addressed backed follows = record {
+  readies = λ e i root correct h.
+      HasQuorum-grows c e root (said_in c x history) (said_in c x (history ++ post ∷ [])) (said-stays c x history (post ∷ []))
+      (elim (newly_cast c i x history post (Ready e root) correct follows h) [
+        | inl before ↦ backed.readies e i root correct before
+        | inr new ↦ ready_source c x e i root history sound addressed backed correct new.may
+      ]);
+  deliveries = λ e i value correct h.
+      HasDelivery-grows c e value (said_in c x history) (said_in c x (history ++ post ∷ [])) (said-stays c x history (post ∷ []))
+      (elim (newly_cast c i x history post (Delivered e value) correct follows h) [
+        | inl before ↦ backed.deliveries e i value correct before
+        | inr new ↦ delivery_source c x e i value history addressed correct new.may
+      ]);
+}
+
+are_backed : (c : Numbers) (x : ℕ) → AreSound c → (history : List Post) → IsLegal c history → AreBacked c x history
+are_backed c x sound history legal =
+    addressed_induction c (AreBacked c x) (record {
+      readies = λ e i root correct h. absurd (omega (arith, h.1));
+      deliveries = λ e i value correct h. absurd (omega (arith, h.1));
+    }) (λ before post addressed backed follows. AreBacked-push c x sound before post addressed backed follows) history legal
+
+pub ready_backed : (c : Numbers) (x e i : ℕ) (root : List ℕ) → AreSound c → (history : List Post) → IsLegal c history → is_in c.liars i ≡ false
+    → Contains (own_in c i x history) (Ready e root) → HasQuorum c e root (said_in c x history)
+ready_backed c x e i root sound history legal correct h = (are_backed c x sound history legal).readies e i root correct h
+
+pub delivery_backed : (c : Numbers) (x e i : ℕ) (value : List ℕ) → AreSound c → (history : List Post) → IsLegal c history → is_in c.liars i ≡ false
+    → Contains (own_in c i x history) (Delivered e value) → HasDelivery c e value (said_in c x history)
+delivery_backed c x e i value sound history legal correct h = (are_backed c x sound history legal).deliveries e i value correct h
+
+-- only lanes deliver
+pub delivery_lane : (c : Numbers) (i x e : ℕ) (value : List ℕ) → is_in c.liars i ≡ false → (history : List Post) → IsLegal c history
+    → Contains (own_in c i x history) (Delivered e value) → x < c.n
+delivery_lane c i x e value correct history legal =
+    addressed_induction c (λ (posts : List Post). Contains (own_in c i x posts) (Delivered e value) → x < c.n) (λ none. absurd (omega (arith, none.1)))
+    (λ before post addressed holds follows h. elim (newly_cast c i x before post (Delivered e value) correct follows h) [
+      | inl earlier ↦ holds earlier
+      | inr new ↦ elim new.may [ inl may ↦ may.0 | inr may ↦ absurd may.1 ]
+    ]) history legal
+
+-- ---- quorums
+
+-- two quorums of Echoes are of one root, since they share a correct node
+pub quorums_agree : (c : Numbers) (x e : ℕ) (root other : List ℕ) (history : List Post) → AreSound c → IsLegal c history
+    → HasQuorum c e root (said_in c x history) → HasQuorum c e other (said_in c x history)
+    → root ≡ other
+quorums_agree c x e root other history sound legal first second =
+    let found =
+    shared_correct c.n c.f (is_in c.liars) (λ a. said_in c x history a (is_echo c.n e root a)) (λ a. said_in c x history a (is_echo c.n e other a))
+    (few_liars c sound) (omega (arith, first.echoes, second.echoes, sound.enough)) in
+    let one = echo_said c x e found.0 root history found.2 in
+    let two = echo_said c x e found.0 other history found.3 in
+    one_echo c found.0 x e found.4 history legal root other one.0 two.0 one.1 two.1 one.2 two.2
+
+-- ---- Val and Echo in the lane of a correct node
+
+-- the root is that of the codeword of a value that the desk of node x has proposed
+pub record IsProposedRoot (c : Numbers) (x e : ℕ) (root : List ℕ) (history : List Post) : Type 0 where
+  pub value : List ℕ
+  pub proposed : Contains (own_in c x c.n history) (Propose e value)
+  pub shards : List (List ℕ)
+  pub encoding : IsEncoding c.n (data_count c) value shards
+  pub root_is : tree_root shards ≡ root
+
+IsProposedRoot-stays : (c : Numbers) (x e : ℕ) (root : List ℕ) (history more : List Post) → IsProposedRoot c x e root history
+    → IsProposedRoot c x e root (history ++ more)
+IsProposedRoot-stays c x e root history more proposed = record {
+  value = proposed.value;
+  proposed = cast_stays c x c.n history more (Propose e proposed.value) proposed.proposed;
+  shards = proposed.shards;
+  encoding = proposed.encoding;
+  root_is = proposed.root_is;
+}
+
+record AreSourced (c : Numbers) (x : ℕ) (history : List Post) : Type 0 where
+  vals : (e m : ℕ) (root shard : List ℕ) (branch : Branch) → Contains (own_in c x x history) (Val e m root shard branch)
+      → IsProposedRoot c x e root history
+  echoes : (e i : ℕ) (root shard : List ℕ) (branch : Branch) → is_in c.liars i ≡ false → Contains (own_in c i x history) (Echo e root shard branch)
+      → IsProposedRoot c x e root history
+
+val_source : (c : Numbers) (x e m : ℕ) (root shard : List ℕ) (branch : Branch) (history : List Post)
+    → MayCast c x x (own_in c x x history) (heard_in c x x history) (Val e m root shard branch)
+    → IsProposedRoot c x e root history
+val_source c x e m root shard branch history (inr may) = absurd may.1
+val_source c x e m root shard branch history (inl may) =
+    let part = may.1.1 in
+    record {
+      value = part.value;
+      proposed = proposal_cast c x x x e part.value history part.proposed;
+      shards = part.coded.shards;
+      encoding = part.coded.encoding;
+      root_is = part.coded.root_is;
+    }
+
+echo_source : (c : Numbers) (x e i : ℕ) (root shard : List ℕ) (branch : Branch) (history : List Post) → AreAddressed c history → AreSourced c x history
+    → is_in c.liars i ≡ false → MayCast c i x (own_in c i x history) (heard_in c i x history) (Echo e root shard branch)
+    → IsProposedRoot c x e root history
+echo_source c x e i root shard branch history addressed sourced correct (inr may) = absurd may.1
+echo_source c x e i root shard branch history addressed sourced correct (inl may) =
+    sourced.vals e i root shard branch
+    (heard_cast c i x history (hearing x (Val e i root shard branch)) addressed may.0 correct may.1.0 (λ home. absurd (cc (home))))
+
+AreSourced-push : (c : Numbers) (x : ℕ) → is_in c.liars x ≡ false → (history : List Post) (post : Post) → AreAddressed c history
+    → AreSourced c x history → MayFollow c history post
+    → AreSourced c x (history ++ post ∷ [])
+AreSourced-push c x sender history post addressed sourced follows = record {
+  vals = λ e m root shard branch h.
+      IsProposedRoot-stays c x e root history (post ∷ []) (elim (newly_cast c x x history post (Val e m root shard branch) sender follows h) [
+        | inl before ↦ sourced.vals e m root shard branch before
+        | inr new ↦ val_source c x e m root shard branch history new.may
+      ]);
+  echoes = λ e i root shard branch correct h.
+      IsProposedRoot-stays c x e root history (post ∷ []) (elim (newly_cast c i x history post (Echo e root shard branch) correct follows h) [
+        | inl before ↦ sourced.echoes e i root shard branch correct before
+        | inr new ↦ echo_source c x e i root shard branch history addressed sourced correct new.may
+      ]);
+}
+
+are_sourced : (c : Numbers) (x : ℕ) → is_in c.liars x ≡ false → (history : List Post) → IsLegal c history → AreSourced c x history
+are_sourced c x sender history legal =
+    addressed_induction c (AreSourced c x) (record {
+      vals = λ e m root shard branch h. absurd (omega (arith, h.1));
+      echoes = λ e i root shard branch correct h. absurd (omega (arith, h.1));
+    }) (λ before post addressed sourced follows. AreSourced-push c x sender before post addressed sourced follows) history legal
+
+-- a root with a quorum in the lane of a correct node is that of a proposal
+pub quorum_proposed : (c : Numbers) (x e : ℕ) (root : List ℕ) (history : List Post) → AreSound c → IsLegal c history → is_in c.liars x ≡ false
+    → HasQuorum c e root (said_in c x history)
+    → IsProposedRoot c x e root history
+quorum_proposed c x e root history sound legal sender quorum =
+    let found =
+    correct_member c.n c.f (is_in c.liars) (λ a. said_in c x history a (is_echo c.n e root a)) (few_liars c sound)
+    (omega (arith, quorum.echoes, sound.enough)) in
+    let shown = echo_said c x e found.0 root history found.2 in
+    (are_sourced c x sender history legal).echoes e found.0 root shown.0 shown.1 found.3 shown.2

@@ -1,0 +1,104 @@
+-- Votes that an actor casts once: an Echo in a lane and epoch, a proposal for an epoch.
+use Rattle.std.proofs.Common.{◌≡◌, ℕ, Bool, true, false, ◌==◌, inl, inr, List, [], ◌∷◌, ◌++◌, Contains, if◌then◌else◌, None, Some, refl, sym, ap, ◌∙◌, arith}
+use Rattle.std.specs.List.{list_any}
+use Rattle.std.specs.Option.{is_some}
+use Rattle.std.proofs.lemmas.Bool.{eqb-true, eq-eqb}
+use Rattle.hb_base.specs.Numbers.{Numbers}
+use Rattle.hb_base.specs.NodeSet.{is_in}
+use Rattle.merkle_branch.specs.declared.Branch.{Branch}
+use Rattle.hb_wire.specs.declared.vote.Vote.{Vote}
+use Rattle.hb_wire.specs.declared.vote.Vote.TheVariants.{Echo, Propose}
+use Rattle.hb_wire.specs.declared.post.Post.{Post}
+use Rattle.protocol_rules.specs.Claims.{is_any_echo, is_any_proposal}
+use Rattle.protocol_rules.specs.Hearing.{Hearing, heard_in, own_in}
+use Rattle.protocol_rules.specs.Rules.{MayCast}
+use Rattle.protocol_rules.specs.History.{MayFollow, IsLegal}
+use Rattle.protocol_rules.proofs.Lists.{list_any-from}
+use Rattle.rbc_world.proofs.Histories.{legal_induction}
+use Rattle.rbc_world.proofs.Cast.{IsNew, newly_cast}
+
+-- a vote with the mark may be cast only where none is
+pub record IsOnce (c : Numbers) (mark : Vote → Bool) : Type 0 where
+  pub first : (i x : ℕ) (own : List Vote) (heard : List Hearing) (vote : Vote) → mark vote ≡ true → MayCast c i x own heard vote
+      → list_any mark own ≡ false
+
+-- all votes of an actor with the mark are one
+record IsOne (c : Numbers) (mark : Vote → Bool) (i x : ℕ) (history : List Post) : Type 0 where
+  one : (v w : Vote) → Contains (own_in c i x history) v → Contains (own_in c i x history) w → mark v ≡ true → mark w ≡ true → v ≡ w
+
+not_first : (c : Numbers) (mark : Vote → Bool) → IsOnce c mark → (i x : ℕ) (history : List Post) (post : Post) (v w : Vote)
+    → Contains (own_in c i x history) v → IsNew c i x history post w → mark v ≡ true → mark w ≡ true → ⊥
+not_first c mark once i x history post v w before new marked also =
+    let some : list_any mark (own_in c i x history) ≡ true = list_any-from mark (own_in c i x history) v before marked in
+    let none : list_any mark (own_in c i x history) ≡ false = once.first i x (own_in c i x history) (heard_in c i x history) w also new.may in
+    cc (some, none)
+
+IsOne-push : (c : Numbers) (mark : Vote → Bool) → IsOnce c mark → (i x : ℕ) → is_in c.liars i ≡ false → (history : List Post) (post : Post)
+    → IsOne c mark i x history → MayFollow c history post
+    → IsOne c mark i x (history ++ post ∷ [])
+IsOne-push c mark once i x correct history post holds follows = record {
+  one = λ v w first second marked also.
+      elim (newly_cast c i x history post v correct follows first) [
+        | inl before ↦ elim (newly_cast c i x history post w correct follows second) [
+          | inl too ↦ holds.one v w before too marked also
+          | inr new ↦ absurd (not_first c mark once i x history post v w before new marked also)
+        ]
+        | inr new ↦ elim (newly_cast c i x history post w correct follows second) [
+          | inl before ↦ absurd (not_first c mark once i x history post w v before new also marked)
+          | inr too ↦ cc (new.is, too.is)
+        ]
+      ];
+}
+
+pub cast_once : (c : Numbers) (mark : Vote → Bool) → IsOnce c mark → (i x : ℕ) → is_in c.liars i ≡ false → (history : List Post) → IsLegal c history
+    → (v w : Vote) → Contains (own_in c i x history) v → Contains (own_in c i x history) w → mark v ≡ true → mark w ≡ true → v ≡ w
+cast_once c mark once i x correct history legal =
+    (legal_induction c (IsOne c mark i x) (record { one = λ v w first second marked also. absurd (omega (arith, first.1)) })
+    (λ before post holds follows. IsOne-push c mark once i x correct before post holds follows) history legal).one
+
+pub echo-once : (c : Numbers) (e : ℕ) → IsOnce c (is_any_echo e)
+echo-once c e = record { first = first }
+  where
+    first : (i x : ℕ) (own : List Vote) (heard : List Hearing) (vote : Vote) → is_any_echo e vote ≡ true → MayCast c i x own heard vote
+        → list_any (is_any_echo e) own ≡ false
+    first i x own heard (Echo d root shard branch) marked (inl may) =
+        ap (λ (k : ℕ). list_any (is_any_echo k) own) (sym (eqb-true d e marked)) ∙ may.1.2
+    first i x own heard (Echo d root shard branch) marked (inr may) = absurd may.1
+    first i x own heard vote marked may = absurd (cc (marked))
+
+some_only : {A : Type 0} (b : Bool) (y : A) → is_some (if b then Some y else None) ≡ true → b ≡ true
+some_only true y h = refl
+some_only false y h = absurd (cc (h))
+
+some_at : {A : Type 0} (b : Bool) (y : A) → b ≡ true → is_some (if b then Some y else None) ≡ true
+some_at true y h = refl
+some_at false y h = absurd (cc (h))
+
+pub proposal-once : (c : Numbers) (e : ℕ) → IsOnce c (is_any_proposal e)
+proposal-once c e = record { first = first }
+  where
+    first : (i x : ℕ) (own : List Vote) (heard : List Hearing) (vote : Vote) → is_any_proposal e vote ≡ true → MayCast c i x own heard vote
+        → list_any (is_any_proposal e) own ≡ false
+    first i x own heard (Propose d value) marked (inl may) = absurd may.1
+    first i x own heard (Propose d value) marked (inr may) =
+        ap (λ (k : ℕ). list_any (is_any_proposal k) own) (sym (eqb-true d e (some_only (d == e) value marked))) ∙ may.1.2
+    first i x own heard vote marked may = absurd (cc (marked))
+
+-- a correct lane echoes one root in an epoch
+pub one_echo : (c : Numbers) (i x e : ℕ) → is_in c.liars i ≡ false → (history : List Post) → IsLegal c history
+    → (root other shard piece : List ℕ) (branch path : Branch) → Contains (own_in c i x history) (Echo e root shard branch)
+    → Contains (own_in c i x history) (Echo e other piece path) → root ≡ other
+one_echo c i x e correct history legal root other shard piece branch path first second =
+    let same : Echo e root shard branch ≡ Echo e other piece path =
+    cast_once c (is_any_echo e) (echo-once c e) i x correct history legal (Echo e root shard branch) (Echo e other piece path) first second
+    (eq-eqb e e refl) (eq-eqb e e refl) in
+    cc (same)
+
+-- a correct actor proposes one value for an epoch
+pub one_proposal : (c : Numbers) (i x e : ℕ) → is_in c.liars i ≡ false → (history : List Post) → IsLegal c history → (value other : List ℕ)
+    → Contains (own_in c i x history) (Propose e value) → Contains (own_in c i x history) (Propose e other) → value ≡ other
+one_proposal c i x e correct history legal value other first second =
+    let same : Propose e value ≡ Propose e other =
+    cast_once c (is_any_proposal e) (proposal-once c e) i x correct history legal (Propose e value) (Propose e other) first second
+    (some_at (e == e) value (eq-eqb e e refl)) (some_at (e == e) other (eq-eqb e e refl)) in
+    cc (same)

@@ -1,0 +1,26 @@
+-- What stands behind the votes of a broadcast. The letters: e is an epoch, j a lane, m a node of a run with config c.
+use Rattle.std.specs.Prelude.{◌≡◌, ℕ, ◌<◌, Bool, List, Contains}
+use Rattle.hb_base.specs.Numbers.{Numbers}
+use Rattle.merkle_branch.specs.Digests.{tree_root}
+use Rattle.rs_shards.specs.Rebuilding.{IsRebuilt}
+use Rattle.hb_wire.specs.declared.vote.Vote.{Vote}
+use Rattle.hb_wire.specs.declared.vote.Vote.TheVariants.{Ready}
+use Rattle.hb_wire.specs.declared.post.Post.{Post}
+use Rattle.protocol_rules.specs.Hearing.{own_in, said_in}
+use Rattle.protocol_rules.specs.Code.{data_count, AreEchoes, HasDelivery}
+use Rattle.protocol_rules.specs.Ledger.{IsCorrect}
+
+-- One codeword has the root, and it alone goes through the shards of any k valid Echoes for the root.
+pub record HasOneCodeword (c : Numbers) (e : ℕ) (root : List ℕ) (shown : ℕ → (Vote → Bool) → Bool) : Type 0 where
+  pub shards : List (List ℕ)
+  pub root_is : tree_root shards ≡ root
+  pub rebuilt : (got : List (ℕ × List ℕ)) → AreEchoes c.n (data_count c) e root shown got → IsRebuilt c.n (data_count c) got shards
+  pub only : (got : List (ℕ × List ℕ)) (others : List (List ℕ)) → AreEchoes c.n (data_count c) e root shown got
+      → IsRebuilt c.n (data_count c) got others → others ≡ shards
+
+-- A value was delivered in a lane: 2f + 1 nodes have posted Ready for a root there, valid Echoes of k nodes rebuild to the
+-- value under this root, and it is the root that each correct node's Ready names.
+pub record IsBacked (c : Numbers) (history : List Post) (j e : ℕ) (value : List ℕ) : Type 0 where
+  pub lane : j < c.n
+  pub delivery : HasDelivery c e value (said_in c j history)
+  pub named : (m : ℕ) (root : List ℕ) → IsCorrect c m → Contains (own_in c m j history) (Ready e root) → root ≡ delivery.root
