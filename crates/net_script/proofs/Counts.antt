@@ -1,5 +1,5 @@
 -- Counting the nodes of a set that grows, and what stands for each number below another.
-use Rattle.std.proofs.Common.{◌≡◌, ℕ, zero, suc, ◌+◌, ◌<◌, ◌≤◌, ◌==◌, ◌||◌, Bool, true, false, if◌then◌else◌, List, [], ◌∷◌, ◌++◌, replicate, refl}
+use Rattle.std.proofs.Common.{◌≡◌, ℕ, zero, suc, ◌+◌, ◌<◌, ◌≤◌, ◌==◌, ◌||◌, Bool, true, false, if◌then◌else◌, List, ◌++◌, replicate, refl}
 use Rattle.std.proofs.Common.{sym, ap, ◌∙◌, arith, append_assoc, append-nil}
 use Rattle.std.specs.List.{flat_map, range_with_len}
 use Rattle.std.proofs.lemmas.Bool.{eqb-true}
@@ -41,7 +41,7 @@ count_with (suc n) p q node is = by (n == node) (count_with n p q node is) refl
         let same : q n ≡ p n = is n ∙ ap (λ b. b || p n) other in
         rw same (omega (arith, rest))
 
-pub none_marked : HasAtMost 0 (replicate 16 false)
+pub none_marked : HasAtMost 0 (replicate most_nodes false)
 none_marked = record { few = omega arith }
 
 pub one_more_marked : (before after : List Bool) (node most : ℕ) → HasAtMost most before

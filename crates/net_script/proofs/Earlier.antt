@@ -1,9 +1,8 @@
 -- A list at one of its elements: what is before it, and what is left.
-use Rattle.std.proofs.Common.{◌≡◌, ℕ, ◌+◌, ◌<◌, ◌≤◌, ◌==◌, Bool, true, false, nat_lt, List, [], ◌∷◌, ◌++◌, length, get_or, take, drop, count_by}
+use Rattle.std.proofs.Common.{◌≡◌, ℕ, ◌+◌, ◌<◌, ◌==◌, Bool, nat_lt, List, [], ◌∷◌, ◌++◌, length, get_or, take, drop, count_by}
 use Rattle.std.proofs.Common.{bytes_eq, Err, if◌then◌else◌, refl, sym, ap, ◌∙◌, add-one, drop-cons}
 use Rattle.std.specs.List.{list_any}
 use Rattle.std.proofs.lemmas.List.{take_more}
-use Rattle.std.proofs.lemmas.Bool.{lt-ltb, le-ltb}
 use Rattle.net_script.specs.declared.fault.ScriptFault.TheVariants.{LiarTwice, NoSuchLiar}
 use Rattle.net_script.specs.declared.script.LiarAt.{LiarAt}
 use Rattle.net_script.specs.Entries.{each_once, all_cast}

@@ -1,7 +1,6 @@
 -- The items of a list.
-use Rattle.std.proofs.Common.{◌≡◌, ℕ, ◌+◌, ◌<◌, ◌≤◌, List, [], ◌∷◌, length, drop, get_or, refl, ap, add-one, drop-cons, sym, arith, map}
-use Rattle.serde_json.specs.View.{view, items_view}
-use Rattle.serde_json.specs.Data.{no_items, item}
+use Rattle.std.proofs.Common.{◌≡◌, List, [], ◌∷◌, length, refl, arith}
+use Rattle.serde_json.specs.View.{items_view}
 use Rattle.serde_json.specs.declared.value.Value.{Value}
 use Rattle.net_script.specs.Entries.{count_items}
 

@@ -1,5 +1,5 @@
 -- How long the words of places are.
-use Rattle.std.proofs.Common.{ℕ, ◌≤◌, List, length, lit≤}
+use Rattle.std.proofs.Common.{◌≤◌, length, lit≤}
 use Rattle.net_script.specs.declared.place.ListName.{ListName}
 use Rattle.net_script.specs.declared.place.ListName.TheVariants as lists
 use Rattle.net_script.specs.declared.place.KeyName.{KeyName}

@@ -1,7 +1,11 @@
+pub mod Apart
 pub mod Counts
 pub mod Earlier
+pub mod Few
 pub mod Items
 pub mod Lengths
 pub mod Names
+pub mod Planned
+pub mod Steps
 pub mod Texts
 pub mod Writing

@@ -1,5 +1,5 @@
 -- The lists of a scenario, in the order in which they are read.
-use Rattle.std.specs.Prelude.{ℕ, zero, suc, ◌+◌, ◌-◌, ◌^◌, ◌&&◌, ◌==◌, min, Bool, not, nat_lt, nat_le, List, [], ◌∷◌, ◌++◌, length, count_by, Result}
+use Rattle.std.specs.Prelude.{ℕ, ◌+◌, ◌-◌, ◌^◌, ◌&&◌, ◌==◌, min, Bool, nat_lt, nat_le, List, [], ◌∷◌, ◌++◌, length, count_by, Result}
 use Rattle.std.specs.Prelude.{Ok, Err, if◌then◌else◌, bytes_eq, ⊤}
 use Rattle.std.specs.List.{list_any}
 use Rattle.serde_json.specs.Data.{Data, Items, no_items, item}
@@ -9,7 +9,6 @@ use Rattle.net_script.specs.declared.fault.ScriptFault.{ScriptFault}
 use Rattle.net_script.specs.declared.fault.ScriptFault.TheVariants.{OutOfRange, TooManyLiars, LiarTwice, NoSuchLiar}
 use Rattle.net_script.specs.declared.place.ListName.{ListName}
 use Rattle.net_script.specs.declared.place.ListName.TheVariants as lists
-use Rattle.net_script.specs.declared.place.KeyName.{KeyName}
 use Rattle.net_script.specs.declared.place.KeyName.TheVariants as keys
 use Rattle.net_script.specs.declared.script.Submit.{Submit}
 use Rattle.net_script.specs.declared.script.LiarAt.{LiarAt}

@@ -1,5 +1,5 @@
 -- Reading one thing after another, up to the first fault.
-use Rattle.std.specs.Prelude.{◌≡◌, Bool, true, false, Option, Some, None, Result, Ok, Err, ⊤}
+use Rattle.std.specs.Prelude.{◌≡◌, Bool, true, false, Result, Ok, Err, ⊤}
 use Rattle.net_script.specs.declared.fault.ScriptFault.{ScriptFault}
 use Rattle.net_script.specs.declared.fault.ScriptFault.TheVariants.{Memory}
 

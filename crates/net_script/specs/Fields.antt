@@ -1,5 +1,5 @@
 -- What stands at a place of a scenario.
-use Rattle.std.specs.Prelude.{ℕ, ◌-◌, ◌&&◌, ◌||◌, ◌==◌, Bool, nat_le, List, [], ◌∷◌, ◌++◌, length, codes, Option, Some, None, is_some, ok_or}
+use Rattle.std.specs.Prelude.{ℕ, ◌-◌, ◌&&◌, ◌||◌, Bool, nat_le, List, [], ◌∷◌, length, codes, Option, Some, None, is_some, ok_or}
 use Rattle.std.specs.Prelude.{option_and_then, Result, Ok, Err, if◌then◌else◌, bytes_eq, ⊤}
 use Rattle.std.specs.List.{list_any, list_all}
 use Rattle.serde_json.specs.Data.{Data, Items, no_items, Members, no_members, member}
@@ -20,7 +20,7 @@ use Rattle.net_script.specs.declared.script.Order.{Order}
 use Rattle.net_script.specs.declared.script.Order.TheVariants as orders
 use Rattle.net_script.specs.declared.script.Shape.{Shape}
 use Rattle.net_script.specs.declared.script.Shape.TheVariants as shapes
-use Rattle.net_script.specs.Fault.{◌>>=◌, fine, check}
+use Rattle.net_script.specs.Fault.{◌>>=◌, fine}
 use Rattle.net_script.specs.Place.{key_text, required_keys, optional_keys, place, top}
 
 -- ---- an object and its keys
@@ -100,50 +100,54 @@ text_at p d = do
   value ← required p d
   text_of p value
 
-abbrev pub order_word : Place → List ℕ → Result Order ScriptFault
-order_word p text =
-    if bytes_eq text (codes "fifo") then Ok orders.Fifo
-    else if bytes_eq text (codes "mixed") then Ok orders.Mixed
-    else Err (BadWord p text)
+-- a text that names something, at a place that takes no other words
+abbrev pub known_word : {W : Type 0} → Place → List ℕ → Option W → Result W ScriptFault
+known_word p text named = ok_or named (BadWord p text)
 
-abbrev pub shape_word : Place → List ℕ → Result Shape ScriptFault
-shape_word p text =
-    if bytes_eq text (codes "once") then Ok shapes.Once
-    else if bytes_eq text (codes "twice") then Ok shapes.Twice
-    else if bytes_eq text (codes "late") then Ok shapes.Late
-    else if bytes_eq text (codes "drop") then Ok shapes.Drop
-    else Err (BadWord p text)
+abbrev pub order_named : List ℕ → Option Order
+order_named text =
+    if bytes_eq text (codes "fifo") then Some orders.Fifo
+    else if bytes_eq text (codes "mixed") then Some orders.Mixed
+    else None
 
-abbrev pub leave_word : Place → List ℕ → Result Leave ScriptFault
-leave_word p text =
-    if bytes_eq text (codes "old") then Ok leaves.Old
-    else if bytes_eq text (codes "new") then Ok leaves.New
-    else if bytes_eq text (codes "torn") then Ok leaves.Torn
-    else Err (BadWord p text)
+abbrev pub shape_named : List ℕ → Option Shape
+shape_named text =
+    if bytes_eq text (codes "once") then Some shapes.Once
+    else if bytes_eq text (codes "twice") then Some shapes.Twice
+    else if bytes_eq text (codes "late") then Some shapes.Late
+    else if bytes_eq text (codes "drop") then Some shapes.Drop
+    else None
 
--- the order, which is Fifo where none is named
-abbrev pub order_if : Place → Option Data → Result Order ScriptFault
-order_if p None = Ok orders.Fifo
-order_if p (Some d) = text_of p d >>= order_word p
-
-unfoldable pub order_or_fifo : Place → Data → Result Order ScriptFault
-order_or_fifo p d = order_if p (found p d)
-
-unfoldable pub shape_at : Place → Data → Result Shape ScriptFault
-shape_at p d = text_at p d >>= shape_word p
-
-unfoldable pub leave_at : Place → Data → Result Leave ScriptFault
-leave_at p d = text_at p d >>= leave_word p
+abbrev pub leave_named : List ℕ → Option Leave
+leave_named text =
+    if bytes_eq text (codes "old") then Some leaves.Old
+    else if bytes_eq text (codes "new") then Some leaves.New
+    else if bytes_eq text (codes "torn") then Some leaves.Torn
+    else None
 
 -- a name of 1 to 16 bytes, each an ASCII lower-case letter, a digit or `_`
 abbrev pub is_name : List ℕ → Bool
 is_name text = nat_le 1 (length text) && nat_le (length text) 16 && list_all is_name_byte text
 
-abbrev pub name_word : Place → List ℕ → Result (List ℕ) ScriptFault
-name_word p text = if is_name text then Ok text else Err (BadWord p text)
+abbrev pub name_of : List ℕ → Option (List ℕ)
+name_of text = if is_name text then Some text else None
+
+-- the order, which is Fifo where none is named
+abbrev pub order_if : Place → Option Data → Result Order ScriptFault
+order_if p None = Ok orders.Fifo
+order_if p (Some d) = text_of p d >>= λ text. known_word p text (order_named text)
+
+unfoldable pub order_or_fifo : Place → Data → Result Order ScriptFault
+order_or_fifo p d = order_if p (found p d)
+
+unfoldable pub shape_at : Place → Data → Result Shape ScriptFault
+shape_at p d = text_at p d >>= λ text. known_word p text (shape_named text)
+
+unfoldable pub leave_at : Place → Data → Result Leave ScriptFault
+leave_at p d = text_at p d >>= λ text. known_word p text (leave_named text)
 
 unfoldable pub name_at : Place → Data → Result (List ℕ) ScriptFault
-name_at p d = text_at p d >>= name_word p
+name_at p d = text_at p d >>= λ text. known_word p text (name_of text)
 
 -- a transaction, from hex of either case
 abbrev pub transaction_from : Place → Result (List ℕ) FromHexError → Result (List ℕ) ScriptFault

@@ -1,6 +1,7 @@
 -- What happens to the disks of a run.
-use Rattle.std.specs.Prelude.{ℕ, ◌+◌, ◌&&◌, Bool, true, false, List, [], ◌∷◌, ◌++◌, map, replicate, slice_set, if◌then◌else◌}
+use Rattle.std.specs.Prelude.{ℕ, ◌+◌, ◌&&◌, Bool, true, false, List, [], ◌∷◌, map, replicate, slice_set, if◌then◌else◌}
 use Rattle.std.specs.List.{filter, flat_map, range_with_len}
+use Rattle.hb_base.specs.Limits.{most_nodes}
 use Rattle.hb_base.specs.NodeSet.{is_in}
 use Rattle.disk_model.specs.declared.plan.Stop.{Stop}
 use Rattle.net_script.specs.declared.script.LiarAt.{LiarAt}
@@ -15,7 +16,7 @@ with_nodes_of set [] = set
 with_nodes_of set (liar ∷ liars) = with_nodes_of (slice_set set liar.node true) liars
 
 abbrev pub nodes_of : List LiarAt → List Bool
-nodes_of liars = with_nodes_of (replicate 16 false) liars
+nodes_of liars = with_nodes_of (replicate most_nodes false) liars
 
 -- what happens to the disk of an actor, in the scenario's order
 abbrev pub stops_of : List StopAt → ℕ → ℕ → List Stop

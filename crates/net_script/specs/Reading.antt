@@ -1,5 +1,5 @@
 -- Which bytes are a scenario, which one, and which is the first fault of those that are none.
-use Rattle.std.specs.Prelude.{ℕ, ◌*◌, ◌-◌, ◌^◌, Bool, nat_lt, nat_le, List, length, Option, None, ok_or, Result, Ok, Err, if◌then◌else◌}
+use Rattle.std.specs.Prelude.{ℕ, ◌*◌, ◌-◌, ◌^◌, nat_lt, nat_le, List, length, Option, None, ok_or, Result, Ok, if◌then◌else◌}
 use Rattle.std.specs.Str.{is_utf8}
 use Rattle.serde_json.specs.Data.{Data}
 use Rattle.serde_json.specs.Read.{read}
@@ -17,7 +17,7 @@ use Rattle.net_script.specs.declared.stops.CallAt.{CallAt}
 use Rattle.net_script.specs.declared.lists.Lists.{Lists}
 use Rattle.net_script.specs.declared.top.Sizes.{Sizes}
 use Rattle.net_script.specs.declared.top.Head.{Head}
-use Rattle.net_script.specs.Fault.{◌>>=◌, fine, check}
+use Rattle.net_script.specs.Fault.{◌>>=◌, check}
 use Rattle.net_script.specs.Place.{top}
 use Rattle.net_script.specs.Fields.{entry_at, number_at, number_or, order_or_fifo}
 use Rattle.net_script.specs.Entries.{submits_at, liars_at, links_at, stops_at, faults_at}

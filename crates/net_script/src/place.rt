@@ -1,14 +1,20 @@
 ghost use Rattle.std.specs.Prelude.{◌≡◌};
 ghost use Rattle.net_script.specs.Place.{list_text, key_text, required_keys, optional_keys, place};
 
-/// The lists of a scenario, and the scenario itself as `Top`.
+/// The lists of a scenario, and the scenario itself.
 #[derive(Clone, Copy, Debug, PartialEq, Eq)]
 pub enum ListName {
+    /// The scenario itself.
     Top,
+    /// The submissions.
     Submit,
+    /// The nodes that lie.
     Liars,
+    /// The rules on posts between nodes.
     Links,
+    /// The device calls at which disks stop.
     Stops,
+    /// The device calls that fail.
     Faults,
 }
 
@@ -146,8 +152,11 @@ impl KeyName {
 /// top at 0.
 #[derive(Clone, Copy, Debug, PartialEq, Eq)]
 pub struct Place {
+    /// The list.
     pub list: ListName,
+    /// The entry's number in its list, from 0 to 2^32 - 1.
     pub index: u32,
+    /// The key.
     pub key: KeyName,
 }
 

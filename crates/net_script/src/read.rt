@@ -87,15 +87,15 @@ fn config_of(sizes: Sizes, liars: NodeSet) -> Config
     requires few { HasAtMost sizes.faulty liars }
     ensures { result ≡ numbers sizes.nodes sizes.faulty sizes.epochs sizes.rounds sizes.batch sizes.seed sizes.version liars }
 {
-    let Sizes {
-        nodes,
-        faulty,
-        epochs,
-        rounds,
-        batch,
-        seed,
-        version,
-        ..
-    } = sizes;
-    Config::new(nodes, faulty, epochs, rounds, batch, seed, version, liars).unwrap()
+    Config::new(
+        sizes.nodes,
+        sizes.faulty,
+        sizes.epochs,
+        sizes.rounds,
+        sizes.batch,
+        sizes.seed,
+        sizes.version,
+        liars,
+    )
+    .unwrap()
 }

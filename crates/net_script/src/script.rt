@@ -14,18 +14,23 @@ pub enum Order {
     Mixed,
 }
 
-/// A transaction of 1 to 256 bytes that is submitted at a node.
+/// A transaction that is submitted at a node.
 #[derive(Debug, Drop)]
 pub struct Submit {
+    /// The node, below n.
     pub node: u8,
+    /// The transaction, 1 to 256 bytes.
     pub tx: Bytes,
 }
 
-/// A node that lies: under which name, and how many posts it hears before it is dropped.
+/// A node that lies, until it has heard so many posts and is dropped.
 #[derive(Clone, Copy, Debug, PartialEq, Eq)]
 pub struct LiarAt {
+    /// The node, below n.
     pub node: u8,
+    /// The name of its kind, by which the cast knows it.
     pub name: LiarName,
+    /// How many posts it hears, 0 to 4,194,304.
     pub hears: u32,
 }
 
@@ -46,33 +51,43 @@ pub enum Shape {
 /// whose number modulo `every` is `at`.
 #[derive(Clone, Copy, Debug, PartialEq, Eq)]
 pub struct Link {
+    /// The node that posts, below n, or any.
     pub from: Option<u8>,
+    /// The node that the post goes to, below n, or any.
     pub to: Option<u8>,
+    /// Of how many posts the rule speaks of one, 1 to 65,536. With 0, which no scenario has, it speaks of none.
     pub every: u32,
+    /// The remainder of the posts of which it speaks, below `every`.
     pub at: u32,
+    /// How such a post is delivered.
     pub shape: Shape,
 }
 
 /// What is to happen to the disk of an actor.
 #[derive(Debug, Drop)]
 pub struct ActorPlan {
+    /// The node, below n. It doesn't lie.
     pub node: u8,
+    /// The actor, 0 to n: a lane below n, the desk at n.
     pub actor: u8,
+    /// Its stops and faults, at most four of each and not none of both, at calls 1 to 1,000,000.
     pub plan: Plan,
 }
 
 /// What a run is to do.
 #[derive(Debug, Drop)]
 pub struct Script {
+    /// The numbers of the run, and the set of the nodes that lie.
     pub config: Config,
     /// How many threads work for each node, 0 to 4. With 0 one thread drives the whole run.
     pub workers: u8,
+    /// The order in which that thread takes the posts that are under way.
     pub order: Order,
     /// The transactions in the order in which they are submitted.
     pub submit: Vec<Submit>,
-    /// The liars in the scenario's order, at most one for a node.
+    /// The liars in the scenario's order, at most f, and at most one for a node.
     pub liars: Vec<LiarAt>,
-    /// The rules on posts. The first that fits a post decides.
+    /// The rules on posts, at most 256. The first that fits a post decides.
     pub links: Vec<Link>,
     /// One entry for each actor of a correct node whose disk stops or fails, by node and then actor.
     pub plans: Vec<ActorPlan>,

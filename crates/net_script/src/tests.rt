@@ -1,5 +1,5 @@
 //! What no clause says: that calls find memory, and that the definitions say what was meant.
-use crate::rows::{behind, whole};
+use crate::rows::{BOUNDS, FAULTS, KINDS, LIARS, LINKS, LONG, NUMBERS, STOPS, SUBMIT, WHOLE};
 use crate::{LiarAt, Link, Order, Script, Shape, read_script, shape, write_fault};
 use disk_model::{Leave, Stop};
 use hb_base::{LiarName, MemorySink};
@@ -24,29 +24,132 @@ fn told(alloc: Global, text: &[u8], failing: Vec<u32>) -> Result<MemorySink, Fai
     Ok(sink)
 }
 
+// Checks what is told of a text: this line, or nothing where the text is fine.
 fn check(rt: &impl Abort, alloc: Global, text: &str, line: &str) -> Result<(), Fail> {
     let sink = told(alloc, text.as_bytes(), Vec::new(alloc))?;
-    let end = if line.is_empty() { "" } else { "\n" };
-    let want = format!(in alloc; "{line}{end}")?;
+    let mut want = String::new(alloc);
+    if line != "fine" {
+        want.push_str(line)?;
+        want.push_str("\n")?;
+    }
     assert_eq!(rt; sink.held(), want.as_bytes(), "{text}");
     Ok(())
 }
 
+// The front of a row, and what stands behind its first bar.
+fn cut(row: &str) -> Result<(&str, &str), Fail> {
+    Ok(row.split_once(" | ").ok_or("a row without a bar")?)
+}
+
+// Checks a row's text, between two others.
+fn check_row(rt: &impl Abort, alloc: Global, head: &str, row: &str, end: &str) -> Result<(), Fail> {
+    let (middle, line) = cut(row)?;
+    let text = format!(in alloc; "{head}{middle}{end}")?;
+    check(rt, alloc, text.as_str(), line)
+}
+
 #[test]
 fn whole_texts(rt: HostRuntime) -> Result<(), Fail> {
-    for (text, line) in whole() {
-        check(&rt, rt.alloc(), *text, *line)?;
+    for row in WHOLE.lines() {
+        check_row(&rt, rt.alloc(), "", row, "")?;
+    }
+    for text in ["", " ", "\u{feff}{}", "{}\0"] {
+        check(&rt, rt.alloc(), text, "refused 2 NotJson")?;
     }
     Ok(())
 }
 
 #[test]
 fn keys_and_lists(rt: HostRuntime) -> Result<(), Fail> {
-    let alloc = rt.alloc();
-    for (rest, line) in behind() {
-        let head = r#"{"nodes":7,"faulty":2,"epochs":1"#;
-        let text = format!(in alloc; "{head}{rest}}}")?;
-        check(&rt, alloc, text.as_str(), *line)?;
+    let head = r#"{"nodes":7,"faulty":2,"epochs":1"#;
+    for rows in [NUMBERS, SUBMIT, LIARS, LINKS, STOPS, FAULTS] {
+        for row in rows.lines() {
+            check_row(&rt, rt.alloc(), head, row, "}")?;
+        }
+    }
+    Ok(())
+}
+
+// Checks a text with a value where it has `@`.
+fn check_with(
+    rt: &impl Abort,
+    alloc: Global,
+    text: &str,
+    value: &str,
+    line: &str,
+) -> Result<(), Fail> {
+    let (front, back) = text.split_once('@').ok_or("a text without a place")?;
+    let text = format!(in alloc; "{front}{value}{back}")?;
+    check(rt, alloc, text.as_str(), line)
+}
+
+// Each place of a number takes its least and its greatest, and no number beside them.
+#[test]
+fn bounds_of_numbers(rt: HostRuntime) -> Result<(), Fail> {
+    for row in BOUNDS.lines() {
+        let (text, rest) = cut(row)?;
+        let (place, rest) = cut(rest)?;
+        let (low, high) = cut(rest)?;
+        check_with(&rt, rt.alloc(), text, low, "fine")?;
+        check_with(&rt, rt.alloc(), text, high, "fine")?;
+        if let Some(less) = low.parse::<u64>()?.checked_sub(1) {
+            check_beside(&rt, rt.alloc(), text, place, less)?;
+        }
+        if let Some(more) = high.parse::<u64>()?.checked_add(1) {
+            check_beside(&rt, rt.alloc(), text, place, more)?;
+        }
+    }
+    Ok(())
+}
+
+fn check_beside(
+    rt: &impl Abort,
+    alloc: Global,
+    text: &str,
+    place: &str,
+    number: u64,
+) -> Result<(), Fail> {
+    let value = format!(in alloc; "{number}")?;
+    let line = format!(in alloc; "refused 7 OutOfRange {place} value={number}")?;
+    check_with(rt, alloc, text, value.as_str(), line.as_str())
+}
+
+#[test]
+fn no_numbers(rt: HostRuntime) -> Result<(), Fail> {
+    for row in BOUNDS.lines() {
+        let (text, rest) = cut(row)?;
+        let (place, _) = cut(rest)?;
+        let line = format!(in rt.alloc(); "refused 6 NotNumber {place}")?;
+        for value in [
+            "null",
+            "true",
+            "\"1\"",
+            "[]",
+            "{}",
+            "-0",
+            "-1",
+            "1.0",
+            "1e0",
+            "18446744073709551616",
+        ] {
+            check_with(&rt, rt.alloc(), text, value, line.as_str())?;
+        }
+    }
+    Ok(())
+}
+
+// Each place of a text, a list or an object takes no value of another kind.
+#[test]
+fn wrong_kinds(rt: HostRuntime) -> Result<(), Fail> {
+    for row in KINDS.lines() {
+        let (text, rest) = cut(row)?;
+        let (place, fitting) = cut(rest)?;
+        let line = format!(in rt.alloc(); "refused 3 WrongKind {place}")?;
+        for value in ["null", "true", "7", "\"\"", "[]", "{}"] {
+            if value != fitting {
+                check_with(&rt, rt.alloc(), text, value, line.as_str())?;
+            }
+        }
     }
     Ok(())
 }
@@ -253,92 +356,29 @@ fn repeated(
 #[test]
 fn long_texts(rt: HostRuntime) -> Result<(), Fail> {
     let alloc = rt.alloc();
-    let links = r#"{"nodes":4,"faulty":1,"epochs":1,"links":[{"every":1,"at":0,"shape":"once"}"#;
-    let link = r#",{"every":1,"at":0,"shape":"once"}"#;
-    let tx = r#"{"nodes":4,"faulty":1,"epochs":1,"submit":[{"node":0,"tx":"0"#;
-    let stops =
-        r#"{"nodes":4,"faulty":1,"epochs":1,"stops":[{"node":1,"actor":2,"call":1,"leave":"new"}"#;
-    let stop = r#",{"node":1,"actor":2,"call":9,"leave":"old"}"#;
-    let late_stop = r#",{"node":1,"actor":2,"call":0,"leave":"new"}]}"#;
-    let faults =
-        r#"{"nodes":4,"faulty":1,"epochs":1,"liars":[{"node":1,"name":"silent"}],"faults":["#;
-    let fault = r#"{"node":1,"actor":4,"call":1},"#;
-    for (head, again, count, end, line) in [
-        (
-            "{\"nodes\":1,\"faulty\":0,\"epochs\":1}",
-            " ",
-            1_048_543,
-            "",
-            "",
-        ),
-        (
-            "{\"nodes\":1,\"faulty\":0,\"epochs\":1}",
-            " ",
-            1_048_544,
-            "",
-            "refused 1 TooLong",
-        ),
-        ("", " ", 1_048_577, "", "refused 1 TooLong"),
-        (links, link, 255, "]}", ""),
-        (
-            links,
-            link,
-            256,
-            "]}",
-            "refused 7 OutOfRange top 0 links value=257",
-        ),
-        (
-            links,
-            link,
-            256,
-            ",7]}",
-            "refused 7 OutOfRange top 0 links value=258",
-        ),
-        (tx, "00", 255, "0\"}]}", ""),
-        (
-            tx,
-            "00",
-            256,
-            "0\"}]}",
-            "refused 13 BadLength submit 0 tx length=257",
-        ),
-        (tx, "00", 256, "\"}]}", "refused 12 BadHex submit 0 tx"),
-        (stops, stop, 3, "]}", ""),
-        (
-            stops,
-            stop,
-            4,
-            "]}",
-            "refused 7 OutOfRange stops 4 actor value=5",
-        ),
-        (
-            stops,
-            stop,
-            3,
-            late_stop,
-            "refused 7 OutOfRange stops 4 call value=0",
-        ),
-        (
-            stops,
-            stop,
-            10_000,
-            "]}",
-            "refused 7 OutOfRange stops 4 actor value=5",
-        ),
-        (faults, fault, 4, "7]}", "refused 3 WrongKind faults 4 -"),
-        (
-            faults,
-            fault,
-            5,
-            "7]}",
-            "refused 7 OutOfRange faults 4 actor value=5",
-        ),
+    for row in LONG.lines() {
+        let (head, rest) = cut(row)?;
+        let (again, rest) = cut(rest)?;
+        let (count, rest) = cut(rest)?;
+        let (end, line) = cut(rest)?;
+        let text = repeated(alloc, head, again, count.parse::<usize>()?, end)?;
+        check(&rt, alloc, text.as_str(), line)?;
+    }
+    Ok(())
+}
+
+#[test]
+fn longest_texts(rt: HostRuntime) -> Result<(), Fail> {
+    let alloc = rt.alloc();
+    let least = r#"{"nodes":1,"faulty":0,"epochs":1}"#;
+    for (head, count, line) in [
+        (least, 1_048_543, "fine"),
+        (least, 1_048_544, "refused 1 TooLong"),
+        ("", 1_048_576, "refused 2 NotJson"),
+        ("", 1_048_577, "refused 1 TooLong"),
     ] {
-        let text = repeated(alloc, head, again, count, end)?;
-        let sink = told(alloc, text.as_bytes(), Vec::new(alloc))?;
-        let newline = if line.is_empty() { "" } else { "\n" };
-        let want = format!(in alloc; "{line}{newline}")?;
-        assert_eq!(rt; sink.held(), want.as_bytes(), "{count} times");
+        let text = repeated(alloc, head, " ", count, "")?;
+        check(&rt, alloc, text.as_str(), line)?;
     }
     Ok(())
 }

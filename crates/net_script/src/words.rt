@@ -1,11 +1,10 @@
 //! The texts that a scenario has: words, names of liars, and transactions in hex.
-ghost use Rattle.std.specs.Prelude.{◌≡◌, ◌⊎◌, IfOk};
+ghost use Rattle.std.specs.Prelude.{◌≡◌, IfOk};
 ghost use Rattle.serde_json.specs.View.{view};
 ghost use Rattle.hex.specs.Hex.{decode_of};
 ghost use Rattle.hb_base.specs.Limits.{IsTransaction};
-ghost use Rattle.net_script.specs.declared.fault.ScriptFault.TheVariants.{Memory, BadWord};
 ghost use Rattle.net_script.specs.Fault.{Gives};
-ghost use Rattle.net_script.specs.Fields.{order_word, order_or_fifo, shape_word, shape_at, leave_word, leave_at, name_word, name_at};
+ghost use Rattle.net_script.specs.Fields.{known_word, order_named, order_or_fifo, shape_named, shape_at, leave_named, leave_at, name_of, name_at};
 ghost use Rattle.net_script.specs.Fields.{transaction_from, transaction_at};
 
 use crate::fault::ScriptFault;
@@ -18,14 +17,20 @@ use hb_base::{Bytes, LiarName};
 use serde_json::Value;
 use std::alloc::{AllocError, Global};
 
-// The fault of a text that is none of the words of its place.
-fn bad_word(alloc: Global, place: Place, text: &str) -> ScriptFault
-    ensures { (result ≡ Memory) ⊎ (result ≡ BadWord place text.now) }
+// What a text names, at a place that takes no other words.
+fn known_word<W>(
+    alloc: Global,
+    place: Place,
+    text: &str,
+    named: Option<W>,
+) -> Result<W, ScriptFault>
+    ensures { Gives (λ w. w) result (known_word place text.now named) }
 {
-    match Bytes::copy(alloc, text.as_bytes()) {
-        Ok(word) => ScriptFault::BadWord { place, word },
-        Err(_) => ScriptFault::Memory,
+    if let Some(word) = named {
+        return Ok(word);
     }
+    let word = Bytes::copy(alloc, text.as_bytes())?;
+    Err(ScriptFault::BadWord { place, word })
 }
 
 // The order, which is Fifo where none is named.
@@ -41,18 +46,18 @@ pub(crate) fn order_or_fifo(
         None => Ok(Order::Fifo),
         Some(value) => {
             let text = text_of(value, place)?;
-            order_word(alloc, place, text)
+            known_word(alloc, place, text, order_named(text))
         }
     }
 }
 
-fn order_word(alloc: Global, place: Place, text: &str) -> Result<Order, ScriptFault>
-    ensures { Gives (λ order. order) result (order_word place text.now) }
+fn order_named(text: &str) -> Option<Order>
+    ensures { result ≡ order_named text.now }
 {
     match text {
-        "fifo" => Ok(Order::Fifo),
-        "mixed" => Ok(Order::Mixed),
-        _ => Err(bad_word(alloc, place, text)),
+        "fifo" => Some(Order::Fifo),
+        "mixed" => Some(Order::Mixed),
+        _ => None,
     }
 }
 
@@ -61,18 +66,18 @@ pub(crate) fn shape_at(alloc: Global, value: &Value, place: Place) -> Result<Sha
     ensures { Gives (λ shape. shape) result (shape_at place (view value.now)) }
 {
     let text = text_at(value, place)?;
-    shape_word(alloc, place, text)
+    known_word(alloc, place, text, shape_named(text))
 }
 
-fn shape_word(alloc: Global, place: Place, text: &str) -> Result<Shape, ScriptFault>
-    ensures { Gives (λ shape. shape) result (shape_word place text.now) }
+fn shape_named(text: &str) -> Option<Shape>
+    ensures { result ≡ shape_named text.now }
 {
     match text {
-        "once" => Ok(Shape::Once),
-        "twice" => Ok(Shape::Twice),
-        "late" => Ok(Shape::Late),
-        "drop" => Ok(Shape::Drop),
-        _ => Err(bad_word(alloc, place, text)),
+        "once" => Some(Shape::Once),
+        "twice" => Some(Shape::Twice),
+        "late" => Some(Shape::Late),
+        "drop" => Some(Shape::Drop),
+        _ => None,
     }
 }
 
@@ -81,17 +86,17 @@ pub(crate) fn leave_at(alloc: Global, value: &Value, place: Place) -> Result<Lea
     ensures { Gives (λ leave. leave) result (leave_at place (view value.now)) }
 {
     let text = text_at(value, place)?;
-    leave_word(alloc, place, text)
+    known_word(alloc, place, text, leave_named(text))
 }
 
-fn leave_word(alloc: Global, place: Place, text: &str) -> Result<Leave, ScriptFault>
-    ensures { Gives (λ leave. leave) result (leave_word place text.now) }
+fn leave_named(text: &str) -> Option<Leave>
+    ensures { result ≡ leave_named text.now }
 {
     match text {
-        "old" => Ok(Leave::Old),
-        "new" => Ok(Leave::New),
-        "torn" => Ok(Leave::Torn),
-        _ => Err(bad_word(alloc, place, text)),
+        "old" => Some(Leave::Old),
+        "new" => Some(Leave::New),
+        "torn" => Some(Leave::Torn),
+        _ => None,
     }
 }
 
@@ -100,17 +105,14 @@ pub(crate) fn name_at(alloc: Global, value: &Value, place: Place) -> Result<Liar
     ensures { Gives (λ name. name) result (name_at place (view value.now)) }
 {
     let text = text_at(value, place)?;
-    name_word(alloc, place, text)
+    known_word(alloc, place, text, name_of(text))
 }
 
 #[tactic(auto, using(crate::proofs::Names::is_name_true, crate::proofs::Names::is_name_false))]
-fn name_word(alloc: Global, place: Place, text: &str) -> Result<LiarName, ScriptFault>
-    ensures { Gives (λ name. name) result (name_word place text.now) }
+fn name_of(text: &str) -> Option<LiarName>
+    ensures { result ≡ name_of text.now }
 {
-    match LiarName::of(text) {
-        Some(name) => Ok(name),
-        None => Err(bad_word(alloc, place, text)),
-    }
+    LiarName::of(text)
 }
 
 #[tactic(auto, unfolding(crate::specs::Fields::transaction_at))]

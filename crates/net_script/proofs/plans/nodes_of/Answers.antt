@@ -1,4 +1,4 @@
-use Rattle.std.proofs.Common.{rules, ◌<◌, length}
+use Rattle.std.proofs.Common.{rules}
 use Rattle.net_script.specs.Sound.{IsLiar}
 use Rattle.net_script.proofs.Counts.{one_more_known, one_more_marked}
 use Rattle.net_script.proofs.Earlier.{drop_at}

@@ -1,4 +1,4 @@
-use Rattle.std.proofs.Common.{[], ◌++◌, ◌≡◌, refl, min, length}
+use Rattle.std.proofs.Common.{[], ◌++◌, refl}
 use Rattle.std.proofs.lemmas.Result.{err_from_is_err_and}
 use Rattle.net_script.proofs.Writing.{writes_no_hex, in_parts, hex_goes_on, hex_stops}
 use Rattle.net_script.proofs.write.put_hex.Goals as goal

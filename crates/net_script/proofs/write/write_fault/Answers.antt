@@ -1,6 +1,5 @@
-use Rattle.std.proofs.Common.{◌++◌, codes, sym}
+use Rattle.std.proofs.Common.{codes, sym}
 use Rattle.std.proofs.lemmas.Result.{err_from_is_err_and}
-use Rattle.hex.specs.Hex.{encode_lower}
 use Rattle.net_script.specs.Line.{fault_line}
 use Rattle.net_script.proofs.Writing.{writes_then, writes_front}
 use Rattle.net_script.proofs.write.write_fault.Goals as goal
