@@ -1,3 +1,4 @@
 mod Drawn
 mod Found
+pub mod Sound
 mod Whole

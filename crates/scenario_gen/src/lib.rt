@@ -4,6 +4,7 @@
 
 ghost use Rattle.std.specs.Prelude.{◌≡◌, IfOk};
 ghost use Rattle.net_script.specs.Scenario.{told};
+ghost use Rattle.net_script.specs.Sound.{IsScenario};
 ghost use Rattle.scenario_gen.specs.Generated.{generated};
 
 mod drawing;
@@ -19,7 +20,8 @@ use std::alloc::{AllocError, Global};
 
 /// The scenario of this number.
 pub fn generate(alloc: Global, number: u64) -> Result<Script, AllocError>
-    ensures { IfOk result (λ script. told script ≡ generated number) }
+    ensures exact { IfOk result (λ script. told script ≡ generated number) }
+    ensures sound { IfOk result (λ script. IsScenario (told script)) }
 {
     let mut words = words_of(number, 0);
     let n = 4 + (next_word(&mut words) % 7) as u8;

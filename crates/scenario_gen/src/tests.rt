@@ -1,163 +1,100 @@
 //! What no clause says: that there is memory, and that the scenarios are those that were meant.
 use super::*;
-use disk_model::Leave;
-use net_script::{ActorPlan, LiarAt, Link, Script, Shape, Submit};
+use disk_model::Stop;
+use net_script::{ActorPlan, Script, Shape, Submit};
 use std::process::Abort;
 use std::test::Fail;
 
-/// What a Python program drew for a number, with the words of the package `cryptography`.
-struct Row {
-    number: u64,
+// What a Python program drew, with the words of the package `cryptography`: the number, the nodes, the liars, the epochs,
+// the transactions in a batch and the workers; the first transaction and the last; each liar; and each stop with its
+// node, its actor, its call and what it leaves.
+const ROWS: &str = "\
+0: 9 2 2 8 3, bdd219b8a08ded1a, c383761677bdb435, 7 babble, 8 babble, 0 6 10 Torn, 1 0 21 Torn, 2 2 7 New, 3 3 14 Torn, 4 5 22 Old, 5 1 16 Old, 6 8 34 Old
+1: 5 1 3 17 1, 0dd6a36ca4fb6eab, de97e2864b8d1b7a, 4 bval_both, 0 1 34 Torn, 1 4 22 New, 2 1 34 Torn, 3 2 21 New
+7: 4 1 5 22 2, 29048c50d3750b10, 6aa122146ecd768e, 3 bval_both, 0 1 23 New, 1 2 10 Torn, 2 2 15 Old
+18446744073709551615: 10 3 4 12 1, 099223f33bb44e43, 0140b32ffb5a39ca, 7 babble, 8 babble, 9 echo_split, 0 2 30 Torn, 1 10 2 New, 2 0 1 Torn, 3 6 15 New, 4 10 22 New, 5 9 3 Old, 6 0 29 Old";
 
-    // Nodes, liars, epochs, transactions in a batch, workers.
-    numbers: [u8; 5],
-
-    first: &'static [u8],
-    last: &'static [u8],
-    liars: &'static [(u8, &'static [u8])],
-
-    // The stops: node, actor, call and what is left.
-    stops: &'static [(u8, u8, u32, Leave)],
+// The row of a scenario.
+fn row_of(alloc: Global, script: &Script) -> Result<String, Fail> {
+    let Script {
+        config,
+        workers,
+        ..
+    } = script;
+    let [n, f, epochs, batch] = [config.n(), config.f(), config.epochs(), config.batch()];
+    let mut row = format!(in alloc; "{}: {n} {f} {epochs} {batch} {workers}", config.seed())?;
+    for entry in [script.submit.first(), script.submit.last()] {
+        add_transaction(&mut row, entry)?;
+    }
+    for liar in &script.liars {
+        let name = str::from_utf8(liar.name.as_bytes())?;
+        write!(row, ", {} {name}", liar.node)?;
+    }
+    for entry in &script.plans {
+        add_stops(&mut row, entry)?;
+    }
+    Ok(row)
 }
 
-static ROWS: [Row; 4] = [
-    Row {
-        number: 0,
-        numbers: [9, 2, 2, 8, 3],
-        first: b"\xbd\xd2\x19\xb8\xa0\x8d\xed\x1a",
-        last: b"\xc3\x83\x76\x16\x77\xbd\xb4\x35",
-        liars: &[(7, b"babble"), (8, b"babble")],
-        stops: &[
-            (0, 6, 10, Leave::Torn),
-            (1, 0, 21, Leave::Torn),
-            (2, 2, 7, Leave::New),
-            (3, 3, 14, Leave::Torn),
-            (4, 5, 22, Leave::Old),
-            (5, 1, 16, Leave::Old),
-            (6, 8, 34, Leave::Old),
-        ],
-    },
-    Row {
-        number: 1,
-        numbers: [5, 1, 3, 17, 1],
-        first: b"\x0d\xd6\xa3\x6c\xa4\xfb\x6e\xab",
-        last: b"\xde\x97\xe2\x86\x4b\x8d\x1b\x7a",
-        liars: &[(4, b"bval_both")],
-        stops: &[
-            (0, 1, 34, Leave::Torn),
-            (1, 4, 22, Leave::New),
-            (2, 1, 34, Leave::Torn),
-            (3, 2, 21, Leave::New),
-        ],
-    },
-    Row {
-        number: 7,
-        numbers: [4, 1, 5, 22, 2],
-        first: b"\x29\x04\x8c\x50\xd3\x75\x0b\x10",
-        last: b"\x6a\xa1\x22\x14\x6e\xcd\x76\x8e",
-        liars: &[(3, b"bval_both")],
-        stops: &[
-            (0, 1, 23, Leave::New),
-            (1, 2, 10, Leave::Torn),
-            (2, 2, 15, Leave::Old),
-        ],
-    },
-    Row {
-        number: 0xFFFF_FFFF_FFFF_FFFF,
-        numbers: [10, 3, 4, 12, 1],
-        first: b"\x09\x92\x23\xf3\x3b\xb4\x4e\x43",
-        last: b"\x01\x40\xb3\x2f\xfb\x5a\x39\xca",
-        liars: &[(7, b"babble"), (8, b"babble"), (9, b"echo_split")],
-        stops: &[
-            (0, 2, 30, Leave::Torn),
-            (1, 10, 2, Leave::New),
-            (2, 0, 1, Leave::Torn),
-            (3, 6, 15, Leave::New),
-            (4, 10, 22, Leave::New),
-            (5, 9, 3, Leave::Old),
-            (6, 0, 29, Leave::Old),
-        ],
-    },
-];
-
-#[test]
-fn scenarios(rt: HostRuntime) -> Result<(), Fail> {
-    for row in &ROWS {
-        let script = generate(rt.alloc(), row.number)?;
-        check_numbers(&rt, row, &script);
-        check_submits(&rt, row, script.submit.as_slice());
-        check_liars(&rt, row, script.liars.as_slice());
-        check_links(&rt, row, script.links.as_slice());
-        check_plans(&rt, row, script.plans.as_slice());
+fn add_transaction(row: &mut String, entry: Option<&Submit>) -> Result<(), Fail> {
+    let Submit { tx, .. } = entry.ok_or("no submission")?;
+    row.push_str(", ")?;
+    for byte in tx.as_slice() {
+        write!(row, "{byte:02x}")?;
     }
     Ok(())
 }
 
-fn check_numbers(rt: &impl Abort, row: &Row, script: &Script) {
+fn add_stops(row: &mut String, entry: &ActorPlan) -> Result<(), Fail> {
+    let ActorPlan { node, actor, plan } = entry;
+    for Stop { call, leave } in plan.stops.as_slice() {
+        write!(row, ", {node} {actor} {call} {leave:?}")?;
+    }
+    Ok(())
+}
+
+#[test]
+fn scenarios(rt: HostRuntime) -> Result<(), Fail> {
+    for row in ROWS.lines() {
+        let (number, _) = row.split_once(": ").ok_or("a row without a number")?;
+        let script = generate(rt.alloc(), number.parse::<u64>()?)?;
+        assert_eq!(rt; row_of(rt.alloc(), &script)?.as_str(), row);
+        check_rest(&rt, &script);
+        check_links(&rt, &script);
+    }
+    Ok(())
+}
+
+// What the rows don't tell, since it is always so.
+fn check_rest(rt: &impl Abort, script: &Script) {
     let config = &script.config;
-    let numbers = [
-        config.n(),
-        config.f(),
-        config.epochs(),
-        config.batch(),
-        script.workers,
-    ];
-    assert_eq!(rt; numbers, row.numbers);
     assert_eq!(rt; (config.rounds(), config.version()), (32, 1));
-    assert_eq!(rt; config.seed(), row.number);
     assert_eq!(rt; script.order, Order::Fifo);
-    for node in 0..config.n() {
-        let lies = row.liars.iter().any(|liar| liar.0 == node);
-        assert_eq!(rt; config.liars().has(node), lies);
+    assert_eq!(rt; script.submit.len(), 64 * config.n() as usize);
+    for (t, Submit { node, tx }) in script.submit.iter().enumerate() {
+        assert_eq!(rt; (*node as usize, tx.as_slice().len()), (t / 64, 8));
+    }
+    for liar in &script.liars {
+        assert_eq!(rt; liar.hears, 4_194_304);
+        assert!(rt; config.liars().has(liar.node));
+    }
+    assert_eq!(rt; config.liars().count() as usize, script.liars.len());
+    for entry in &script.plans {
+        assert_eq!(rt; (entry.plan.stops.len(), entry.plan.faults.len()), (1, 0));
     }
 }
 
-fn check_submits(rt: &impl Abort, row: &Row, submit: &[Submit]) {
-    assert_eq!(rt; submit.len(), 64 * row.numbers[0] as usize);
-    for (t, Submit { node, tx }) in submit.iter().enumerate() {
-        assert_eq!(rt; *node as usize, t / 64);
-        assert_eq!(rt; tx.as_slice().len(), 8);
-    }
-    let ends = (submit.first(), submit.last());
-    if let (Some(first), Some(last)) = ends {
-        assert_eq!(rt; first.tx.as_slice(), row.first);
-        assert_eq!(rt; last.tx.as_slice(), row.last);
-    }
-}
-
-fn check_liars(rt: &impl Abort, row: &Row, liars: &[LiarAt]) {
-    assert_eq!(rt; liars.len(), row.liars.len());
-    for (liar, (node, name)) in liars.iter().zip(row.liars) {
-        assert_eq!(rt; (liar.node, liar.hears), (*node, 4_194_304));
-        assert_eq!(rt; liar.name.as_bytes(), *name);
-    }
-}
-
-fn check_links(rt: &impl Abort, row: &Row, links: &[Link]) {
-    let f = row.liars.len();
-    assert_eq!(rt; links.len(), f + 2);
-    for (place, link) in links.iter().enumerate() {
-        let from = row.liars.get(place).map(|liar| liar.0);
-        let (every, at, shape) = if place < f {
-            (3, 1, Shape::Drop)
-        } else if place == f {
-            (5, 2, Shape::Twice)
-        } else {
-            (7, 3, Shape::Late)
+// A rule for each liar, and the two for all.
+fn check_links(rt: &impl Abort, script: &Script) {
+    assert_eq!(rt; script.links.len(), script.liars.len() + 2);
+    for (place, link) in script.links.iter().enumerate() {
+        let from = script.liars.get(place).map(|liar| liar.node);
+        let (every, at, shape) = match place.checked_sub(script.liars.len()) {
+            None => (3, 1, Shape::Drop),
+            Some(0) => (5, 2, Shape::Twice),
+            Some(_) => (7, 3, Shape::Late),
         };
         assert_eq!(rt; (link.from, link.to), (from, None));
         assert_eq!(rt; (link.every, link.at, link.shape), (every, at, shape));
-    }
-}
-
-fn check_plans(rt: &impl Abort, row: &Row, plans: &[ActorPlan]) {
-    assert_eq!(rt; plans.len(), row.stops.len());
-    for (entry, (node, actor, call, leave)) in plans.iter().zip(row.stops) {
-        assert_eq!(rt; (entry.node, entry.actor), (*node, *actor));
-        assert_eq!(rt; entry.plan.stops.len(), 1);
-        assert!(rt; entry.plan.faults.is_empty());
-        for stop in entry.plan.stops.as_slice() {
-            assert_eq!(rt; (stop.call, stop.leave), (*call, *leave));
-        }
     }
 }

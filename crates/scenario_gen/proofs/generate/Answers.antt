@@ -2,11 +2,12 @@ use Rattle.std.proofs.Common.{◌≡◌, ◌+◌, ◌*◌, ◌%◌, ap, ◌∙�
 use Rattle.rand_chacha.specs.ChaCha.{ChaCha}
 use Rattle.seed_words.specs.Words.{word, words_from, moved_by, word_of}
 use Rattle.scenario_gen.specs.Generated.{faulty, submits, liars, plans, liars_place, stops_place}
+use Rattle.scenario_gen.proofs.Sound.{generated_sound}
 use Rattle.scenario_gen.proofs.Whole.{whole}
 use Rattle.scenario_gen.proofs.generate.Goals as goal
 
-pub returns : goal.returns
-returns c =
+pub returns-clause-exact : goal.returns-clause-exact
+returns-clause-exact c =
     let number = c.args.number in
     let w = word number 0 in
     let n = 4 + c.next_word.result % 7 in
@@ -29,3 +30,6 @@ returns c =
     (c.in_ok-liars.ensures.drawn ∙ ap (λ (g : ChaCha). liars n (word_of g)) drawn)
     c.in_ok-links.ensures
     (c.in_ok-plans.ensures ∙ ap (λ (g : ChaCha). plans n (word_of g)) done)
+
+pub returns-clause-sound : goal.returns-clause-sound
+returns-clause-sound c = rw (returns-clause-exact c) (generated_sound c.args.number)
