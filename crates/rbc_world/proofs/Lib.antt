@@ -5,3 +5,7 @@ pub mod Once
 pub mod Backed
 pub mod Binding
 pub mod Theorems
+pub mod Claiming
+pub mod FirstClaims
+pub mod Striking
+pub mod Exact

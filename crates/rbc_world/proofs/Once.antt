@@ -66,13 +66,15 @@ echo-once c e = record { first = first }
     first i x own heard (Echo d root shard branch) marked (inr may) = absurd may.1
     first i x own heard vote marked may = absurd (cc (marked))
 
-some_only : {A : Type 0} (b : Bool) (y : A) → is_some (if b then Some y else None) ≡ true → b ≡ true
-some_only true y h = refl
-some_only false y h = absurd (cc (h))
+proposal_epoch : (d e : ℕ) (value : List ℕ) → is_any_proposal e (Propose d value) ≡ true → d ≡ e
+proposal_epoch d e value marked = by (d == e) refl marked
+  where
+    by : (b : Bool) → (d == e) ≡ b → is_some (if b then Some value else None) ≡ true → d ≡ e
+    by true same h = eqb-true d e same
+    by false same h = absurd (cc (h))
 
-some_at : {A : Type 0} (b : Bool) (y : A) → b ≡ true → is_some (if b then Some y else None) ≡ true
-some_at true y h = refl
-some_at false y h = absurd (cc (h))
+proposal_marked : (e : ℕ) (value : List ℕ) → is_any_proposal e (Propose e value) ≡ true
+proposal_marked e value = let same : (e == e) ≡ true = eq-eqb e e refl in rw same refl
 
 pub proposal-once : (c : Numbers) (e : ℕ) → IsOnce c (is_any_proposal e)
 proposal-once c e = record { first = first }
@@ -81,7 +83,7 @@ proposal-once c e = record { first = first }
         → list_any (is_any_proposal e) own ≡ false
     first i x own heard (Propose d value) marked (inl may) = absurd may.1
     first i x own heard (Propose d value) marked (inr may) =
-        ap (λ (k : ℕ). list_any (is_any_proposal k) own) (sym (eqb-true d e (some_only (d == e) value marked))) ∙ may.1.2
+        ap (λ (k : ℕ). list_any (is_any_proposal k) own) (sym (proposal_epoch d e value marked)) ∙ may.1.2
     first i x own heard vote marked may = absurd (cc (marked))
 
 -- a correct lane echoes one root in an epoch
@@ -100,5 +102,5 @@ pub one_proposal : (c : Numbers) (i x e : ℕ) → is_in c.liars i ≡ false →
 one_proposal c i x e correct history legal value other first second =
     let same : Propose e value ≡ Propose e other =
     cast_once c (is_any_proposal e) (proposal-once c e) i x correct history legal (Propose e value) (Propose e other) first second
-    (some_at (e == e) value (eq-eqb e e refl)) (some_at (e == e) other (eq-eqb e e refl)) in
+    (proposal_marked e value) (proposal_marked e other) in
     cc (same)

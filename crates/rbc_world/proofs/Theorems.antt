@@ -9,13 +9,13 @@ use Rattle.rs_shards.proofs.Values.{value_in-frame}
 use Rattle.hb_wire.specs.declared.vote.Vote.TheVariants.{Ready, Delivered, Propose}
 use Rattle.hb_wire.specs.declared.post.Post.{Post}
 use Rattle.protocol_rules.specs.Hearing.{own_in, said_in}
-use Rattle.protocol_rules.specs.Code.{data_count, HasDelivery, ready_count}
+use Rattle.protocol_rules.specs.Code.{data_count, HasQuorum, HasDelivery, ready_count}
 use Rattle.protocol_rules.specs.History.{IsLegal}
 use Rattle.protocol_rules.specs.Ledger.{IsCorrect}
 use Rattle.protocol_rules.specs.Strings.{IsHashed, NoCollision}
 use Rattle.protocol_rules.proofs.FirstShards.{data_count-some}
-use Rattle.rbc_world.specs.Agreed.{ReadiesAgree, DeliveriesAgree, DeliveriesAreProposed, ProposalsAgree}
-use Rattle.rbc_world.specs.Backing.{HasOneCodeword, IsBacked}
+use Rattle.rbc_world.specs.Agreed.{ReadiesAgree, DeliveriesAgree, DeliveriesAreProposed, ProposalsAgree, IsAgreed}
+use Rattle.rbc_world.specs.Backing.{HasOneCodeword, RootsAreBound, IsBacked}
 use Rattle.rbc_world.proofs.Histories.{legal_addressed}
 use Rattle.rbc_world.proofs.Cast.{cast_fits}
 use Rattle.rbc_world.proofs.Once.{one_proposal}
@@ -117,10 +117,24 @@ is_backed c history j e i value sound legal correct delivered =
       named = λ m root other ready. named_root c j e m root value history sound legal delivery other.honest ready;
     }
 
-pub codeword_of_root : (c : Numbers) (history : List Post) (j e : ℕ) (root : List ℕ) → AreSound c → IsLegal c history → NoCollision c history → j < c.n
+codeword_of_root : (c : Numbers) (history : List Post) (j e : ℕ) (root : List ℕ) → AreSound c → IsLegal c history → NoCollision c history → j < c.n
     → c.f + 1 ≤ ready_count c.n e root (said_in c j history)
     → HasOneCodeword c e root (said_in c j history)
 codeword_of_root c history j e root sound legal premise lane readies =
     let found = ready_correct c j e root history sound readies in
     let quorum = ready_backed c j e found.0 root sound history legal found.2 found.3 in
     one_codeword c j e root history quorum.shards sound premise lane quorum.echoed
+
+pub roots_bound : (c : Numbers) (history : List Post) → AreSound c → IsLegal c history → NoCollision c history → RootsAreBound c history
+roots_bound c history sound legal premise = record { one = λ j e root lane readies. codeword_of_root c history j e root sound legal premise lane readies }
+
+pub ready_quorum : (c : Numbers) (history : List Post) (j e i : ℕ) (root : List ℕ) → AreSound c → IsLegal c history → IsCorrect c i
+    → Contains (own_in c i j history) (Ready e root) → HasQuorum c e root (said_in c j history)
+ready_quorum c history j e i root sound legal correct ready = ready_backed c j e i root sound history legal correct.honest ready
+
+pub legal_agreed : (c : Numbers) (history : List Post) → AreSound c → IsLegal c history → NoCollision c history → IsAgreed c history
+legal_agreed c history sound legal premise = record {
+  readies = readies_agree c history sound legal;
+  deliveries = deliveries_agree c history sound legal premise;
+  proposed = deliveries_proposed c history sound legal premise;
+}

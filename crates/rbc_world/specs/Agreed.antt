@@ -26,3 +26,9 @@ pub record DeliveriesAreProposed (c : Numbers) (history : List Post) : Type 0 wh
 pub record ProposalsAgree (c : Numbers) (history : List Post) : Type 0 where
   pub one : (i e : ℕ) (value other : List ℕ) → IsCorrect c i → Contains (own_in c i c.n history) (Propose e value)
       → Contains (own_in c i c.n history) (Propose e other) → value ≡ other
+
+-- agreement and validity of the broadcast
+pub record IsAgreed (c : Numbers) (history : List Post) : Type 0 where
+  pub readies : ReadiesAgree c history
+  pub deliveries : DeliveriesAgree c history
+  pub proposed : DeliveriesAreProposed c history

@@ -1,6 +1,13 @@
 //! The reliable broadcast in histories of whole runs: what holds in each, whatever its liars post.
 #![tactic(auto)]
 
+mod agreed;
+mod claims;
+mod entries;
 pub mod laws;
+mod proposed;
+#[cfg(test)]
+mod tests;
 
+pub use agreed::delivered_agree;
 pub use laws::{broadcast_laws, root_laws};
