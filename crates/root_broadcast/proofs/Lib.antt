@@ -1,0 +1,15 @@
+pub mod Firsts
+pub mod Hearings
+pub mod Choices
+pub mod Counts
+pub mod Tables
+pub mod RootStates
+pub mod Adding
+pub mod Standing
+pub mod Shown
+pub mod Heard
+pub mod Votes
+pub mod Vals
+pub mod Marking
+pub mod Unheeded
+pub mod Marks
