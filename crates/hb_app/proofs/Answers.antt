@@ -5,7 +5,7 @@ use Rattle.std.specs.Io.KnownBytes.{Consumes, IsAtEnd}
 use Rattle.std.proofs.lemmas.Bool.{leb-true}
 use Rattle.serde_json.specs.Read.{read}
 use Rattle.hb_base.specs.Outside.{HasCause, Puts}
-use Rattle.hb_rules.specs.declared.report.Report.{Report}
+use Rattle.value_rules.specs.declared.report.Report.{Report}
 use Rattle.hb_app.specs.declared.scenario.Scenario.{Scenario}
 use Rattle.hb_base.specs.Limits.{longest_scenario}
 use Rattle.hb_app.specs.Input.{most_taken}

@@ -2,16 +2,16 @@
 use Rattle.std.proofs.Common.{◌≡◌, ℕ, ◌+◌, ◌<◌, inr, List, [], ◌∷◌, ◌++◌, length, take, drop, get_or, sym, ap, ◌∙◌, subst, append_assoc, append-nil, add-one, drop-cons, suc}
 use Rattle.std.proofs.lemmas.List.{take_more}
 use Rattle.hb_base.specs.Numbers.{Numbers}
-use Rattle.hb_rules.specs.declared.vote.Vote.{Vote}
-use Rattle.hb_rules.specs.Hearing.{own_in, heard_in}
-use Rattle.hb_rules.specs.Rules.{MayCast}
-use Rattle.hb_rules.specs.History.{IsAllowed}
-use Rattle.hb_rules.specs.Book.{SeatView, BookView, Posted, IsSeatOf, Moved}
-use Rattle.hb_rules.specs.BookLaws.{Moved-refl, Moved-trans}
-use Rattle.hb_rules.specs.Report.{NoVoteTwice}
-use Rattle.hb_rules.proofs.Hearings.{MayCast-more}
-use Rattle.hb_rules.proofs.Repeats.{new_vote, NoVoteTwice-push}
-use Rattle.hb_rules.proofs.Seats.{own_in-watched, own_in-posted, heard_in-append}
+use Rattle.value_rules.specs.declared.vote.Vote.{Vote}
+use Rattle.value_rules.specs.Hearing.{own_in, heard_in}
+use Rattle.value_rules.specs.Rules.{MayCast}
+use Rattle.value_rules.specs.History.{IsAllowed}
+use Rattle.value_rules.specs.Book.{SeatView, BookView, Posted, IsSeatOf, Moved}
+use Rattle.value_rules.specs.BookLaws.{Moved-refl, Moved-trans}
+use Rattle.value_rules.specs.Report.{NoVoteTwice}
+use Rattle.value_rules.proofs.Hearings.{MayCast-more}
+use Rattle.value_rules.proofs.Repeats.{new_vote, NoVoteTwice-push}
+use Rattle.value_rules.proofs.Seats.{own_in-watched, own_in-posted, heard_in-append}
 use Rattle.hb_app.specs.Casting.{MayCastInTurn, MayCastAll}
 
 -- the first k votes are cast, and the others may be

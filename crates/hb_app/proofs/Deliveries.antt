@@ -5,12 +5,12 @@ use Rattle.std.proofs.lemmas.List.Elements.{Contains-append_right}
 use Rattle.std.specs.List.{cons_option}
 use Rattle.std.specs.Option.{option_or}
 use Rattle.hb_base.specs.Limits.{longest_transaction}
-use Rattle.hb_rules.specs.declared.vote.Vote.{Vote}
-use Rattle.hb_rules.specs.declared.vote.Vote.TheVariants.{Propose, Val, Echo, Ready, Delivered}
-use Rattle.hb_rules.specs.declared.post.Post.{Post}
-use Rattle.hb_rules.specs.Vote.{delivered}
-use Rattle.hb_rules.specs.Hearing.{vote_by, own_in}
-use Rattle.hb_rules.specs.Owing.{first_of}
+use Rattle.value_rules.specs.declared.vote.Vote.{Vote}
+use Rattle.value_rules.specs.declared.vote.Vote.TheVariants.{Propose, Val, Echo, Ready, Delivered}
+use Rattle.value_rules.specs.declared.post.Post.{Post}
+use Rattle.value_rules.specs.Vote.{delivered}
+use Rattle.value_rules.specs.Hearing.{vote_by, own_in}
+use Rattle.value_rules.specs.Owing.{first_of}
 use Rattle.hb_app.specs.Text.{AreShort, delivered_by, delivered_at}
 
 -- what a history's first post delivers, and else what the others do

@@ -6,23 +6,23 @@ use Rattle.std.proofs.lemmas.Bool.{cases_Bool, eqb-true, eq-eqb, lt-ltb, le-ltb,
 use Rattle.std.proofs.lemmas.Option.{slice_get_within, slice_get-get_or}
 use Rattle.hb_base.specs.Numbers.{Numbers, AreSound}
 use Rattle.hb_base.specs.NodeSet.{is_in}
-use Rattle.hb_rules.specs.declared.vote.Vote.{Vote}
-use Rattle.hb_rules.specs.declared.vote.Vote.TheVariants.{Propose, Val, Echo, Ready, Delivered}
-use Rattle.hb_rules.specs.declared.post.Post.{Post}
-use Rattle.hb_rules.specs.declared.report.Submit.{Submit}
-use Rattle.hb_rules.specs.declared.report.Fate.TheVariants.{Running}
-use Rattle.hb_rules.specs.declared.report.End.{End}
-use Rattle.hb_rules.specs.declared.report.Report.{Report}
-use Rattle.hb_rules.specs.Vote.{is_any_proposal, is_proposal, is_delivery}
-use Rattle.rbc_core.specs.Broadcast.{Place, slots_at}
-use Rattle.hb_rules.specs.Hearing.{Hearing, own_in, heard_in}
-use Rattle.hb_rules.specs.History.{IsLegal}
-use Rattle.hb_rules.specs.Rules.{MayCast}
-use Rattle.hb_rules.specs.Owing.{Slot, IsIdle, each, val_slots, echo_slot, ready_slot, delivery_slot, broadcast_slots, lane_slots, desk_slots}
-use Rattle.hb_rules.specs.Report.{heard_of, IsReceived, IsSettled, IsQuiet, slots_of, submitted_at}
-use Rattle.hb_rules.proofs.Sayings.{said, list_any-from}
-use Rattle.hb_rules.proofs.Histories.{legal_induction}
-use Rattle.hb_rules.proofs.Validity.{broadcast_validity, delivery_in_lane, is_value_if, newly_said}
+use Rattle.value_rules.specs.declared.vote.Vote.{Vote}
+use Rattle.value_rules.specs.declared.vote.Vote.TheVariants.{Propose, Val, Echo, Ready, Delivered}
+use Rattle.value_rules.specs.declared.post.Post.{Post}
+use Rattle.value_rules.specs.declared.report.Submit.{Submit}
+use Rattle.value_rules.specs.declared.report.Fate.TheVariants.{Running}
+use Rattle.value_rules.specs.declared.report.End.{End}
+use Rattle.value_rules.specs.declared.report.Report.{Report}
+use Rattle.value_rules.specs.Vote.{is_any_proposal, is_proposal, is_delivery}
+use Rattle.value_broadcast.specs.Broadcast.{Place, slots_at}
+use Rattle.value_rules.specs.Hearing.{Hearing, own_in, heard_in}
+use Rattle.value_rules.specs.History.{IsLegal}
+use Rattle.value_rules.specs.Rules.{MayCast}
+use Rattle.value_rules.specs.Owing.{Slot, IsIdle, each, val_slots, echo_slot, ready_slot, delivery_slot, broadcast_slots, lane_slots, desk_slots}
+use Rattle.value_rules.specs.Report.{heard_of, IsReceived, IsSettled, IsQuiet, slots_of, submitted_at}
+use Rattle.value_rules.proofs.Sayings.{said, list_any-from}
+use Rattle.value_rules.proofs.Histories.{legal_induction}
+use Rattle.value_rules.proofs.Validity.{broadcast_validity, delivery_in_lane, is_value_if, newly_said}
 use Rattle.hb_app.specs.declared.member.Core.{Core}
 use Rattle.hb_app.specs.declared.member.Core.TheVariants.{Lane, Desk}
 use Rattle.hb_app.specs.declared.member.Member.{Member}

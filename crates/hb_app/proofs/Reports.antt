@@ -2,16 +2,16 @@
 use Rattle.std.proofs.Common.{Contains, ◌≡◌, ℕ, Bool, false, List, [], ◌∷◌, length, map, refl, sym, ap, ◌∙◌, subst}
 use Rattle.hb_base.specs.Numbers.{Numbers, AreSound}
 use Rattle.hb_base.specs.NodeSet.{is_in}
-use Rattle.hb_rules.specs.declared.post.Post.{Post}
-use Rattle.hb_rules.specs.declared.report.Report.{Report}
-use Rattle.hb_rules.specs.History.{IsLegal}
-use Rattle.hb_rules.specs.Report.{IsQuiet, status_of, submitted_at}
+use Rattle.value_rules.specs.declared.post.Post.{Post}
+use Rattle.value_rules.specs.declared.report.Report.{Report}
+use Rattle.value_rules.specs.History.{IsLegal}
+use Rattle.value_rules.specs.Report.{IsQuiet, status_of, submitted_at}
 use Rattle.hb_app.specs.declared.member.Member.{Member}
 use Rattle.hb_app.specs.declared.scenario.Scenario.{Scenario}
 use Rattle.hb_app.specs.Member.{end_of}
 use Rattle.hb_app.specs.Team.{IsRun}
 use Rattle.hb_app.specs.Run.{IsPlain, IsRunOf}
-use Rattle.hb_rules.specs.declared.report.End.{End}
+use Rattle.value_rules.specs.declared.report.End.{End}
 use Rattle.hb_app.proofs.Quiet.{HasEnded, ended, proposes, agree, none_lies, proposed_value, quiet}
 use Rattle.hb_app.proofs.Totality.{Premises, all_deliver}
 

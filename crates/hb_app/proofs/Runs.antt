@@ -5,13 +5,13 @@ use Rattle.std.proofs.lemmas.Bool.{cases_lt, cases_Bool, eqb-true, eq-eqb}
 use Rattle.std.proofs.lemmas.Option.{slice_get_within, slice_get-get_or}
 use Rattle.std.proofs.lemmas.List.Elements.{Contains-push, Contains-append_left}
 use Rattle.hb_base.specs.Numbers.{Numbers}
-use Rattle.hb_rules.specs.declared.vote.Vote.{Vote}
-use Rattle.hb_rules.specs.declared.post.Post.{Post}
-use Rattle.hb_rules.specs.declared.report.Fate.TheVariants.{Running}
-use Rattle.hb_rules.specs.Hearing.{own_in, reaches}
-use Rattle.hb_rules.specs.Book.{BookView, Moved}
-use Rattle.hb_rules.specs.BookLaws.{own_in-append, own_in-others, Moved-refl, IsSeatOf-moved}
-use Rattle.hb_rules.specs.Report.{heard_of, NoVoteTwice, actors}
+use Rattle.value_rules.specs.declared.vote.Vote.{Vote}
+use Rattle.value_rules.specs.declared.post.Post.{Post}
+use Rattle.value_rules.specs.declared.report.Fate.TheVariants.{Running}
+use Rattle.value_rules.specs.Hearing.{own_in, reaches}
+use Rattle.value_rules.specs.Book.{BookView, Moved}
+use Rattle.value_rules.specs.BookLaws.{own_in-append, own_in-others, Moved-refl, IsSeatOf-moved}
+use Rattle.value_rules.specs.Report.{heard_of, NoVoteTwice, actors}
 use Rattle.hb_app.specs.declared.member.Member.{Member}
 use Rattle.hb_app.specs.Member.{IsReady, IsMember, IsTeam, HasReceived, AddsReceived, Delivers}
 use Rattle.hb_app.specs.Team.{HasProposed, IsRun}

@@ -3,9 +3,9 @@ use Rattle.std.proofs.Common.{inl, inr, ◌⊎◌, ◌≡◌, ◌≢◌, ℕ, Bo
 use Rattle.std.specs.List.{list_any}
 use Rattle.std.specs.Io.KnownBytes.{Consumes, IsAtEnd}
 use Rattle.std.proofs.lemmas.Bool.{cases_eq}
-use Rattle.hb_rules.specs.declared.report.End.{End}
-use Rattle.hb_rules.specs.declared.report.Report.{Report}
-use Rattle.hb_rules.specs.Report.{status_of, is_memory_fate, is_full_fate}
+use Rattle.value_rules.specs.declared.report.End.{End}
+use Rattle.value_rules.specs.declared.report.Report.{Report}
+use Rattle.value_rules.specs.Report.{status_of, is_memory_fate, is_full_fate}
 use Rattle.hb_app.specs.declared.top.Outcome.TheVariants.{Ran}
 use Rattle.hb_app.specs.Input.{most_taken}
 use Rattle.hb_app.specs.Scenario.{scenario_of}

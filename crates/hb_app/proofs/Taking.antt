@@ -7,25 +7,25 @@ use Rattle.std.proofs.lemmas.List.Elements.{filter_map-append, Contains-append_l
 use Rattle.std.proofs.lemmas.List.Folds.{list_any-append}
 use Rattle.std.proofs.lemmas.Option.{slice_get_within, get_or_from_slice_get}
 use Rattle.hb_base.specs.Numbers.{Numbers}
-use Rattle.hb_rules.specs.declared.vote.Vote.{Vote}
-use Rattle.hb_rules.specs.declared.post.Post.{Post}
-use Rattle.hb_rules.specs.Vote.{is_any_proposal}
-use Rattle.hb_rules.specs.Hearing.{Hearing, hearing_of, heard_in, own_in, reaches}
-use Rattle.hb_rules.specs.Rules.{MayBroadcast}
-use Rattle.hb_rules.specs.History.{IsLegal}
-use Rattle.hb_rules.specs.Owing.{pass, broadcast_slots}
-use Rattle.hb_rules.specs.Book.{SeatView, BookView, is_by, Extended, Moved, IsSeatOf}
-use Rattle.hb_rules.specs.declared.report.Fate.TheVariants.{Running, Full}
-use Rattle.hb_rules.specs.BookLaws.{own_in-append}
-use Rattle.hb_rules.specs.Report.{heard_of, IsReceived}
-use Rattle.hb_rules.specs.Vote.{epoch_of}
-use Rattle.hb_rules.specs.Hearing.{heeds}
-use Rattle.hb_rules.proofs.Histories.{legal_known}
-use Rattle.hb_rules.proofs.Hearings.{AreAmong, MayBroadcast-among}
-use Rattle.hb_rules.proofs.Passing.{InTurn}
-use Rattle.hb_rules.proofs.Sayings.{Found, Found-from, list_any-filter_map}
-use Rattle.hb_rules.proofs.Slots.{broadcast_in_turn}
-use Rattle.rbc_core.specs.Broadcast.{Place, slots_at, Stands}
+use Rattle.value_rules.specs.declared.vote.Vote.{Vote}
+use Rattle.value_rules.specs.declared.post.Post.{Post}
+use Rattle.value_rules.specs.Vote.{is_any_proposal}
+use Rattle.value_rules.specs.Hearing.{Hearing, hearing_of, heard_in, own_in, reaches}
+use Rattle.value_rules.specs.Rules.{MayBroadcast}
+use Rattle.value_rules.specs.History.{IsLegal}
+use Rattle.value_rules.specs.Owing.{pass, broadcast_slots}
+use Rattle.value_rules.specs.Book.{SeatView, BookView, is_by, Extended, Moved, IsSeatOf}
+use Rattle.value_rules.specs.declared.report.Fate.TheVariants.{Running, Full}
+use Rattle.value_rules.specs.BookLaws.{own_in-append}
+use Rattle.value_rules.specs.Report.{heard_of, IsReceived}
+use Rattle.value_rules.specs.Vote.{epoch_of}
+use Rattle.value_rules.specs.Hearing.{heeds}
+use Rattle.value_rules.proofs.Histories.{legal_known}
+use Rattle.value_rules.proofs.Hearings.{AreAmong, MayBroadcast-among}
+use Rattle.value_rules.proofs.Passing.{InTurn}
+use Rattle.value_rules.proofs.Sayings.{Found, Found-from, list_any-filter_map}
+use Rattle.value_rules.proofs.Slots.{broadcast_in_turn}
+use Rattle.value_broadcast.specs.Broadcast.{Place, slots_at, Stands}
 use Rattle.hb_app.specs.declared.member.Core.{Core}
 use Rattle.hb_app.specs.declared.member.Core.TheVariants.{Lane, Desk}
 use Rattle.hb_app.specs.declared.member.Member.{Member}

@@ -3,12 +3,12 @@ use Rattle.std.proofs.Common.{◌≡◌, ◌≢◌, ℕ, zero, suc, ◌+◌, ◌
 use Rattle.std.specs.List.{flat_map, range_with_len}
 use Rattle.hb_base.specs.Numbers.{Numbers}
 use Rattle.hb_base.specs.NodeSet.{is_in}
-use Rattle.hb_rules.specs.declared.post.Post.{Post}
-use Rattle.hb_rules.specs.declared.vote.Vote.TheVariants.{Propose}
-use Rattle.hb_rules.specs.Hearing.{own_in}
-use Rattle.hb_rules.specs.Book.{BookView, Moved}
-use Rattle.hb_rules.specs.BookLaws.{own_in-append, own_in-others}
-use Rattle.hb_rules.specs.Report.{actors_of, NoVoteTwice}
+use Rattle.value_rules.specs.declared.post.Post.{Post}
+use Rattle.value_rules.specs.declared.vote.Vote.TheVariants.{Propose}
+use Rattle.value_rules.specs.Hearing.{own_in}
+use Rattle.value_rules.specs.Book.{BookView, Moved}
+use Rattle.value_rules.specs.BookLaws.{own_in-append, own_in-others}
+use Rattle.value_rules.specs.Report.{actors_of, NoVoteTwice}
 use Rattle.hb_app.specs.Team.{correct_actors, IsGathering, IsRun, HasProposed}
 use Rattle.std.proofs.lemmas.Bool.{eqb-true, false_from_ne_true}
 use Rattle.std.proofs.lemmas.Grind.{flat_map-append}

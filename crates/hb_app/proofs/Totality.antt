@@ -11,28 +11,28 @@ use Rattle.std.proofs.lemmas.Slice.Eq.{bytes_eq-Decides}
 use Rattle.hb_base.specs.Counting.{count_nodes}
 use Rattle.hb_base.specs.Numbers.{Numbers, AreSound}
 use Rattle.hb_base.specs.NodeSet.{is_in}
-use Rattle.hb_rules.specs.declared.vote.To.{To}
-use Rattle.hb_rules.specs.declared.vote.Vote.{Vote}
-use Rattle.hb_rules.specs.declared.vote.Vote.TheVariants.{Propose, Val, Echo, Ready, Delivered}
-use Rattle.hb_rules.specs.declared.post.Post.{Post}
-use Rattle.hb_rules.specs.declared.report.Fate.{Fate}
-use Rattle.hb_rules.specs.declared.report.Fate.TheVariants.{Running, Memory, Full}
-use Rattle.hb_rules.specs.declared.report.End.{End}
-use Rattle.hb_rules.specs.declared.report.Report.{Report}
-use Rattle.hb_rules.specs.Vote.{address_of, epoch_of, is_any_proposal, proposed, sent, echoed, readied, delivered, is_value, is_proposal, is_val, is_echo, is_ready}
-use Rattle.hb_rules.specs.Hearing.{Hearing, leads_to, heeds, hearing_of, vote_by, own_in, heard_from, count_of}
-use Rattle.hb_rules.specs.History.{IsLegal}
-use Rattle.hb_rules.specs.Book.{post_of}
-use Rattle.hb_rules.specs.Owing.{Slot, IsIdle, each, first_of, claimed_by, passing, readies, delivers, named, val_slot, echo_slot, ready_slot, delivery_slot, lane_slots, desk_slots}
-use Rattle.hb_rules.specs.Report.{works, runs, is_running, status_of, is_running_fate, is_memory_fate, is_full_fate, actors_of, actors, heard_of, submitted_at, slots_of, IsDue, IsSettled, IsQuiet}
-use Rattle.hb_rules.proofs.Counts.{count_nodes-mono}
-use Rattle.hb_rules.proofs.Passing.{IsSettledAt, settled_parts}
-use Rattle.hb_rules.proofs.Slots.{AllByRecursion-parts}
-use Rattle.hb_rules.proofs.Sayings.{said, list_any-from, Found, Found-from, AreAddressed}
-use Rattle.hb_rules.proofs.Shapes.{proposal_is, val_is, echo_is, ready_is}
-use Rattle.hb_rules.proofs.Validity.{IsSourced, broadcast_validity}
-use Rattle.rbc_core.proofs.Standing.{AreSettled, AreSettled-idle}
-use Rattle.rbc_core.proofs.Owed.{none_from_map}
+use Rattle.value_rules.specs.declared.vote.To.{To}
+use Rattle.value_rules.specs.declared.vote.Vote.{Vote}
+use Rattle.value_rules.specs.declared.vote.Vote.TheVariants.{Propose, Val, Echo, Ready, Delivered}
+use Rattle.value_rules.specs.declared.post.Post.{Post}
+use Rattle.value_rules.specs.declared.report.Fate.{Fate}
+use Rattle.value_rules.specs.declared.report.Fate.TheVariants.{Running, Memory, Full}
+use Rattle.value_rules.specs.declared.report.End.{End}
+use Rattle.value_rules.specs.declared.report.Report.{Report}
+use Rattle.value_rules.specs.Vote.{address_of, epoch_of, is_any_proposal, proposed, sent, echoed, readied, delivered, is_value, is_proposal, is_val, is_echo, is_ready}
+use Rattle.value_rules.specs.Hearing.{Hearing, leads_to, heeds, hearing_of, vote_by, own_in, heard_from, count_of}
+use Rattle.value_rules.specs.History.{IsLegal}
+use Rattle.value_rules.specs.Book.{post_of}
+use Rattle.value_rules.specs.Owing.{Slot, IsIdle, each, first_of, claimed_by, passing, readies, delivers, named, val_slot, echo_slot, ready_slot, delivery_slot, lane_slots, desk_slots}
+use Rattle.value_rules.specs.Report.{works, runs, is_running, status_of, is_running_fate, is_memory_fate, is_full_fate, actors_of, actors, heard_of, submitted_at, slots_of, IsDue, IsSettled, IsQuiet}
+use Rattle.value_rules.proofs.Counts.{count_nodes-mono}
+use Rattle.value_rules.proofs.Passing.{IsSettledAt, settled_parts}
+use Rattle.value_rules.proofs.Slots.{AllByRecursion-parts}
+use Rattle.value_rules.proofs.Sayings.{said, list_any-from, Found, Found-from, AreAddressed}
+use Rattle.value_rules.proofs.Shapes.{proposal_is, val_is, echo_is, ready_is}
+use Rattle.value_rules.proofs.Validity.{IsSourced, broadcast_validity}
+use Rattle.value_broadcast.proofs.Standing.{AreSettled, AreSettled-idle}
+use Rattle.value_broadcast.proofs.Owed.{none_from_map}
 use Rattle.hb_app.specs.Run.{AllDeliver}
 use Rattle.hb_app.proofs.Quiet.{one_epoch}
 

@@ -1,10 +1,10 @@
 -- Votes that an actor casts one after another.
 use Rattle.std.specs.Prelude.{◌≡◌, ℕ, ◌<◌, List, [], ◌∷◌, ◌++◌, length, take}
 use Rattle.hb_base.specs.Numbers.{Numbers}
-use Rattle.hb_rules.specs.declared.vote.Vote.{Vote}
-use Rattle.hb_rules.specs.declared.post.Post.{Post}
-use Rattle.hb_rules.specs.Hearing.{Hearing, own_in, heard_in}
-use Rattle.hb_rules.specs.Rules.{MayCast}
+use Rattle.value_rules.specs.declared.vote.Vote.{Vote}
+use Rattle.value_rules.specs.declared.post.Post.{Post}
+use Rattle.value_rules.specs.Hearing.{Hearing, own_in, heard_in}
+use Rattle.value_rules.specs.Rules.{MayCast}
 
 -- votes of which each may be cast after those before it
 abbrev pub MayCastInTurn : Numbers → ℕ → ℕ → List Hearing → List Vote → List Vote → Type 0

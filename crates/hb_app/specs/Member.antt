@@ -3,15 +3,15 @@ use Rattle.std.specs.Prelude.{◌≡◌, ◌≢◌, ◌⊎◌, ℕ, ◌<◌, ◌
 use Rattle.std.specs.List.{list_any}
 use Rattle.hb_base.specs.Limits.{most_posts}
 use Rattle.hb_base.specs.Numbers.{Numbers}
-use Rattle.hb_rules.specs.declared.vote.Vote.{Vote}
-use Rattle.hb_rules.specs.declared.post.Post.{Post}
-use Rattle.hb_rules.specs.declared.report.Fate.TheVariants.{Running, Full}
-use Rattle.hb_rules.specs.declared.report.End.{End}
-use Rattle.hb_rules.specs.Vote.{is_any_proposal}
-use Rattle.hb_rules.specs.Hearing.{Hearing, reaches, own_in, heard_in}
-use Rattle.hb_rules.specs.Book.{BookView, IsSeatOf, Moved}
-use Rattle.hb_rules.specs.Report.{heard_of, IsReceived, NoVoteTwice}
-use Rattle.rbc_core.specs.Broadcast.{place_of, Stands, Hears}
+use Rattle.value_rules.specs.declared.vote.Vote.{Vote}
+use Rattle.value_rules.specs.declared.post.Post.{Post}
+use Rattle.value_rules.specs.declared.report.Fate.TheVariants.{Running, Full}
+use Rattle.value_rules.specs.declared.report.End.{End}
+use Rattle.value_rules.specs.Vote.{is_any_proposal}
+use Rattle.value_rules.specs.Hearing.{Hearing, reaches, own_in, heard_in}
+use Rattle.value_rules.specs.Book.{BookView, IsSeatOf, Moved}
+use Rattle.value_rules.specs.Report.{heard_of, IsReceived, NoVoteTwice}
+use Rattle.value_broadcast.specs.Broadcast.{place_of, Stands, Hears}
 use Rattle.hb_app.specs.Casting.{MayCastInTurn}
 use Rattle.hb_app.specs.declared.member.Core.{Core}
 use Rattle.hb_app.specs.declared.member.Core.TheVariants.{Lane, Desk}

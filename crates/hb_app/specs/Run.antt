@@ -2,14 +2,14 @@
 use Rattle.std.specs.Prelude.{◌≡◌, ℕ, ◌-◌, ◌<◌, ◌≤◌, true, false, Some, List, [], ◌∷◌, length, replicate, Contains}
 use Rattle.hb_base.specs.Counting.{count_nodes}
 use Rattle.hb_base.specs.Limits.{most_nodes, longest_transaction}
-use Rattle.hb_rules.specs.declared.vote.Vote.TheVariants.{Propose, Delivered}
-use Rattle.hb_rules.specs.declared.post.Post.{Post}
-use Rattle.hb_rules.specs.declared.report.Fate.TheVariants.{Full}
-use Rattle.hb_rules.specs.declared.report.End.{End}
-use Rattle.hb_rules.specs.declared.report.Report.{Report}
-use Rattle.hb_rules.specs.Hearing.{own_in}
-use Rattle.hb_rules.specs.History.{IsLegal}
-use Rattle.hb_rules.specs.Report.{NoVoteTwice, IsQuiet, is_running, status_of}
+use Rattle.value_rules.specs.declared.vote.Vote.TheVariants.{Propose, Delivered}
+use Rattle.value_rules.specs.declared.post.Post.{Post}
+use Rattle.value_rules.specs.declared.report.Fate.TheVariants.{Full}
+use Rattle.value_rules.specs.declared.report.End.{End}
+use Rattle.value_rules.specs.declared.report.Report.{Report}
+use Rattle.value_rules.specs.Hearing.{own_in}
+use Rattle.value_rules.specs.History.{IsLegal}
+use Rattle.value_rules.specs.Report.{NoVoteTwice, IsQuiet, is_running, status_of}
 use Rattle.hb_app.specs.Member.{IsFull}
 use Rattle.hb_app.specs.Text.{delivered_at}
 use Rattle.hb_app.specs.declared.scenario.Scenario.{Scenario}

@@ -3,10 +3,10 @@ use Rattle.std.specs.Prelude.{◌≡◌, ◌≢◌, ℕ, ◌<◌, ◌⊎◌, Lis
 use Rattle.std.specs.List.{flat_map, range_with_len}
 use Rattle.hb_base.specs.Numbers.{Numbers}
 use Rattle.hb_base.specs.NodeSet.{is_in}
-use Rattle.hb_rules.specs.declared.vote.Vote.TheVariants.{Propose}
-use Rattle.hb_rules.specs.declared.post.Post.{Post}
-use Rattle.hb_rules.specs.Hearing.{own_in}
-use Rattle.hb_rules.specs.Report.{actors_of, actors, NoVoteTwice}
+use Rattle.value_rules.specs.declared.vote.Vote.TheVariants.{Propose}
+use Rattle.value_rules.specs.declared.post.Post.{Post}
+use Rattle.value_rules.specs.Hearing.{own_in}
+use Rattle.value_rules.specs.Report.{actors_of, actors, NoVoteTwice}
 use Rattle.hb_app.specs.declared.member.Member.{Member}
 use Rattle.hb_app.specs.Member.{IsTeam, HaveReceived}
 

@@ -5,16 +5,16 @@ use Rattle.hex.specs.Hex.{encode_lower}
 use Rattle.hb_base.specs.Limits.{longest_transaction}
 use Rattle.hb_base.specs.Numbers.{Numbers}
 use Rattle.hb_base.specs.Outside.{Rose, Puts}
-use Rattle.hb_rules.specs.declared.vote.Vote.TheVariants.{Delivered}
-use Rattle.hb_rules.specs.declared.post.Post.{Post}
-use Rattle.hb_rules.specs.declared.report.Fate.{Fate}
-use Rattle.hb_rules.specs.declared.report.Fate.TheVariants.{Running, Memory, Full}
-use Rattle.hb_rules.specs.declared.report.End.{End}
-use Rattle.hb_rules.specs.declared.report.Report.{Report}
-use Rattle.hb_rules.specs.Vote.{delivered}
-use Rattle.hb_rules.specs.Hearing.{vote_by, own_in}
-use Rattle.hb_rules.specs.Owing.{first_of}
-use Rattle.hb_rules.specs.Report.{runs}
+use Rattle.value_rules.specs.declared.vote.Vote.TheVariants.{Delivered}
+use Rattle.value_rules.specs.declared.post.Post.{Post}
+use Rattle.value_rules.specs.declared.report.Fate.{Fate}
+use Rattle.value_rules.specs.declared.report.Fate.TheVariants.{Running, Memory, Full}
+use Rattle.value_rules.specs.declared.report.End.{End}
+use Rattle.value_rules.specs.declared.report.Report.{Report}
+use Rattle.value_rules.specs.Vote.{delivered}
+use Rattle.value_rules.specs.Hearing.{vote_by, own_in}
+use Rattle.value_rules.specs.Owing.{first_of}
+use Rattle.value_rules.specs.Report.{runs}
 
 -- A sink took a text, in one or several puts, or failed after a front of it. Its count of faults rose where it failed,
 -- and there alone.

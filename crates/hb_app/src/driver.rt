@@ -1,9 +1,9 @@
 ghost use Rattle.std.specs.Prelude.{◌≡◌, ℕ, ◌+◌, ◌<◌, ◌≤◌, ◌^◌, Bool, false, List, [], ◌∷◌, ◌++◌, length, map, slice_get, Some, IfOk, OnOk};
 ghost use Rattle.hb_base.specs.NodeSet.{is_in};
-ghost use Rattle.hb_rules.specs.History.{IsLegal};
+ghost use Rattle.value_rules.specs.History.{IsLegal};
 ghost use Rattle.hb_base.specs.Numbers.{AreSound};
 ghost use Rattle.std.specs.List.{list_any};
-ghost use Rattle.hb_rules.specs.Report.{IsReceived, status_of, is_memory_fate, is_full_fate};
+ghost use Rattle.value_rules.specs.Report.{IsReceived, status_of, is_memory_fate, is_full_fate};
 ghost use Rattle.hb_app.specs.Member.{IsMember, IsTeam, HaveReceived, Delivers, end_of};
 ghost use Rattle.hb_app.specs.Team.{IsRun, IsGathering};
 ghost use Rattle.hb_app.specs.Run.{IsPlain, IsRunOf};
@@ -11,7 +11,7 @@ ghost use Rattle.hb_app.specs.Run.{IsPlain, IsRunOf};
 use crate::member::Member;
 use crate::scenario::Scenario;
 use hb_base::{Bytes, NodeSet};
-use hb_rules::{End, Fate, PlainBook, Post, Report, reaches};
+use value_rules::{End, Fate, PlainBook, Post, Report, reaches};
 use std::alloc::{AllocError, Global};
 
 // Delivers post k to one actor, if it works and the post reaches it.

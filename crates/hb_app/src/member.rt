@@ -1,19 +1,19 @@
 ghost use Rattle.std.specs.Prelude.{◌≡◌, ℕ, ◌<◌, ◌≤◌, ◌⊎◌, Bool, true, List, [], ◌∷◌, ◌++◌, length, OnOk, OnErr, IfOk, IfErr, Err, slice_get, Some, Contains, if◌then◌else◌, ◌==◌};
 ghost use Rattle.std.specs.List.{list_any};
 ghost use Rattle.hb_base.specs.Numbers.{AreSound};
-ghost use Rattle.hb_rules.specs.declared.vote.Vote.{Vote};
-ghost use Rattle.hb_rules.specs.declared.vote.Vote.TheVariants.{Propose};
-ghost use Rattle.hb_rules.specs.Hearing.{Hearing, own_in, heard_in};
-ghost use Rattle.hb_rules.specs.Rules.{MayCast};
-ghost use Rattle.hb_rules.specs.Book.{IsSeatOf, Moved};
-ghost use Rattle.hb_rules.specs.declared.report.Fate.TheVariants.{Running, Full};
-ghost use Rattle.hb_rules.specs.Report.{NoVoteTwice, IsReceived, heard_of};
+ghost use Rattle.value_rules.specs.declared.vote.Vote.{Vote};
+ghost use Rattle.value_rules.specs.declared.vote.Vote.TheVariants.{Propose};
+ghost use Rattle.value_rules.specs.Hearing.{Hearing, own_in, heard_in};
+ghost use Rattle.value_rules.specs.Rules.{MayCast};
+ghost use Rattle.value_rules.specs.Book.{IsSeatOf, Moved};
+ghost use Rattle.value_rules.specs.declared.report.Fate.TheVariants.{Running, Full};
+ghost use Rattle.value_rules.specs.Report.{NoVoteTwice, IsReceived, heard_of};
 ghost use Rattle.hb_app.specs.Casting.{MayCastAll, HasCastFront};
 ghost use Rattle.hb_app.specs.Member.{IsFull, IsReady, IsMember, HearsIn, KnowsNode, IsPlaced, Listens, AddsReceived, TakesIn};
 
 use hb_base::{Bytes, Config};
-use hb_rules::{Book, BookFault, Due, Fate, PlainBook, PlainSeat, Post, Vote, hears};
-use rbc_core::Rbc;
+use value_rules::{Book, BookFault, Due, Fate, PlainBook, PlainSeat, Post, Vote, hears};
+use value_broadcast::Rbc;
 use std::alloc::{AllocError, Global};
 
 /// What an actor does with the votes that it hears.

@@ -12,7 +12,7 @@ use hb_base::limits::{
     LONGEST_SCENARIO, LONGEST_TRANSACTION, MOST_BATCH, MOST_FAULTY, MOST_NODES, MOST_ROUNDS,
 };
 use hb_base::{Bytes, Config, NodeSet};
-use hb_rules::Submit;
+use value_rules::Submit;
 use serde_json::{Map, Value};
 use std::alloc::{AllocError, Global};
 

@@ -4,7 +4,7 @@ use crate::scenario::{ScenarioFault, read_scenario};
 use crate::text::print_run;
 use hb_base::limits::LONGEST_SCENARIO;
 use hb_base::{Bytes, Config, MemorySink, MemorySource, NodeSet};
-use hb_rules::{End, Fate, Report};
+use value_rules::{End, Fate, Report};
 use std::alloc::{AllocError, Global};
 use std::test::Fail;
 

@@ -5,7 +5,7 @@ ghost use Rattle.hb_app.specs.Text.{Prints, AreShort, run_line, running_line, en
 
 use crate::line::Line;
 use hb_base::{Config, Failed, Sink};
-use hb_rules::{End, Fate, Post, Report, Vote, runs};
+use value_rules::{End, Fate, Post, Report, Vote, runs};
 
 /// What `hb_ledger` says of words that it doesn't know.
 pub const USAGE: &[u8; 55] = b"usage: hb_ledger run|soak N|trace|audit|observe|accuse\n";

@@ -1,7 +1,7 @@
 //! Whole calls of the program over memory: what no clause says is that they find memory and that all correct nodes deliver.
 use crate::top::hb_main;
 use hb_base::{Bytes, MemorySink, MemorySource};
-use hb_rules::{Post, Report, Vote};
+use value_rules::{Post, Report, Vote};
 use std::alloc::{AllocError, Global};
 use std::test::Fail;
 

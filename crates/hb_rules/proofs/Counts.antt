@@ -3,7 +3,7 @@ use Rattle.std.proofs.Common.{◌≡◌, ℕ, zero, suc, ◌+◌, ◌<◌, ◌�
 use Rattle.std.proofs.lemmas.Bool.{and_parts, cases_lt}
 use Rattle.hb_base.specs.Counting.{count_nodes}
 
--- one more node counts by its own test
+-- where each that passes p passes q, p counts no more
 pub count_nodes-mono : (n : ℕ) (p q : ℕ → Bool) → ((a : ℕ) → a < n → p a ≡ true → q a ≡ true) → count_nodes n p ≤ count_nodes n q
 count_nodes-mono zero p q more = omega arith
 count_nodes-mono (suc n) p q more =
@@ -61,3 +61,31 @@ correct_member n f l p few many =
     not_true : (b : Bool) → not b ≡ true → b ≡ false
     not_true true h = absurd (cc (h))
     not_true false h = refl
+
+pub count_nodes-le : (n : ℕ) (p : ℕ → Bool) → count_nodes n p ≤ n
+count_nodes-le zero p = omega arith
+count_nodes-le (suc n) p = step (p n) (count_nodes-le n p)
+  where
+    step : (b : Bool) → count_nodes n p ≤ n → count_nodes n p + (if b then 1 else 0) ≤ suc n
+    step true le = omega arith
+    step false le = omega arith
+
+both_at : (b c : Bool) (n k l m : ℕ) → k + l ≤ n + m
+    → (k + (if b then 1 else 0)) + (l + (if c then 1 else 0)) ≤ suc n + (m + (if (b && c) then 1 else 0))
+both_at true true n k l m le = omega arith
+both_at true false n k l m le = omega arith
+both_at false true n k l m le = omega arith
+both_at false false n k l m le = omega arith
+
+-- two counts together are no more than all nodes and those that pass both
+pub count_nodes-and : (n : ℕ) (p q : ℕ → Bool) → count_nodes n p + count_nodes n q ≤ n + count_nodes n (λ a. p a && q a)
+count_nodes-and zero p q = omega arith
+count_nodes-and (suc n) p q = both_at (p n) (q n) n (count_nodes n p) (count_nodes n q) (count_nodes n (λ a. p a && q a)) (count_nodes-and n p q)
+
+-- two quorums share a node that does not lie
+pub shared_correct : (n f : ℕ) (l p q : ℕ → Bool) → count_nodes n l ≤ f → n + f < count_nodes n p + count_nodes n q
+    → (a : ℕ) × (a < n) × (p a ≡ true) × (q a ≡ true) × (l a ≡ false)
+shared_correct n f l p q few many =
+    let found = correct_member n f l (λ a. p a && q a) few (omega (arith, count_nodes-and n p q)) in
+    let parts = and_parts (p found.0) (q found.0) found.2 in
+    (found.0, found.1, parts.0, parts.1, found.3)

@@ -1,62 +1,83 @@
-ghost use Rattle.std.specs.Prelude.{◌≡◌, [], ◌∷◌, ◌++◌, OnOk, OnErr};
+ghost use Rattle.std.specs.Prelude.{◌≡◌, ◌+◌, ◌-◌, ◌^◌, ◌≤◌, min, [], ◌∷◌, ◌++◌, OnOk, OnErr, IsOk};
 
-use crate::vote::Vote;
+use hb_wire::Vote;
 use std::alloc::{AllocError, Global};
 use std::marker::Model;
 
-/// The votes that an actor has to cast, in order. Clauses see it as their list.
+/// The votes that an actor has to cast, in order, and room for more. Clauses see a `DueView`.
 #[derive(Debug, Drop)]
 pub struct Due {
     votes: Vec<Vote>,
 }
 
 impl Model for Due {
-    ghost use Rattle.std.specs.Prelude.{List};
-    ghost use Rattle.hb_rules.specs.declared.vote.Vote.{Vote};
+    ghost use Rattle.std.specs.Prelude.{vec_capacity, vec_len, ◌-◌};
+    ghost use Rattle.hb_rules.specs.Room.{DueView};
 
-    ghost Value = { List Vote };
+    ghost Value = { DueView };
 
-    ghost view = { λ d. d.votes.items };
+    ghost view = { λ d. record { votes = d.votes.items; spare = vec_capacity d.votes - vec_len d.votes } };
 }
 
 impl Due {
-    /// No vote.
+    /// No vote. It takes no memory.
     pub fn new(alloc: Global) -> Due
-        ensures { result ≡ [] }
+        ensures { result.votes ≡ [] }
     {
         Due {
             votes: Vec::new(alloc),
         }
     }
 
-    /// Adds a vote behind the others. Want of memory changes nothing.
+    /// Makes room for so many votes more. It changes no vote.
+    pub fn reserve(&mut self, more: u32) -> Result<(), AllocError>
+        ensures votes { self.new.votes ≡ self.old.votes }
+        ensures room { OnOk result (more ≤ self.new.spare) }
+        ensures no_less { self.old.spare ≤ self.new.spare }
+        ensures enough { more ≤ self.old.spare → IsOk result }
+    {
+        self.votes.reserve(more as usize)
+    }
+
+    /// Adds a vote behind the others. With room it succeeds and takes no memory. Want of memory changes no vote.
     pub fn push(&mut self, vote: Vote) -> Result<(), AllocError>
-        ensures ok { OnOk result (self.new ≡ self.old ++ vote ∷ []) }
-        ensures err { OnErr result (self.new ≡ self.old) }
+        ensures ok { OnOk result (self.new.votes ≡ self.old.votes ++ vote ∷ []) }
+        ensures err { OnErr result (self.new.votes ≡ self.old.votes) }
+        ensures enough { 1 ≤ self.old.spare → IsOk result }
+        ensures room { self.old.spare ≤ self.new.spare + 1 }
     {
         self.votes.push(vote)?;
         Ok(())
     }
 
-    /// Adds the votes of another list behind these. Want of memory changes nothing here.
-    pub fn append(&mut self, mut other: Due) -> Result<(), AllocError>
-        ensures ok { OnOk result (self.new ≡ self.old ++ other) }
-        ensures err { OnErr result (self.new ≡ self.old) }
+    /// Adds a vote behind the others, for which there is room.
+    pub fn push_reserved(&mut self, vote: Vote)
+        requires { 1 ≤ self.old.spare }
+        ensures votes { self.new.votes ≡ self.old.votes ++ vote ∷ [] }
+        ensures room { self.new.spare + 1 ≡ self.old.spare }
     {
-        self.votes.append(&mut other.votes)?;
-        Ok(())
+        self.votes.push_reserved(vote);
+    }
+
+    /// For how many votes there is room, up to the greatest u32.
+    pub fn spare(&self) -> u32
+        ensures { result ≡ min self.now.spare (2 ^ 32 - 1) }
+    {
+        let spare = self.votes.capacity() - self.votes.len();
+        spare.min(u32::MAX as usize) as u32
     }
 
     /// The votes, lent.
     pub fn votes(&self) -> &[Vote]
-        ensures { result.now ≡ self.now }
+        ensures { result.now ≡ self.now.votes }
     {
         self.votes.as_slice()
     }
 
-    /// Forgets all votes.
+    /// Forgets all votes, and keeps their room.
     pub fn clear(&mut self)
-        ensures { self.new ≡ [] }
+        ensures votes { self.new.votes ≡ [] }
+        ensures room { self.old.spare ≤ self.new.spare }
     {
         self.votes.clear();
     }

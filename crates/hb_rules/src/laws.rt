@@ -1,21 +1,103 @@
-//! What holds of every legal history, whatever its liars posted. The function does nothing: what it ensures are the laws.
+//! Laws of what is owed. Each function does nothing: what it ensures are the laws.
 
-ghost use Rattle.std.specs.Prelude.{◌≡◌, ℕ, ◌<◌, false, List, Contains};
+ghost use Rattle.std.specs.Prelude.{◌≡◌, ◌≢◌, ℕ, ◌<◌, ◌≤◌, false, true, Bool, List, [], ◌∷◌, ◌++◌, filter};
+ghost use Rattle.std.specs.List.{list_all, AllByRecursion};
 ghost use Rattle.hb_base.specs.Numbers.{Numbers, AreSound};
-ghost use Rattle.hb_base.specs.NodeSet.{is_in};
-ghost use Rattle.hb_rules.specs.declared.vote.Vote.TheVariants.{Propose, Delivered};
-ghost use Rattle.hb_rules.specs.declared.post.Post.{Post};
-ghost use Rattle.hb_rules.specs.Hearing.{own_in};
-ghost use Rattle.hb_rules.specs.History.{IsLegal};
+ghost use Rattle.hb_wire.specs.declared.vote.Vote.{Vote};
+ghost use Rattle.hb_rules.specs.Hearing.{Hearing};
+ghost use Rattle.hb_rules.specs.Slots.{Slot, pass, passes, IsIdle, IsOwed, owed, by_rows, of_epoch, IsPart, AreRows, IsGuarded, IsForgetful};
+ghost use Rattle.hb_rules.specs.Turns.{IsPlain, InTurn};
+ghost use Rattle.hb_rules.specs.Tested.{IsTested};
+ghost use Rattle.hb_rules.specs.Same.{AreSame};
+ghost use Rattle.hb_rules.specs.Parts.{in_broadcast, heard_in_broadcast};
+ghost use Rattle.hb_rules.specs.Broadcast.{MayBroadcast};
+ghost use Rattle.hb_rules.specs.BroadcastRows.{broadcast_rows};
+ghost use Rattle.hb_rules.specs.Owing.{broadcast_slots};
+ghost use Rattle.hb_rules.specs.Terms.{AreHeardSpelled, AreSpelled, AreAmong};
 
-/// The laws of the reliable broadcast (Bracha, Asynchronous Byzantine Agreement Protocols, 1987; CCS 2016,
-/// section 4.2). Agreement: in the lane of whichever node, no two correct nodes deliver different values in an epoch.
-/// Validity: in the lane of a correct node, a correct node delivers only what the desk of that node has proposed.
-pub fn broadcast_laws()
-    ensures agreement { (c : Numbers) (history : List Post) (j e i m : ℕ) (v w : List ℕ) → AreSound c → IsLegal c history → j < c.n
-        → is_in c.liars i ≡ false → is_in c.liars m ≡ false
-        → Contains (own_in i j history) (Delivered e v) → Contains (own_in m j history) (Delivered e w) → v ≡ w }
-    ensures validity { (c : Numbers) (history : List Post) (j e i : ℕ) (v : List ℕ) → AreSound c → IsLegal c history → j < c.n
-        → is_in c.liars j ≡ false → is_in c.liars i ≡ false
-        → Contains (own_in i j history) (Delivered e v) → Contains (own_in j c.n history) (Propose e v) }
+/// What is owed. One list is owed, and where each slot's vote fills it, so many passes as there are slots give it. Where
+/// nothing is owed, more passes add nothing, and nothing is owed once what was heard is forgotten. Slots whose choice does
+/// not look at what was cast owe nothing after one pass, whatever is cast later, and their votes come before those of the
+/// slots behind them. Own votes and hearings that agree in the part that slots look at make the same owed, and what is
+/// owed is of the part that slots make. Own votes that no test tells apart make the same owed of slots that look at them by
+/// tests alone.
+pub fn slot_laws()
+    ensures settled { (slots : List (Slot Vote Hearing)) (own : List Vote) (heard : List Hearing) (k m : ℕ) → k ≤ m
+        → IsIdle slots (own ++ passes k slots own heard) heard → passes m slots own heard ≡ passes k slots own heard }
+    ensures unique { (slots : List (Slot Vote Hearing)) (own : List Vote) (heard : List Hearing) (votes others : List Vote)
+        → IsOwed slots own heard votes → IsOwed slots own heard others → votes ≡ others }
+    ensures nothing { (slots : List (Slot Vote Hearing)) (own : List Vote) (heard : List Hearing)
+        → IsIdle slots own heard → IsOwed slots own heard [] }
+    ensures both { (first second : List (Slot Vote Hearing)) (own : List Vote) (heard : List Hearing) (votes : List Vote)
+        → ((more : List Vote) → IsIdle first ((own ++ pass first own heard) ++ more) heard)
+        → IsOwed second (own ++ pass first own heard) heard votes → IsOwed (first ++ second) own heard (pass first own heard ++ votes) }
+    ensures plain_after { (slots : List (Slot Vote Hearing)) (own : List Vote) (heard : List Hearing) → AllByRecursion IsPlain slots
+        → IsIdle slots (own ++ pass slots own heard) heard }
+    ensures plain_rests { (slots : List (Slot Vote Hearing)) (own more : List Vote) (heard : List Hearing) → AllByRecursion IsPlain slots
+        → IsIdle slots own heard → IsIdle slots (own ++ more) heard }
+    ensures plain_first { (first second : List (Slot Vote Hearing)) (own : List Vote) (heard : List Hearing) (votes : List Vote)
+        → AllByRecursion IsPlain first → IsOwed second (own ++ pass first own heard) heard votes
+        → IsOwed (first ++ second) own heard (pass first own heard ++ votes) }
+    ensures same { (reads : Vote → Bool) (hears : Hearing → Bool) (makes : Vote → Bool) (slots : List (Slot Vote Hearing))
+        → AllByRecursion (IsPart reads hears makes) slots → (own other : List Vote) (heard now : List Hearing) (votes : List Vote)
+        → filter reads own ≡ filter reads other → filter hears heard ≡ filter hears now
+        → IsOwed slots own heard votes → IsOwed slots other now votes }
+    ensures made { (reads : Vote → Bool) (hears : Hearing → Bool) (makes : Vote → Bool) (slots : List (Slot Vote Hearing))
+        → AllByRecursion (IsPart reads hears makes) slots → (own : List Vote) (heard : List Hearing) (votes : List Vote)
+        → IsOwed slots own heard votes → list_all makes votes ≡ true }
+    ensures owed { (slots : List (Slot Vote Hearing)) → AllByRecursion IsGuarded slots → (own : List Vote) (heard : List Hearing)
+        → IsOwed slots own heard (owed slots own heard) }
+    ensures owed_rests { (slots : List (Slot Vote Hearing)) → AllByRecursion IsGuarded slots → (own : List Vote) (heard : List Hearing)
+        → owed slots (own ++ owed slots own heard) heard ≡ [] }
+    ensures owed_same { (slots : List (Slot Vote Hearing)) → AllByRecursion IsTested slots → (own other : List Vote) (heard : List Hearing)
+        → AreSame own other → owed slots own heard ≡ owed slots other heard }
+    ensures owed_forgets { (slots : List (Slot Vote Hearing)) → AllByRecursion IsGuarded slots → AllByRecursion IsForgetful slots
+        → (own : List Vote) (heard : List Hearing) → owed slots own heard ≡ [] → owed slots own [] ≡ [] }
+    ensures forgets { (slots : List (Slot Vote Hearing)) → AllByRecursion IsForgetful slots → (own : List Vote) (heard : List Hearing)
+        → IsIdle slots own heard → IsIdle slots own [] }
+{}
+
+/// What one hearing of epoch e makes owed of the slots of all epochs, where nothing was owed before, the slots of each
+/// epoch look at votes and hearings of that epoch alone, and no other epoch looks at the hearing: what it makes owed of the
+/// slots of e. Where the rows are those of two parts and the slots of the first are plain, that is one pass over the first
+/// part's slots of e, and then what is owed of the second part's. A slot that looks at a part looks at any wider part.
+pub fn row_laws()
+    ensures by_epoch { (reads : ℕ → Vote → Bool) (hears : ℕ → Hearing → Bool) (makes : ℕ → Vote → Bool) (rows : List (ℕ → List (Slot Vote Hearing)))
+        → AreRows reads hears makes rows → ((j k : ℕ) (vote : Vote) → j ≢ k → makes j vote ≡ true → reads k vote ≡ false)
+        → (n e : ℕ) (own : List Vote) (heard : List Hearing) (h : Hearing) (votes : List Vote) → e < n → ((k : ℕ) → k ≢ e → hears k h ≡ false)
+        → IsIdle (by_rows n rows) own heard
+        → IsOwed (of_epoch e rows) own (heard ++ h ∷ []) votes → IsOwed (by_rows n rows) own (heard ++ h ∷ []) votes }
+    ensures by_both { (reads : ℕ → Vote → Bool) (hears : ℕ → Hearing → Bool) (makes : ℕ → Vote → Bool) (first second : List (ℕ → List (Slot Vote Hearing)))
+        → AreRows reads hears makes (first ++ second) → AllByRecursion (λ row. (k : ℕ) → AllByRecursion IsPlain (row k)) first
+        → ((j k : ℕ) (vote : Vote) → j ≢ k → makes j vote ≡ true → reads k vote ≡ false)
+        → (n e : ℕ) (own : List Vote) (heard : List Hearing) (h : Hearing) (votes : List Vote) → e < n → ((k : ℕ) → k ≢ e → hears k h ≡ false)
+        → IsIdle (by_rows n (first ++ second)) own heard
+        → IsOwed (of_epoch e second) (own ++ pass (of_epoch e first) own (heard ++ h ∷ [])) (heard ++ h ∷ []) votes
+        → IsOwed (by_rows n (first ++ second)) own (heard ++ h ∷ []) (pass (of_epoch e first) own (heard ++ h ∷ []) ++ votes) }
+    ensures idle { (n : ℕ) (rows : List (ℕ → List (Slot Vote Hearing))) (own : List Vote) (heard : List Hearing)
+        → IsIdle (by_rows n rows) own heard → (e : ℕ) → e < n → IsIdle (of_epoch e rows) own heard }
+    ensures wider { (reads wide : Vote → Bool) (hears loud : Hearing → Bool) (makes more : Vote → Bool) (slot : Slot Vote Hearing)
+        → ((vote : Vote) → reads vote ≡ true → wide vote ≡ true) → ((h : Hearing) → hears h ≡ true → loud h ≡ true)
+        → ((vote : Vote) → makes vote ≡ true → more vote ≡ true) → IsPart reads hears makes slot → IsPart wide loud more slot }
+{}
+
+/// The slots of lane j of node i in the broadcast. Those of an epoch look at votes and hearings of its broadcast alone, and
+/// make votes of it; the vote of each fills it, and what fills it is not undone; a slot that makes nothing of what was
+/// heard makes nothing where nothing is heard; own votes count by tests alone, and for no choice. So one pass rests, and its
+/// votes are what is owed. Where what was heard has spellings, these votes may be cast one after another by all that is
+/// heard, now or later, and have spellings.
+pub fn broadcast_slot_laws()
+    ensures parts { (c : Numbers) (i j : ℕ) → AreRows in_broadcast heard_in_broadcast in_broadcast (broadcast_rows c i j) }
+    ensures guarded { (c : Numbers) (i j : ℕ) → AllByRecursion (λ row. (e : ℕ) → AllByRecursion IsGuarded (row e)) (broadcast_rows c i j) }
+    ensures forgetful { (c : Numbers) (i j : ℕ) → AllByRecursion (λ row. (e : ℕ) → AllByRecursion IsForgetful (row e)) (broadcast_rows c i j) }
+    ensures tested { (c : Numbers) (i j : ℕ) → AllByRecursion (λ row. (e : ℕ) → AllByRecursion IsTested (row e)) (broadcast_rows c i j) }
+    ensures plain { (c : Numbers) (i j : ℕ) → AllByRecursion (λ row. (e : ℕ) → AllByRecursion IsPlain (row e)) (broadcast_rows c i j) }
+    ensures rests { (c : Numbers) (i j e : ℕ) (own : List Vote) (heard : List Hearing)
+        → IsIdle (broadcast_slots c i j e) (own ++ pass (broadcast_slots c i j e) own heard) heard }
+    ensures owed { (c : Numbers) (i j e : ℕ) (own : List Vote) (heard : List Hearing)
+        → IsOwed (broadcast_slots c i j e) own heard (pass (broadcast_slots c i j e) own heard) }
+    ensures in_turn { (c : Numbers) → AreSound c → (i j e : ℕ) (own : List Vote) (some all : List Hearing) → AreHeardSpelled c some → AreAmong some all
+        → InTurn (λ own vote. MayBroadcast c i j own all vote) own (pass (broadcast_slots c i j e) own some) }
+    ensures spelled { (c : Numbers) → AreSound c → (i j e : ℕ) (own : List Vote) (heard : List Hearing) → AreHeardSpelled c heard
+        → AreSpelled c (pass (broadcast_slots c i j e) own heard) }
 {}

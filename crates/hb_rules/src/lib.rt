@@ -1,23 +1,29 @@
-//! The rules of the protocol: votes, who hears which, what an actor may cast and what it has to cast, which histories
-//! of posts are legal, the book that keeps the posts, and the report of a run.
+//! The rules of the protocol: who hears which post, what an actor may cast and what it has to cast, which histories of
+//! posts are legal, the books that keep the posts, the actors that cast them, and the report of a run.
 #![tactic(auto)]
 
+pub mod actor;
+pub mod agreement_slot;
 pub mod book;
+#[cfg(test)]
+mod book_tests;
 pub mod due;
 pub mod laws;
+pub mod outbox;
 pub mod plain_book;
 pub mod plain_seat;
-pub mod post;
+pub mod posts;
 pub mod report;
 #[cfg(test)]
 mod tests;
-pub mod vote;
 
+pub use actor::{Actor, ActorFault};
+pub use agreement_slot::AgreementSlot;
 pub use book::{Book, BookFault};
 pub use due::Due;
-pub use laws::broadcast_laws;
-pub use plain_book::PlainBook;
+pub use laws::{broadcast_slot_laws, row_laws, slot_laws};
+pub use outbox::Outbox;
+pub use plain_book::{PlainBook, plain_book_laws};
 pub use plain_seat::PlainSeat;
-pub use post::{Post, hears, reaches};
-pub use report::{End, Fate, Report, Submit, running, runs};
-pub use vote::{To, Vote};
+pub use posts::Posts;
+pub use report::{End, Fate, Report, running};

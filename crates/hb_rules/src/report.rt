@@ -1,16 +1,12 @@
-ghost use Rattle.std.specs.Prelude.{◌≡◌, []};
-ghost use Rattle.hb_rules.specs.Report.{IsEmptyReport, is_running, runs};
+ghost use Rattle.std.specs.Prelude.{◌≡◌, ◌+◌, ◌<◌, []};
+ghost use Rattle.std.specs.List.{list_all, range_with_len};
+ghost use Rattle.hb_rules.specs.Report.{IsEmptyReport, is_running, works, none_ended};
 
-use crate::post::Post;
-use hb_base::{Bytes, Config};
+use disk_model::Note;
+use hb_base::Config;
+use hb_wire::Post;
+use net_script::{Order, Script};
 use std::alloc::Global;
-
-/// A transaction that a user submits at a node, 1 to 256 bytes.
-#[derive(Debug, Drop)]
-pub struct Submit {
-    pub node: u8,
-    pub tx: Bytes,
-}
 
 /// How a run ended for an actor.
 #[derive(Clone, Copy, Debug, PartialEq, Eq)]
@@ -19,25 +15,29 @@ pub enum Fate {
     Running,
     /// It found no memory.
     Memory,
+    /// Its journal failed.
+    Journal,
     /// The book was full when it had a vote to post.
     Full,
 }
 
-/// An actor at the end of a run: its fate, and the numbers of the posts that it received, in order.
+/// An actor at the end of a run: its fate, the numbers of the posts that it received, in order, and how far its disk has
+/// come.
 #[derive(Debug, Drop)]
 pub struct End {
     pub node: u8,
     pub actor: u8,
     pub fate: Fate,
     pub got: Vec<u32>,
+    pub note: Note,
 }
 
-/// One whole run: its config and what was submitted, the history of all posts, the end of each actor of each correct
-/// node, by node and then actor, and the status that the program answers.
+/// One whole run: its config and its script, the history of all posts, the end of each actor of each correct node, by
+/// node and then actor, and the status that the program answers.
 #[derive(Debug, Drop)]
 pub struct Report {
     pub config: Config,
-    pub submit: Vec<Submit>,
+    pub script: Script,
     pub history: Vec<Post>,
     pub ends: Vec<End>,
     pub status: u8,
@@ -48,9 +48,18 @@ impl Report {
     pub fn empty(alloc: Global) -> Report
         ensures { IsEmptyReport result }
     {
+        let script = Script {
+            config: Config::default(),
+            workers: 0,
+            order: Order::Fifo,
+            submit: Vec::new(alloc),
+            liars: Vec::new(alloc),
+            links: Vec::new(alloc),
+            plans: Vec::new(alloc),
+        };
         Report {
             config: Config::default(),
-            submit: Vec::new(alloc),
+            script,
             history: Vec::new(alloc),
             ends: Vec::new(alloc),
             status: 255,
@@ -58,18 +67,36 @@ impl Report {
     }
 }
 
-/// Whether a node is correct and each of its actors has the fate Running.
+/// Whether a node is correct, and each of its n + 1 actors has an end, with the fate Running. It takes no memory.
 pub fn running(report: &Report, node: u8) -> bool
     ensures { result ≡ is_running report.now node }
 {
-    node < report.config.n()
-        && !report.config.liars().has(node)
-        && runs(report.ends.as_slice(), node)
+    let n = report.config.n();
+    if node >= n || report.config.liars().has(node) {
+        return false;
+    }
+    let ends = report.ends.as_slice();
+    all_there(ends, node, n) && none_ended(ends, node)
 }
 
-/// Whether no actor of a node has ended, by the ends of a run.
-pub fn runs(ends: &[End], node: u8) -> bool
-    ensures { result ≡ runs ends.now node }
+// Whether the end of an actor is there, with the fate Running.
+fn works(ends: &[End], node: u8, actor: u8) -> bool
+    ensures { result ≡ works ends.now node actor }
+{
+    ends.iter().any(|end| end.node == node && end.actor == actor && end.fate == Fate::Running)
+}
+
+// Whether the end of each of the n + 1 actors of a node is there, with the fate Running.
+fn all_there(ends: &[End], node: u8, n: u8) -> bool
+    requires { n < 255 }
+    ensures { result ≡ list_all (works ends.now node) (range_with_len 0 (n + 1)) }
+{
+    (0..n + 1).all(|actor| works(ends, node, actor))
+}
+
+// Whether no end of the node has another fate than Running.
+fn none_ended(ends: &[End], node: u8) -> bool
+    ensures { result ≡ none_ended ends.now node }
 {
     ends.iter()
         .all(|end| end.node != node || end.fate == Fate::Running)

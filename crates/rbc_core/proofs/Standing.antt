@@ -1,96 +1,116 @@
 -- What a broadcast's state stands for after one more hearing.
-use Rattle.std.proofs.Common.{◌≡◌, ℕ, ◌<◌, Bool, true, ◌&&◌, ◌||◌, ◌==◌, List, [], ◌∷◌, ◌++◌, refl, sym, ap, ◌∙◌, subst, arith}
-use Rattle.std.specs.List.{list_any, AllByRecursion}
-use Rattle.std.specs.Option.{option_or}
-use Rattle.std.proofs.lemmas.Bool.{eqb-true, false_from_ne_true}
+use Rattle.std.proofs.Common.{◌≡◌, ℕ, ◌<◌, ◌≤◌, Bool, true, false, ◌||◌, ◌==◌, List, [], ◌∷◌, ◌++◌, Option, None, Some, refl, sym, ap, ◌∙◌, subst, arith}
+use Rattle.std.specs.List.{list_any}
+use Rattle.std.specs.Option.{option_map, option_or, option_to_list}
+use Rattle.std.proofs.lemmas.Bool.{eqb-true, eq-eqb, false_from_ne_true}
 use Rattle.std.proofs.lemmas.List.Folds.{list_any-append}
 use Rattle.hb_base.specs.NodeSet.{is_in}
-use Rattle.hb_rules.specs.declared.vote.Vote.{Vote}
-use Rattle.hb_rules.specs.Vote.{delivered, is_echo, is_ready, is_val_to, is_any_echo, is_any_ready}
-use Rattle.hb_rules.specs.Hearing.{Hearing, heard_from}
-use Rattle.hb_rules.specs.Owing.{owes, pass, IsIdle, first_of, echo_slot, ready_slot, delivery_slot, val_slots}
-use Rattle.hb_rules.proofs.Passing.{pass-append, IsSettledAt, settled_idle, pass-rests}
-use Rattle.hb_rules.proofs.Slots.{AllByRecursion-parts, broadcast_slots_plain}
-use Rattle.rbc_core.specs.declared.rbc.Rbc.{Rbc}
-use Rattle.rbc_core.specs.Tallies.{tally_at}
-use Rattle.rbc_core.specs.Broadcast.{Place, place_of, slots_at, Stands, Hears}
-use Rattle.rbc_core.proofs.Rows.{first_of-append, heard_from-push}
+use Rattle.hb_wire.specs.declared.vote.Vote.{Vote}
+use Rattle.hb_wire.specs.declared.vote.Vote.TheVariants.{Ready, Delivered}
+use Rattle.hb_rules.specs.Claims.{delivered, is_val_to, is_any_echo, is_any_ready, is_any_delivery}
+use Rattle.hb_rules.specs.Hearing.{Hearing, heard_by}
+use Rattle.hb_rules.specs.Slots.{pass, first_of, when, IsIdle, IsOwed}
+use Rattle.hb_rules.proofs.BroadcastSlots.{broadcast-rests, broadcast-owed}
+use Rattle.rbc_core.specs.Broadcast.{Place, RbcView, place_of, slots_at, IsHeard, Stands, Hears}
+use Rattle.rbc_core.specs.Roots.{RootsView}
+use Rattle.rbc_core.proofs.Firsts.{first_of-append}
+use Rattle.rbc_core.proofs.Hearings.{heard_by-push}
 
--- The state changed by one hearing and the votes that it made due: the votes fill the marks, and the hearing the tallies.
-pub record Changes (old new : Rbc) (h : Hearing) (votes : List Vote) : Type 0 where
+-- all roots are as they were heard, and none but the nodes was heard
+pub record AreHeard (r : RootsView) (e : ℕ) (heard : List Hearing) : Type 0 where
+  pub roots : (root : List ℕ) → IsHeard r e heard root
+  pub nodes : (a : ℕ) → r.config.n ≤ a → heard_by heard a (λ vote. true) ≡ false
+
+-- The state changed by one hearing and the votes that it made due: the votes fill the marks, and the roots are as they were
+-- heard.
+pub record Changes (old new : RbcView) (h : Hearing) (votes : List Vote) : Type 0 where
   pub place : place_of new ≡ place_of old
-  pub node : h.from < old.config.n
+  pub from : h.from < old.roots.config.n
   pub vals : (m : ℕ) → is_in new.vals m ≡ (is_in old.vals m || list_any (is_val_to old.epoch m) votes)
   pub echo : new.is_echo_cast ≡ (old.is_echo_cast || list_any (is_any_echo old.epoch) votes)
   pub ready : new.is_ready_cast ≡ (old.is_ready_cast || list_any (is_any_ready old.epoch) votes)
   pub delivered : new.delivered ≡ option_or old.delivered (first_of (delivered old.epoch) votes)
-  pub echoes : (v : List ℕ) (a : ℕ) → is_in (tally_at new.tallies v).echoes a ≡ (is_in (tally_at old.tallies v).echoes a || ((h.from == a) && is_echo old.epoch v h.vote))
-  pub readies : (v : List ℕ) (a : ℕ) → is_in (tally_at new.tallies v).readies a ≡ (is_in (tally_at old.tallies v).readies a || ((h.from == a) && is_ready old.epoch v h.vote))
+  pub roots : (heard : List Hearing) → AreHeard old.roots old.epoch heard → (root : List ℕ) → IsHeard new.roots old.epoch (heard ++ h ∷ []) root
 
--- the votes are those owed, whatever the state stands for
-abbrev pub AreOwed : Rbc → Hearing → List Vote → Type 0
-AreOwed r h votes = (own : List Vote) (heard : List Hearing) → Stands r own heard → pass (slots_at (place_of r)) own (heard ++ h ∷ []) ≡ votes
+-- one pass owes these votes, whatever the state stands for
+pub record AreOwed (r : RbcView) (h : Hearing) (votes : List Vote) : Type 0 where
+  pub gives : (own : List Vote) (heard : List Hearing) → Stands r own heard → pass (slots_at (place_of r)) own (heard ++ h ∷ []) ≡ votes
 
-mark_more : (test : Vote → Bool) (own votes : List Vote) (old new : Bool) → new ≡ (old || list_any test votes) → old ≡ list_any test own → new ≡ list_any test (own ++ votes)
-mark_more test own votes old new is was = is ∙ ap (λ b. b || list_any test votes) was ∙ sym (list_any-append test own votes)
+mark_more : (test : Vote → Bool) (own votes : List Vote) (old new : Bool) → new ≡ (old || list_any test votes) → old ≡ list_any test own
+    → new ≡ list_any test (own ++ votes)
+mark_more test own votes old new is was = is ∙ ap (λ (b : Bool). b || list_any test votes) was ∙ sym (list_any-append test own votes)
 
-heard_more : (test : Vote → Bool) (heard : List Hearing) (h : Hearing) (a : ℕ) (old new : Bool) → new ≡ (old || ((h.from == a) && test h.vote)) → old ≡ heard_from test heard a
-    → new ≡ heard_from test (heard ++ h ∷ []) a
-heard_more test heard h a old new is was = is ∙ ap (λ b. b || ((h.from == a) && test h.vote)) was ∙ sym (heard_from-push test heard h a)
+-- none but the nodes was heard, after a hearing of a node
+pub nodes_now : (n : ℕ) (heard : List Hearing) (h : Hearing) → h.from < n → ((a : ℕ) → n ≤ a → heard_by heard a (λ vote. true) ≡ false)
+    → (a : ℕ) → n ≤ a → heard_by (heard ++ h ∷ []) a (λ vote. true) ≡ false
+nodes_now n heard h from nodes a above =
+    heard_by-push heard h a (λ vote. true)
+    ∙ rw (nodes a above, false_from_ne_true (h.from == a) (λ same. omega (arith, eqb-true h.from a same))) refl
 
-stands_with : (old new : Rbc) (h : Hearing) (votes : List Vote) → Changes old new h votes → AreOwed old h votes → (own : List Vote) (heard : List Hearing) → Stands old own heard
-    → Stands new (own ++ votes) (heard ++ h ∷ [])
+stands_with : (old new : RbcView) (h : Hearing) (votes : List Vote) → Changes old new h votes → AreOwed old h votes
+    → (own : List Vote) (heard : List Hearing) → Stands old own heard → Stands new (own ++ votes) (heard ++ h ∷ [])
 stands_with old new h votes changes owed own heard stands =
+    let p : Place = place_of old in
     let epoch : new.epoch ≡ old.epoch = ap (λ (p : Place). p.epoch) changes.place in
-    let n : new.config.n ≡ old.config.n = ap (λ (p : Place). p.config.n) changes.place in
+    let n : new.roots.config.n ≡ old.roots.config.n = ap (λ (p : Place). p.config.n) changes.place in
     record {
-      idle = subst (λ (p : Place). IsIdle (slots_at p) (own ++ votes) (heard ++ h ∷ [])) (sym changes.place)
-          (subst (λ (vs : List Vote). IsIdle (slots_at (place_of old)) (own ++ vs) (heard ++ h ∷ [])) (owed own heard stands)
-          (pass-rests (slots_at (place_of old)) (broadcast_slots_plain old.config old.node old.lane old.epoch) own (heard ++ h ∷ [])));
+      idle =
+          subst (λ (p : Place). IsIdle (slots_at p) (own ++ votes) (heard ++ h ∷ [])) (sym changes.place)
+          (subst (λ (vs : List Vote). IsIdle (slots_at p) (own ++ vs) (heard ++ h ∷ [])) (owed.gives own heard stands)
+          (broadcast-rests p.config p.node p.lane p.epoch own (heard ++ h ∷ [])));
       vals = λ m. rw epoch (mark_more (is_val_to old.epoch m) own votes (is_in old.vals m) (is_in new.vals m) (changes.vals m) (stands.vals m));
       echo = rw epoch (mark_more (is_any_echo old.epoch) own votes old.is_echo_cast new.is_echo_cast changes.echo stands.echo);
       ready = rw epoch (mark_more (is_any_ready old.epoch) own votes old.is_ready_cast new.is_ready_cast changes.ready stands.ready);
-      delivered = rw epoch (changes.delivered ∙ ap (λ o. option_or o (first_of (delivered old.epoch) votes)) stands.delivered ∙ sym (first_of-append (delivered old.epoch) own votes));
-      echoes = λ v a. rw epoch (heard_more (is_echo old.epoch v) heard h a (is_in (tally_at old.tallies v).echoes a) (is_in (tally_at new.tallies v).echoes a) (changes.echoes v a) (stands.echoes v a));
-      readies = λ v a. rw epoch (heard_more (is_ready old.epoch v) heard h a (is_in (tally_at old.tallies v).readies a) (is_in (tally_at new.tallies v).readies a) (changes.readies v a) (stands.readies v a));
-      known = λ a above.
-          heard_from-push (λ vote. true) heard h a
-          ∙ rw (stands.known a (omega (arith, n, above)), false_from_ne_true (h.from == a) (λ same. omega (arith, eqb-true h.from a same, changes.node, n, above))) refl;
+      delivered =
+          rw epoch (changes.delivered ∙ ap (λ (o : Option (List ℕ)). option_or o (first_of (delivered old.epoch) votes)) stands.delivered
+          ∙ sym (first_of-append (delivered old.epoch) own votes));
+      roots = λ root. rw epoch (changes.roots heard (record { roots = stands.roots; nodes = stands.nodes }) root);
+      nodes = λ a above. nodes_now old.roots.config.n heard h changes.from stands.nodes a (omega (arith, n));
     }
 
 -- a state that changed by a hearing and the votes owed has heard it
-pub Hears-by : (old new : Rbc) (h : Hearing) (votes before after : List Vote) → Changes old new h votes → AreOwed old h votes → after ≡ before ++ votes → Hears old new h before after
-Hears-by old new h votes before after changes owed is = record {
-  place = changes.place;
-  due = λ own heard stands. is ∙ ap (λ votes. before ++ votes) (sym (owed own heard stands));
-  stands = λ own heard stands. subst (λ (vs : List Vote). Stands new (own ++ vs) (heard ++ h ∷ [])) (sym (owed own heard stands))
-      (stands_with old new h votes changes owed own heard stands);
-}
+pub Hears-by : (old new : RbcView) (h : Hearing) (votes before after : List Vote) → Changes old new h votes → AreOwed old h votes
+    → after ≡ before ++ votes → Hears old new h before after
+Hears-by old new h votes before after changes owed is =
+    let p : Place = place_of old in
+    record {
+      place = changes.place;
+      votes = votes;
+      due = is;
+      gives = owed.gives;
+      owed = λ own heard stands.
+          subst (λ (vs : List Vote). IsOwed (slots_at p) own (heard ++ h ∷ []) vs) (owed.gives own heard stands)
+          (broadcast-owed p.config p.node p.lane p.epoch own (heard ++ h ∷ []));
+      stands = stands_with old new h votes changes owed;
+    }
 
--- nothing is owed, slot by slot
-pub record AreSettled (p : Place) (own : List Vote) (heard : List Hearing) : Type 0 where
-  pub vals : AllByRecursion (λ slot. IsSettledAt slot own heard) (val_slots p.config p.node p.lane p.epoch)
-  pub echo : IsSettledAt (echo_slot p.node p.lane p.epoch) own heard
-  pub ready : IsSettledAt (ready_slot p.config p.epoch) own heard
-  pub delivery : IsSettledAt (delivery_slot p.config p.epoch) own heard
+-- ---- marks that stay
 
-pub AreSettled-idle : (p : Place) (own : List Vote) (heard : List Hearing) → IsIdle (slots_at p) own heard → AreSettled p own heard
-AreSettled-idle p own heard idle =
-    let parts = AllByRecursion-parts (λ slot. IsSettledAt slot own heard) (val_slots p.config p.node p.lane p.epoch)
-    (echo_slot p.node p.lane p.epoch ∷ ready_slot p.config p.epoch ∷ delivery_slot p.config p.epoch ∷ [])
-    (settled_idle (slots_at p) own heard idle) in
-    record { vals = parts.0; echo = parts.1.0; ready = parts.1.1.0; delivery = parts.1.1.1.0 }
+pub stays : (b : Bool) → b ≡ (b || false)
+stays true = refl
+stays false = refl
 
--- the rows of the pass, one after another
-pub pass_by_rows : (p : Place) (own : List Vote) (heard : List Hearing) (vals echo ready delivery : List Vote)
-    → pass (val_slots p.config p.node p.lane p.epoch) own heard ≡ vals
-    → owes (echo_slot p.node p.lane p.epoch) (own ++ vals) heard ≡ echo
-    → owes (ready_slot p.config p.epoch) ((own ++ vals) ++ echo) heard ≡ ready
-    → owes (delivery_slot p.config p.epoch) (((own ++ vals) ++ echo) ++ ready) heard ≡ delivery
-    → pass (slots_at p) own heard ≡ vals ++ (echo ++ (ready ++ (delivery ++ [])))
-pass_by_rows p own heard vals echo ready delivery is_vals is_echo is_ready is_delivery =
-    pass-append (val_slots p.config p.node p.lane p.epoch) (echo_slot p.node p.lane p.epoch ∷ ready_slot p.config p.epoch ∷ delivery_slot p.config p.epoch ∷ []) own heard
-    ∙ ap (λ (vs : List Vote). vs ++ pass (echo_slot p.node p.lane p.epoch ∷ ready_slot p.config p.epoch ∷ delivery_slot p.config p.epoch ∷ []) (own ++ vs) heard) is_vals
-    ∙ ap (λ (vs : List Vote). vals ++ (vs ++ pass (ready_slot p.config p.epoch ∷ delivery_slot p.config p.epoch ∷ []) ((own ++ vals) ++ vs) heard)) is_echo
-    ∙ ap (λ (vs : List Vote). vals ++ (echo ++ (vs ++ pass (delivery_slot p.config p.epoch ∷ []) (((own ++ vals) ++ echo) ++ vs) heard))) is_ready
-    ∙ ap (λ (vs : List Vote). vals ++ (echo ++ (ready ++ (vs ++ [])))) is_delivery
+pub option_stays : {A : Type 0} (o : Option A) → o ≡ option_or o None
+option_stays None = refl
+option_stays (Some x) = refl
+
+-- ---- the votes that a root makes
+
+pub no_delivery : (e : ℕ) (root : List ℕ) (due : Bool) → list_any (is_any_delivery e) (option_to_list (when due (Ready e root))) ≡ false
+no_delivery e root true = refl
+no_delivery e root false = refl
+
+-- what these votes are of each kind
+pub record FillsMarks (e : ℕ) (due : Bool) (value : Option (List ℕ)) (votes : List Vote) : Type 0 where
+  pub vals : (m : ℕ) → list_any (is_val_to e m) votes ≡ false
+  pub echo : list_any (is_any_echo e) votes ≡ false
+  pub ready : list_any (is_any_ready e) votes ≡ due
+  pub delivered : first_of (delivered e) votes ≡ value
+
+pub root_votes : (e : ℕ) (root : List ℕ) (due : Bool) (value : Option (List ℕ))
+    → FillsMarks e due value (option_to_list (when due (Ready e root)) ++ option_to_list (option_map (Delivered e) value))
+root_votes e root true None = record { vals = λ m. refl; echo = refl; ready = rw (eq-eqb e e refl) refl; delivered = refl }
+root_votes e root false None = record { vals = λ m. refl; echo = refl; ready = refl; delivered = refl }
+root_votes e root true (Some x) =
+    record { vals = λ m. refl; echo = refl; ready = rw (eq-eqb e e refl) refl; delivered = rw (eq-eqb e e refl) refl }
+root_votes e root false (Some x) = record { vals = λ m. refl; echo = refl; ready = refl; delivered = rw (eq-eqb e e refl) refl }

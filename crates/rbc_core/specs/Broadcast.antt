@@ -1,14 +1,20 @@
 -- What the state of a broadcast stands for: the votes that its lane has cast and those that it has heard.
-use Rattle.std.specs.Prelude.{◌≡◌, ℕ, ◌≤◌, true, false, List, [], ◌∷◌, ◌++◌}
+use Rattle.std.specs.Prelude.{◌≡◌, ℕ, ◌≤◌, Bool, true, false, ◌||◌, List, [], ◌∷◌, ◌++◌, length, take, Option, is_some}
 use Rattle.std.specs.List.{list_any}
+use Rattle.std.specs.Option.{option_or}
+use Rattle.hb_base.specs.Limits.{longest_value, longest_shard}
 use Rattle.hb_base.specs.Numbers.{Numbers}
 use Rattle.hb_base.specs.NodeSet.{is_in}
-use Rattle.hb_rules.specs.declared.vote.Vote.{Vote}
-use Rattle.hb_rules.specs.Vote.{delivered, is_echo, is_ready, is_val_to, is_any_echo, is_any_ready}
-use Rattle.hb_rules.specs.Hearing.{Hearing, heard_from}
-use Rattle.hb_rules.specs.Owing.{Slot, pass, IsIdle, first_of, broadcast_slots}
-use Rattle.rbc_core.specs.declared.rbc.Rbc.{Rbc}
-use Rattle.rbc_core.specs.Tallies.{tally_at}
+use Rattle.hb_wire.specs.declared.vote.Vote.{Vote}
+use Rattle.hb_wire.specs.declared.vote.Vote.TheVariants.{Echo, Propose}
+use Rattle.hb_rules.specs.Claims.{delivered, are_these, is_echo, is_ready, is_val_to, is_any_echo, is_any_ready}
+use Rattle.hb_rules.specs.Hearing.{Hearing, heard_by}
+use Rattle.hb_rules.specs.Code.{data_count}
+use Rattle.hb_rules.specs.Slots.{Slot, pass, IsIdle, IsOwed, first_of}
+use Rattle.hb_rules.specs.BroadcastRows.{shards_of, named}
+use Rattle.hb_rules.specs.Owing.{broadcast_slots}
+use Rattle.rbc_core.specs.RootViews.{RootView}
+use Rattle.rbc_core.specs.Roots.{RootsView, found, view_at, IsUnchanged}
 
 -- which broadcast at which node
 pub record Place : Type 0 where
@@ -17,35 +23,77 @@ pub record Place : Type 0 where
   pub lane : ℕ
   pub epoch : ℕ
 
+-- which broadcast it is, which votes the lane has cast, and what was heard of each root
+pub record RbcView : Type 0 where
+  pub node : ℕ
+  pub lane : ℕ
+  pub epoch : ℕ
+  pub vals : List Bool
+  pub is_echo_cast : Bool
+  pub is_ready_cast : Bool
+  pub delivered : Option (List ℕ)
+  pub roots : RootsView
+
 -- the broadcast that a state takes part in
-abbrev pub place_of : Rbc → Place
-place_of r = record { config = r.config; node = r.node; lane = r.lane; epoch = r.epoch }
+abbrev pub place_of : RbcView → Place
+place_of r = record { config = r.roots.config; node = r.node; lane = r.lane; epoch = r.epoch }
 
 -- what its lane owes
 abbrev pub slots_at : Place → List (Slot Vote Hearing)
 slots_at p = broadcast_slots p.config p.node p.lane p.epoch
 
--- The state stands for what was cast and heard: nothing is owed, its marks are of what was cast, and its tallies of what
--- was heard, which none but the n nodes said.
-pub record Stands (r : Rbc) (own : List Vote) (heard : List Hearing) : Type 0 where
+-- a value that is proposed, and a shard that is echoed, are no longer than those of votes that have spellings
+abbrev pub IsShort : Vote → Type 0
+IsShort (Propose e value) = length value ≤ longest_value
+IsShort (Echo e root shard branch) = length shard ≤ longest_shard
+IsShort _ = Unit {0}
+
+-- whether a valid Echo or a Ready names this root
+abbrev pub names : ℕ → ℕ → List ℕ → Hearing → Bool
+names n e root h = are_these root (named n e h)
+
+-- What was heard of a root: who echoed validly, who is ready, and the shards of the first k who echoed, in order of receipt.
+pub record ShowsHeard (c : Numbers) (e : ℕ) (heard : List Hearing) (root : List ℕ) (v : RootView) : Type 0 where
+  pub echoes : (a : ℕ) → is_in v.echoes a ≡ heard_by heard a (is_echo c.n e root a)
+  pub readies : (a : ℕ) → is_in v.readies a ≡ heard_by heard a (is_ready e root)
+  pub shards : v.shards ≡ take (data_count c) (shards_of c.n e root heard)
+
+-- The state has this of the root. A root that was named is known.
+pub record IsHeard (r : RootsView) (e : ℕ) (heard : List Hearing) (root : List ℕ) : Type 0 where
+  pub known : list_any (names r.config.n e root) heard ≡ true → is_some (found r root) ≡ true
+  pub shows : ShowsHeard r.config e heard root (view_at r root)
+
+-- The state stands for what was cast and heard: nothing is owed, its marks are of what was cast, and what it has of each
+-- root was heard. None but the n nodes was heard.
+pub record Stands (r : RbcView) (own : List Vote) (heard : List Hearing) : Type 0 where
   pub idle : IsIdle (slots_at (place_of r)) own heard
   pub vals : (m : ℕ) → is_in r.vals m ≡ list_any (is_val_to r.epoch m) own
   pub echo : r.is_echo_cast ≡ list_any (is_any_echo r.epoch) own
   pub ready : r.is_ready_cast ≡ list_any (is_any_ready r.epoch) own
   pub delivered : r.delivered ≡ first_of (delivered r.epoch) own
-  pub echoes : (v : List ℕ) (a : ℕ) → is_in (tally_at r.tallies v).echoes a ≡ heard_from (is_echo r.epoch v) heard a
-  pub readies : (v : List ℕ) (a : ℕ) → is_in (tally_at r.tallies v).readies a ≡ heard_from (is_ready r.epoch v) heard a
-  pub known : (a : ℕ) → r.config.n ≤ a → heard_from (λ vote. true) heard a ≡ false
+  pub roots : (root : List ℕ) → IsHeard r.roots r.epoch heard root
+  pub nodes : (a : ℕ) → r.roots.config.n ≤ a → heard_by heard a (λ vote. true) ≡ false
 
--- The state hears one vote more: whatever it stood for, exactly the votes that are owed then become due, and it stands
--- for all of these.
-pub record Hears (old new : Rbc) (h : Hearing) (before after : List Vote) : Type 0 where
+-- The state hears one vote more: whatever it stood for, exactly the votes that are owed then become due, in their order,
+-- and it stands for all of these.
+pub record Hears (old new : RbcView) (h : Hearing) (before after : List Vote) : Type 0 where
   pub place : place_of new ≡ place_of old
-  pub due : (own : List Vote) (heard : List Hearing) → Stands old own heard → after ≡ before ++ pass (slots_at (place_of old)) own (heard ++ h ∷ [])
-  pub stands : (own : List Vote) (heard : List Hearing) → Stands old own heard → Stands new (own ++ pass (slots_at (place_of old)) own (heard ++ h ∷ [])) (heard ++ h ∷ [])
+  pub votes : List Vote
+  pub due : after ≡ before ++ votes
+  pub gives : (own : List Vote) (heard : List Hearing) → Stands old own heard → pass (slots_at (place_of old)) own (heard ++ h ∷ []) ≡ votes
+  pub owed : (own : List Vote) (heard : List Hearing) → Stands old own heard → IsOwed (slots_at (place_of old)) own (heard ++ h ∷ []) votes
+  pub stands : (own : List Vote) (heard : List Hearing) → Stands old own heard → Stands new (own ++ votes) (heard ++ h ∷ [])
 
--- no vote becomes due, and the state stands for what it stood for
-pub record Keeps (old new : Rbc) (before after : List Vote) : Type 0 where
-  pub place : place_of new ≡ place_of old
-  pub due : after ≡ before
+-- the state stands for what it stood for, by the same marks and the same of each root
+pub record Keeps (old new : RbcView) : Type 0 where
+  pub marks : new ≡ record old { roots = new.roots }
+  pub roots : IsUnchanged old.roots new.roots
   pub stands : (own : List Vote) (heard : List Hearing) → Stands old own heard → Stands new own heard
+
+-- one vote more was cast
+pub record Marks (old new : RbcView) (vote : Vote) : Type 0 where
+  pub same : new ≡ record old { vals = new.vals; is_echo_cast = new.is_echo_cast; is_ready_cast = new.is_ready_cast; delivered = new.delivered }
+  pub vals : (m : ℕ) → is_in new.vals m ≡ (is_in old.vals m || is_val_to old.epoch m vote)
+  pub echo : new.is_echo_cast ≡ (old.is_echo_cast || is_any_echo old.epoch vote)
+  pub ready : new.is_ready_cast ≡ (old.is_ready_cast || is_any_ready old.epoch vote)
+  pub delivered : new.delivered ≡ option_or old.delivered (delivered old.epoch vote)

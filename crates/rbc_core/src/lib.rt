@@ -1,10 +1,16 @@
-//! The reliable broadcast of one lane and one epoch at one node (CCS paper, figure 2), as a state that hears votes and
-//! says which become due.
+//! The reliable broadcast of one lane and one epoch at one node (CCS 2016, figure 2): a state that hears votes, counts
+//! them root by root, and says which votes become due.
 #![tactic(auto)]
 
+mod answer;
+mod checking;
 mod rbc;
-mod tallies;
+mod root_state;
+mod roots;
 #[cfg(test)]
 mod tests;
+mod voters;
 
+pub use answer::Check;
+pub use checking::check;
 pub use rbc::Rbc;

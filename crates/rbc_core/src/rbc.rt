@@ -1,25 +1,41 @@
-ghost use Rattle.std.specs.Prelude.{◌≡◌, ℕ, ◌+◌, ◌-◌, ◌*◌, ◌<◌, ◌≤◌, Bool, true, false, not, ◌&&◌, ◌||◌, nat_le, nat_lt, [], ◌∷◌, ◌++◌, List, Option, None, Some, IfOk, OnOk, OnErr, if◌then◌else◌};
-ghost use Rattle.std.specs.List.{list_any};
-ghost use Rattle.std.specs.Option.{option_copied};
+ghost use Rattle.std.specs.Prelude.{◌≡◌, ℕ, ◌+◌, ◌-◌, ◌*◌, ◌^◌, ◌<◌, ◌≤◌, Bool, true, false, not, ◌&&◌, ◌||◌, nat_lt, [], ◌∷◌, ◌++◌, List, length, Option, None, Some, is_some, is_none, IsOk, IfOk, OnOk, OnErr, if◌then◌else◌};
+ghost use Rattle.std.specs.List.{filter};
+ghost use Rattle.std.specs.Option.{option_copied, option_map, option_or, option_to_list};
 ghost use Rattle.hb_base.specs.Counting.{count_nodes};
+ghost use Rattle.hb_base.specs.Limits.{most_nodes, longest_value};
 ghost use Rattle.hb_base.specs.NodeSet.{is_in};
-ghost use Rattle.hb_rules.specs.declared.vote.Vote.{Vote};
-ghost use Rattle.hb_rules.specs.declared.vote.Vote.TheVariants.{Propose, Val, Echo, Ready, Delivered};
-ghost use Rattle.hb_rules.specs.Vote.{delivered};
-ghost use Rattle.hb_rules.specs.Hearing.{Hearing};
-ghost use Rattle.hb_rules.specs.Owing.{first_of};
-ghost use Rattle.rbc_core.specs.Due.{missing_vals, vote_if};
-ghost use Rattle.rbc_core.specs.Broadcast.{place_of, Stands, Hears, Keeps};
+ghost use Rattle.hb_wire.specs.declared.vote.Vote.{Vote};
+ghost use Rattle.hb_wire.specs.declared.vote.Vote.TheVariants.{Propose, Val, Echo, Ready, Delivered};
+ghost use Rattle.merkle_branch.specs.Branches.{branch_of};
+ghost use Rattle.merkle_branch.specs.Digests.{leaf_digests, root_of};
+ghost use Rattle.rs_shards.specs.Completing.{encoded};
+ghost use Rattle.hb_rules.specs.Claims.{delivered};
+ghost use Rattle.hb_rules.specs.Code.{data_count};
+ghost use Rattle.hb_rules.specs.Hearing.{Hearing, hearing};
+ghost use Rattle.hb_rules.specs.History.{HasSpelling};
+ghost use Rattle.hb_rules.specs.Parts.{in_broadcast};
+ghost use Rattle.hb_rules.specs.Slots.{first_of};
+ghost use Rattle.hb_rules.specs.Terms.{AreSpelled};
+ghost use Rattle.rbc_core.specs.Broadcast.{place_of, IsShort, Stands, Hears, Keeps, Marks};
+ghost use Rattle.rbc_core.specs.Due.{is_ready_by, is_delivery_by, unless, missing_vals};
+ghost use Rattle.rbc_core.specs.Roots.{view_at};
+ghost use Rattle.rbc_core.specs.RootVotes.{votes_in, after_votes};
 
-use crate::tallies::{Tallies, Tally};
+use crate::checking::tree_over;
+use crate::roots::{Roots, copy_of};
 use hb_base::{Bytes, Config, NodeSet};
-use hb_rules::{Due, Vote};
+use hb_wire::Vote;
+use merkle_branch::{Branch, Tree, is_branch};
+use hb_rules::Due;
+use rs_shards::encode;
 use std::alloc::{AllocError, Global};
+use std::marker::Model;
 
-/// One node's state of the broadcast of one lane in one epoch: which votes its lane has cast, and who said what.
+/// One node's state of the broadcast of one lane in one epoch (CCS 2016, figure 2): which votes its lane has cast, and for
+/// each root who echoed it validly, the shards of the first k who did, what these rebuild to, and who is ready for it.
+/// Clauses see an `RbcView`.
 #[derive(Drop)]
 pub struct Rbc {
-    config: Config,
     node: u8,
     lane: u8,
     epoch: u8,
@@ -27,11 +43,39 @@ pub struct Rbc {
     is_echo_cast: bool,
     is_ready_cast: bool,
     delivered: Option<Bytes>,
-    tallies: Tallies,
+    roots: Roots,
+}
+
+impl Model for Rbc {
+    ghost use Rattle.std.specs.Prelude.{◌<◌};
+    ghost use Rattle.rbc_core.specs.Broadcast.{RbcView};
+
+    ghost Value = { RbcView };
+
+    ghost view = { λ r. record {
+      node = r.node;
+      lane = r.lane;
+      epoch = r.epoch;
+      vals = r.vals;
+      is_echo_cast = r.is_echo_cast;
+      is_ready_cast = r.is_ready_cast;
+      delivered = r.delivered;
+      roots = r.roots;
+    } };
+
+    ghost invariant = { λ r. r.node < r.roots.config.n };
+}
+
+// Whether a root makes a Ready due, and the value that it makes a delivery of, if it does: once for the vote, once to keep.
+#[derive(Debug, Drop)]
+struct RootVotes {
+    is_ready_due: bool,
+    delivery: Option<Bytes>,
+    delivered: Option<Bytes>,
 }
 
 impl Rbc {
-    /// The state of a lane that has cast these votes, and has heard nothing since. For now a lane begins with none.
+    /// The state of a lane that has cast these votes, of any epoch and part, and has heard nothing since.
     pub fn rebuild(
         alloc: Global,
         config: &Config,
@@ -40,13 +84,15 @@ impl Rbc {
         epoch: u8,
         own: &[Vote],
     ) -> Result<Rbc, AllocError>
-        requires { own.now ≡ [] }
+        requires node { node < config.now.n }
+        requires own { AreSpelled config.now own.now }
         ensures place { IfOk result (λ r. place_of r ≡ record { config = config.now; node = node; lane = lane; epoch = epoch }) }
         ensures stands { IfOk result (λ r. Stands r own.now []) }
+        ensures part { IfOk result (λ r. Stands r (filter (in_broadcast epoch) own.now) []) }
     {
-        let _ = own;
-        Ok(Rbc {
-            config: *config,
+        let n = config.n();
+        prove!(node < n);
+        let mut rbc = Rbc {
             node,
             lane,
             epoch,
@@ -54,12 +100,18 @@ impl Rbc {
             is_echo_cast: false,
             is_ready_cast: false,
             delivered: None,
-            tallies: Tallies::new(alloc),
-        })
+            roots: Roots::new(alloc, config),
+        };
+        for vote in own {
+            rbc.mark(vote)?;
+        }
+        Ok(rbc)
     }
 
     /// Hears a vote that node `from` has cast, and adds the votes that it makes due. It does not heed a vote of another
-    /// epoch or kind, a Val of another node than the sender or for another node, or a proposal of another node.
+    /// epoch or kind, a Val of another node than the sender or for another node, a Val or an Echo whose branch is not valid,
+    /// or a proposal of another node. Want of memory changes nothing; a Ready for a known root that makes no delivery due
+    /// needs none where there is room for one vote.
     pub fn hear(
         &mut self,
         alloc: Global,
@@ -67,9 +119,11 @@ impl Rbc {
         vote: &Vote,
         due: &mut Due,
     ) -> Result<(), AllocError>
-        requires { from < (place_of self.old).config.n }
-        ensures ok { OnOk result (Hears self.old self.new (record { from = from; vote = vote.now }) due.old due.new) }
-        ensures err { OnErr result (Keeps self.old self.new due.old due.new) }
+        requires from { from < (place_of self.old).config.n }
+        requires short { IsShort vote.now }
+        ensures ok { OnOk result (Hears self.old self.new (hearing from vote.now) due.old.votes due.new.votes) }
+        ensures err { OnErr result (Keeps self.old self.new) }
+        ensures due { OnErr result (due.new.votes ≡ due.old.votes) }
     {
         match vote {
             Vote::Propose { epoch, value } => {
@@ -82,41 +136,80 @@ impl Rbc {
             Vote::Val {
                 epoch,
                 target,
-                value,
+                root,
+                shard,
+                branch,
             } => {
                 if *epoch == self.epoch && from == self.lane && *target == self.node {
-                    self.hear_val(value, due)
+                    self.hear_val(root, shard, branch, due)
                 } else {
                     Ok(())
                 }
             }
-            Vote::Echo { epoch, value } => {
+            Vote::Echo {
+                epoch,
+                root,
+                shard,
+                branch,
+            } => {
                 if *epoch == self.epoch {
-                    self.hear_echo(alloc, from, value, due)
+                    self.hear_echo(alloc, from, root, shard, branch, due)
                 } else {
                     Ok(())
                 }
             }
-            Vote::Ready { epoch, value } => {
+            Vote::Ready { epoch, root } => {
                 if *epoch == self.epoch {
-                    self.hear_ready(alloc, from, value, due)
+                    self.hear_ready(alloc, from, root, due)
                 } else {
                     Ok(())
                 }
             }
-            Vote::Delivered { .. } => Ok(()),
+            _ => Ok(()),
         }
     }
 
     /// The value that the lane has delivered: None exactly where it hasn't cast its Delivered.
     pub fn delivered(&self) -> Option<&Bytes>
-        ensures { (own : List Vote) (heard : List Hearing) → Stands self.now own heard
+        ensures value { option_copied result ≡ self.now.delivered }
+        ensures cast { (own : List Vote) (heard : List Hearing) → Stands self.now own heard
             → option_copied result ≡ first_of (delivered (place_of self.now).epoch) own }
     {
         self.delivered.as_ref()
     }
 
-    // The sender's own desk proposes: the value goes to each node that it has not gone to.
+    // Marks a vote that the lane has cast.
+    fn mark(&mut self, vote: &Vote) -> Result<(), AllocError>
+        requires few { (place_of self.old).config.n ≤ most_nodes }
+        requires spelled { HasSpelling (place_of self.old).config vote.now }
+        ensures { OnOk result (Marks self.old self.new vote.now) }
+    {
+        if vote.epoch() != self.epoch {
+            return Ok(());
+        }
+        match vote {
+            Vote::Val { target, .. } => {
+                self.vals.add(*target);
+                Ok(())
+            }
+            Vote::Echo { .. } => {
+                self.is_echo_cast = true;
+                Ok(())
+            }
+            Vote::Ready { .. } => {
+                self.is_ready_cast = true;
+                Ok(())
+            }
+            Vote::Delivered { value, .. } => {
+                let value = value.clone()?;
+                self.delivered = self.delivered.take().or(Some(value));
+                Ok(())
+            }
+            _ => Ok(()),
+        }
+    }
+
+    // The sender's own desk proposes: each node that has none gets its shard of the value.
     fn hear_proposal(
         &mut self,
         alloc: Global,
@@ -124,179 +217,254 @@ impl Rbc {
         due: &mut Due,
     ) -> Result<(), AllocError>
         requires sender { self.old.node ≡ self.old.lane }
-        requires known { self.old.node < self.old.config.n }
-        ensures ok { OnOk result (Hears self.old self.new
-            (record { from = self.old.node; vote = Propose self.old.epoch value.now }) due.old due.new) }
-        ensures err { OnErr result (Keeps self.old self.new due.old due.new) }
+        requires short { length value.now ≤ longest_value }
+        ensures ok { OnOk result (Hears self.old self.new (hearing self.old.node (Propose self.old.epoch value.now)) due.old.votes due.new.votes) }
+        ensures err { OnErr result (Keeps self.old self.new) }
+        ensures due { OnErr result (due.new.votes ≡ due.old.votes) }
     {
-        let n = self.config.n();
-        let vals = missing_vals(alloc, n, self.epoch, value, &self.vals)?;
-        due.append(vals)?;
+        let n = self.roots.config().n();
+        let k = self.roots.config().k();
+        let shards = encode(alloc, n, k, value.as_slice())?;
+        let tree = tree_over(alloc, &shards)?;
+        due.reserve(n as u32)?;
+        push_vals(self.epoch, shards, &tree, &self.vals, due);
         add_below(&mut self.vals, n);
         Ok(())
     }
 
-    // The sender sends its value to this node, which echoes the first.
-    fn hear_val(&mut self, value: &Bytes, due: &mut Due) -> Result<(), AllocError>
-        requires { self.old.lane < self.old.config.n }
+    // The sender shows this node its shard, which echoes the first whose branch is valid.
+    fn hear_val(
+        &mut self,
+        root: &[u8; 32],
+        shard: &Bytes,
+        branch: &Branch,
+        due: &mut Due,
+    ) -> Result<(), AllocError>
+        requires { self.old.lane < (place_of self.old).config.n }
         ensures ok { OnOk result (Hears self.old self.new
-            (record { from = self.old.lane; vote = Val self.old.epoch self.old.node value.now }) due.old due.new) }
-        ensures err { OnErr result (Keeps self.old self.new due.old due.new) }
+            (hearing self.old.lane (Val self.old.epoch self.old.node root.now shard.now branch.now)) due.old.votes due.new.votes) }
+        ensures err { OnErr result (Keeps self.old self.new) }
+        ensures due { OnErr result (due.new.votes ≡ due.old.votes) }
     {
-        let echo = Vote::Echo {
+        if self.is_echo_cast {
+            return Ok(());
+        }
+        let n = self.roots.config().n();
+        if !is_branch(root, n, self.node, shard.as_slice(), branch) {
+            return Ok(());
+        }
+        due.push(Vote::Echo {
             epoch: self.epoch,
-            value: value.clone()?,
-        };
-        push_if(due, !self.is_echo_cast, echo)?;
+            root: *root,
+            shard: shard.clone()?,
+            branch: *branch,
+        })?;
         self.is_echo_cast = true;
         Ok(())
     }
 
-    // A node echoes a value, which may make this node ready for it.
-    #[tactic(auto, using(crate::proofs::Heard::keeps_room))]
+    // A node shows its shard of a root, which may make this node ready for the root, and deliver its value.
     fn hear_echo(
         &mut self,
         alloc: Global,
         from: u8,
-        value: &Bytes,
+        root: &[u8; 32],
+        shard: &Bytes,
+        branch: &Branch,
         due: &mut Due,
     ) -> Result<(), AllocError>
-        requires { from < self.old.config.n }
+        requires from { from < (place_of self.old).config.n }
+        requires short { length shard.now < 2 ^ 32 }
         ensures ok { OnOk result (Hears self.old self.new
-            (record { from = from; vote = Echo self.old.epoch value.now }) due.old due.new) }
-        ensures err { OnErr result (Keeps self.old self.new due.old due.new) }
+            (hearing from (Echo self.old.epoch root.now shard.now branch.now)) due.old.votes due.new.votes) }
+        ensures err { OnErr result (Keeps self.old self.new) }
+        ensures due { OnErr result (due.new.votes ≡ due.old.votes) }
     {
-        let n = self.config.n();
-        prove!(from < n);
-        let mut tally = self.tallies.get(value);
-        tally.echoes.add(from);
-        let is_backed = self.makes_ready(&tally);
-        let is_ready_due = !self.is_ready_cast & is_backed;
-        let votes = self.ready_if(alloc, is_ready_due, value)?;
-        self.tallies.make_room(value)?;
-        due.append(votes)?;
-        self.is_ready_cast |= is_ready_due;
-        self.tallies.set(value, tally);
+        let n = self.roots.config().n();
+        if !is_branch(root, n, from, shard.as_slice(), branch) {
+            return Ok(());
+        }
+        let (echoes, has_echoed) = self.roots.echoes(root, from);
+        if has_echoed {
+            return Ok(());
+        }
+        let (readies, _) = self.roots.readies(root, from);
+        let shard = shard.clone()?;
+        let value = self.roots.value_with(alloc, root, from, &shard)?;
+        let (is_ready_due, is_delivery_due) = self.due_by(echoes + 1, readies, value.is_some());
+        due.reserve(count_of(is_ready_due, is_delivery_due))?;
+        let votes = root_votes(is_ready_due, is_delivery_due, value.as_ref())?;
+        self.roots.add_echo(alloc, root, from, shard, value)?;
+        self.cast(root, votes, due);
         Ok(())
     }
 
-    // A node is ready for a value, which may make this node ready for it, and deliver it.
-    #[tactic(auto, using(crate::proofs::Heard::keeps_room))]
+    // A node is ready for a root, which may make this node ready for it, and deliver its value.
     fn hear_ready(
         &mut self,
         alloc: Global,
         from: u8,
-        value: &Bytes,
+        root: &[u8; 32],
         due: &mut Due,
     ) -> Result<(), AllocError>
-        requires { from < self.old.config.n }
+        requires { from < (place_of self.old).config.n }
         ensures ok { OnOk result (Hears self.old self.new
-            (record { from = from; vote = Ready self.old.epoch value.now }) due.old due.new) }
-        ensures err { OnErr result (Keeps self.old self.new due.old due.new) }
+            (hearing from (Ready self.old.epoch root.now)) due.old.votes due.new.votes) }
+        ensures err { OnErr result (Keeps self.old self.new) }
+        ensures due { OnErr result (due.new.votes ≡ due.old.votes) }
     {
-        let n = self.config.n();
+        let n = self.roots.config().n();
         prove!(from < n);
-        let mut tally = self.tallies.get(value);
-        tally.readies.add(from);
-        let is_backed = self.makes_ready(&tally);
-        let is_ready_due = !self.is_ready_cast & is_backed;
-        let is_carried = self.makes_delivered(&tally);
-        let is_delivery_due = self.delivered.is_none() & is_carried;
-        let mut votes = self.ready_if(alloc, is_ready_due, value)?;
-        let delivery = Vote::Delivered {
-            epoch: self.epoch,
-            value: value.clone()?,
-        };
-        push_if(&mut votes, is_delivery_due, delivery)?;
-        let delivered = copy_if(is_delivery_due, value)?;
-        self.tallies.make_room(value)?;
-        due.append(votes)?;
-        self.is_ready_cast |= is_ready_due;
-        self.delivered = self.delivered.take().or(delivered);
-        self.tallies.set(value, tally);
+        let (readies, is_ready) = self.roots.readies(root, from);
+        if is_ready {
+            return Ok(());
+        }
+        let (echoes, _) = self.roots.echoes(root, from);
+        let value = self.roots.value(root);
+        let (is_ready_due, is_delivery_due) = self.due_by(echoes, readies + 1, value.is_some());
+        due.reserve(count_of(is_ready_due, is_delivery_due))?;
+        let votes = root_votes(is_ready_due, is_delivery_due, value)?;
+        self.roots.add_ready(alloc, root, from)?;
+        self.cast(root, votes, due);
         Ok(())
     }
 
-    // The Ready for a value, where it is due.
-    fn ready_if(&self, alloc: Global, is_due: bool, value: &Bytes) -> Result<Due, AllocError>
-        ensures { IfOk result (λ votes. votes ≡ vote_if is_due (Ready self.now.epoch value.now)) }
+    // Whether a Ready for a root becomes due, and a delivery, where so many nodes echoed it validly, so many are ready for
+    // it, and its shards rebuild or not.
+    fn due_by(&self, echoes: u8, readies: u8, is_rebuilt: bool) -> (bool, bool)
+        ensures ready { result.0 ≡ (not self.now.is_ready_cast && is_ready_by (place_of self.now).config echoes readies is_rebuilt) }
+        ensures delivery { result.1 ≡ (not (is_some self.now.delivered) && is_delivery_by (place_of self.now).config readies is_rebuilt) }
     {
-        let mut votes = Due::new(alloc);
-        let ready = Vote::Ready {
-            epoch: self.epoch,
-            value: value.clone()?,
-        };
-        push_if(&mut votes, is_due, ready)?;
-        Ok(votes)
+        let config = self.roots.config();
+        let is_backed = echoes >= config.n() - config.f() && is_rebuilt;
+        let is_ready_due = !self.is_ready_cast && (is_backed || readies >= config.f() + 1);
+        let is_carried = readies >= 2 * config.f() + 1 && is_rebuilt;
+        let is_delivery_due = self.delivered.is_none() && is_carried;
+        (is_ready_due, is_delivery_due)
     }
 
-    // Whether enough nodes echoed a value, or are ready for it, for this node to be ready for it too.
-    fn makes_ready(&self, tally: &Tally) -> bool
-        ensures exact { result ≡ (nat_le (self.now.config.n - self.now.config.f) (count_nodes 16 (is_in tally.now.echoes))
-            || nat_le (self.now.config.f + 1) (count_nodes 16 (is_in tally.now.readies))) }
-        ensures few { self.now.config.n ≤ 16 }
+    // Casts the votes of a root, for which there is room.
+    fn cast(&mut self, root: &[u8; 32], votes: RootVotes, due: &mut Due)
+        requires { length (votes_in self.old.epoch root.now votes) ≤ due.old.spare }
+        ensures votes { due.new.votes ≡ due.old.votes ++ votes_in self.old.epoch root.now votes }
+        ensures state { self.new ≡ after_votes self.old votes }
     {
-        let n = self.config.n();
-        let f = self.config.f();
-        let is_echoed = tally.echoes.count() >= n - f;
-        is_echoed || tally.readies.count() >= f + 1
-    }
-
-    // Whether enough nodes are ready for a value for this node to deliver it.
-    fn makes_delivered(&self, tally: &Tally) -> bool
-        ensures { result ≡ nat_le (2 * self.now.config.f + 1) (count_nodes 16 (is_in tally.now.readies)) }
-    {
-        tally.readies.count() >= 2 * self.config.f() + 1
+        let RootVotes {
+            is_ready_due,
+            delivery,
+            delivered,
+        } = votes;
+        self.is_ready_cast |= is_ready_due;
+        self.delivered = self.delivered.take().or(delivered);
+        push_some(ready_if(is_ready_due, self.epoch, root), due);
+        push_some(delivery_of(self.epoch, delivery), due);
     }
 }
 
-// The Vals to the nodes that have none, rising.
-fn missing_vals(
-    alloc: Global,
-    n: u8,
-    epoch: u8,
-    value: &Bytes,
-    cast: &NodeSet,
-) -> Result<Due, AllocError>
-    ensures { IfOk result (λ votes. votes ≡ missing_vals epoch value.now cast.now n) }
+// How many votes are due.
+fn count_of(is_ready_due: bool, is_delivery_due: bool) -> u32
+    ensures { result ≡ (if is_ready_due then 1 else 0) + (if is_delivery_due then 1 else 0) }
 {
-    let mut votes = Due::new(alloc);
-    for target in 0..n {
-        let val = Vote::Val {
-            epoch,
-            target,
-            value: value.clone()?,
-        };
-        push_if(&mut votes, !cast.has(target), val)?;
+    if is_ready_due {
+        if is_delivery_due { 2 } else { 1 }
+    } else if is_delivery_due {
+        1
+    } else {
+        0
     }
-    Ok(votes)
+}
+
+// What becomes due by a root that rebuilds to this value, if it does.
+fn root_votes(
+    is_ready_due: bool,
+    is_delivery_due: bool,
+    value: Option<&Bytes>,
+) -> Result<RootVotes, AllocError>
+    ensures ready { IfOk result (λ v. v.is_ready_due ≡ is_ready_due) }
+    ensures delivery { IfOk result (λ v. v.delivery ≡ (if is_delivery_due then option_copied value.entry else None)) }
+    ensures delivered { IfOk result (λ v. v.delivered ≡ (if is_delivery_due then option_copied value.entry else None)) }
+{
+    let value = if is_delivery_due { value } else { None };
+    Ok(RootVotes {
+        is_ready_due,
+        delivery: copy_of(value)?,
+        delivered: copy_of(value)?,
+    })
+}
+
+// Adds a vote, if there is one, for which there is room.
+fn push_some(vote: Option<Vote>, due: &mut Due)
+    requires { length (option_to_list vote) ≤ due.old.spare }
+    ensures votes { due.new.votes ≡ due.old.votes ++ option_to_list vote }
+    ensures room { due.new.spare + length (option_to_list vote) ≡ due.old.spare }
+{
+    match vote {
+        Some(vote) => due.push_reserved(vote),
+        None => {}
+    }
+}
+
+// The Ready for a root, where it is due.
+fn ready_if(is_due: bool, epoch: u8, root: &[u8; 32]) -> Option<Vote>
+    ensures { result ≡ (if is_due then Some (Ready epoch root.now) else None) }
+{
+    if is_due {
+        Some(Vote::Ready { epoch, root: *root })
+    } else {
+        None
+    }
+}
+
+// The delivery of a value, if there is one.
+fn delivery_of(epoch: u8, value: Option<Bytes>) -> Option<Vote>
+    ensures { result ≡ option_map (Delivered epoch) value }
+{
+    match value {
+        Some(value) => Some(Vote::Delivered { epoch, value }),
+        None => None,
+    }
+}
+
+// Adds the Vals to the nodes that have none, rising, for which there is room.
+fn push_vals(epoch: u8, shards: Vec<Bytes>, tree: &Tree, cast: &NodeSet, due: &mut Due)
+    requires tree { tree.now ≡ leaf_digests shards.items }
+    requires few { length shards.items ≤ most_nodes }
+    requires room { length shards.items ≤ due.old.spare }
+    ensures { due.new.votes ≡ due.old.votes ++ missing_vals epoch shards.items cast.now (length shards.items) }
+{
+    let mut target = 0u8;
+    for shard in shards {
+        push_val(epoch, target, shard, tree, cast, due);
+        target += 1;
+    }
+}
+
+// Adds the Val to a node, if it has none, for which there is room.
+fn push_val(epoch: u8, target: u8, shard: Bytes, tree: &Tree, cast: &NodeSet, due: &mut Due)
+    requires target { target < length tree.now }
+    requires room { 1 ≤ due.old.spare }
+    ensures votes { due.new.votes ≡ due.old.votes
+        ++ option_to_list (unless (is_in cast.now target) (Some (Val epoch target (root_of tree.now) shard (branch_of tree.now target)))) }
+    ensures room { due.old.spare ≤ due.new.spare + 1 }
+{
+    if cast.has(target) {
+        return;
+    }
+    due.push_reserved(Vote::Val {
+        epoch,
+        target,
+        root: tree.root(),
+        shard,
+        branch: tree.branch(target),
+    });
 }
 
 // Adds all nodes below n.
 fn add_below(nodes: &mut NodeSet, n: u8)
-    requires { n ≤ 16 }
+    requires { n ≤ most_nodes }
     ensures { (node : ℕ) → is_in nodes.new node ≡ (nat_lt node n || is_in nodes.old node) }
 {
     for node in 0..n {
         nodes.add(node);
-    }
-}
-
-// Adds a vote where it is due.
-fn push_if(due: &mut Due, is_due: bool, vote: Vote) -> Result<(), AllocError>
-    ensures ok { OnOk result (due.new ≡ due.old ++ vote_if is_due vote) }
-    ensures err { OnErr result (due.new ≡ due.old) }
-{
-    if is_due { due.push(vote) } else { Ok(()) }
-}
-
-// A copy of a value, where it is due.
-fn copy_if(is_due: bool, value: &Bytes) -> Result<Option<Bytes>, AllocError>
-    ensures { IfOk result (λ copy. copy ≡ (if is_due then Some value.now else None)) }
-{
-    if is_due {
-        Ok(Some(value.clone()?))
-    } else {
-        Ok(None)
     }
 }

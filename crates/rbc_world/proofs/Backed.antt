@@ -8,13 +8,13 @@ use Rattle.merkle_branch.specs.Digests.{tree_root}
 use Rattle.rs_shards.specs.Completing.{IsEncoding}
 use Rattle.hb_wire.specs.declared.vote.Vote.TheVariants.{Val, Echo, Ready, Delivered, Propose}
 use Rattle.hb_wire.specs.declared.post.Post.{Post}
-use Rattle.protocol_rules.specs.Claims.{is_echo, is_ready}
-use Rattle.protocol_rules.specs.Hearing.{hearing, heard_in, heard_by, own_in, said_in}
-use Rattle.protocol_rules.specs.Code.{data_count, HasQuorum, HasDelivery, ready_count}
-use Rattle.protocol_rules.specs.Rules.{MayCast}
-use Rattle.protocol_rules.specs.History.{MayFollow, IsLegal}
-use Rattle.protocol_rules.proofs.Counts.{count_nodes-wider, correct_member, shared_correct}
-use Rattle.protocol_rules.proofs.Among.{Grows, HasQuorum-grows, HasDelivery-grows, ready_count-grows}
+use Rattle.hb_rules.specs.Claims.{is_echo, is_ready}
+use Rattle.hb_rules.specs.Hearing.{hearing, heard_in, heard_by, own_in, said_in}
+use Rattle.hb_rules.specs.Code.{data_count, HasQuorum, HasDelivery, ready_count}
+use Rattle.hb_rules.specs.Rules.{MayCast}
+use Rattle.hb_rules.specs.History.{MayFollow, IsLegal}
+use Rattle.hb_rules.proofs.Counts.{count_nodes-wider, correct_member, shared_correct}
+use Rattle.hb_rules.proofs.Among.{Grows, HasQuorum-grows, HasDelivery-grows, ready_count-grows}
 use Rattle.rbc_world.proofs.Histories.{AreAddressed, addressed_induction}
 use Rattle.rbc_world.proofs.Cast.{newly_cast, cast_stays, heard_cast, proposal_cast}
 use Rattle.rbc_world.proofs.Shown.{heard-said, said-stays, ready_said, echo_said}

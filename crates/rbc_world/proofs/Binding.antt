@@ -16,11 +16,11 @@ use Rattle.rs_shards.specs.Rebuilding.{IsRebuilt}
 use Rattle.rs_shards.proofs.Completions.{completed-only}
 use Rattle.hb_wire.specs.declared.vote.Vote.{Vote}
 use Rattle.hb_wire.specs.declared.post.Post.{Post}
-use Rattle.protocol_rules.specs.Claims.{is_shard_echo}
-use Rattle.protocol_rules.specs.Hearing.{own_in, said_in}
-use Rattle.protocol_rules.specs.Code.{data_count, AreEchoes, AreEchoed}
-use Rattle.protocol_rules.specs.Strings.{IsHashed, NoCollision}
-use Rattle.protocol_rules.proofs.FirstShards.{data_count-some, few_nodes}
+use Rattle.hb_rules.specs.Claims.{is_shard_echo}
+use Rattle.hb_rules.specs.Hearing.{own_in, said_in}
+use Rattle.hb_rules.specs.Code.{data_count, AreEchoes, AreEchoed}
+use Rattle.hb_rules.specs.Strings.{IsHashed, NoCollision}
+use Rattle.hb_rules.proofs.FirstShards.{data_count-some, few_nodes}
 use Rattle.rbc_world.specs.Backing.{HasOneCodeword}
 use Rattle.rbc_world.proofs.Shown.{IsShardEcho, shard_echo_said}
 

@@ -13,10 +13,10 @@ use Rattle.hb_wire.specs.declared.post.Post.{Post}
 use Rattle.hb_wire.specs.Votes.{address_of, IsVote}
 use Rattle.hb_wire.specs.Addresses.{is_at_home, goes_to, reaches}
 use Rattle.hb_wire.proofs.VoteLemmas.{vote_again}
-use Rattle.protocol_rules.specs.Hearing.{Hearing, hearing, heeds, is_within, spelled, name_at, hearing_at, hearing_of, heard_in, is_by, vote_by, own_in}
-use Rattle.protocol_rules.specs.Rules.{MayCast}
-use Rattle.protocol_rules.specs.History.{IsCorrectPost, MayFollow, IsAllowed}
-use Rattle.protocol_rules.proofs.Lists.{source_of, Contains-filter_map, Contains-cases}
+use Rattle.hb_rules.specs.Hearing.{Hearing, hearing, heeds, is_within, spelled, name_at, hearing_at, hearing_of, heard_in, is_by, vote_by, own_in}
+use Rattle.hb_rules.specs.Rules.{MayCast}
+use Rattle.hb_rules.specs.History.{IsCorrectPost, MayFollow, IsAllowed}
+use Rattle.hb_rules.proofs.Lists.{source_of, Contains-filter_map, Contains-cases}
 use Rattle.rbc_world.proofs.Histories.{AreAddressed}
 
 -- ---- what a post casts

@@ -9,7 +9,7 @@ use Rattle.hb_wire.specs.Votes.{kind_of, epoch_of, Spells}
 use Rattle.hb_wire.specs.Glances.{IsGlance}
 use Rattle.hb_wire.specs.Reading.{vote_at}
 use Rattle.hb_wire.proofs.VoteLemmas.{vote_takes}
-use Rattle.protocol_rules.specs.Hearing.{spelled}
+use Rattle.hb_rules.specs.Hearing.{spelled}
 use Rattle.rbc_world.specs.declared.claims.Kind.{Kind}
 use Rattle.rbc_world.specs.Claimed.{code_of, lane_of, place_of, body_of, claim_of}
 

@@ -12,8 +12,8 @@ use Rattle.hb_wire.specs.declared.vote.Vote.TheVariants as votes
 use Rattle.hb_wire.specs.declared.post.Post.{Post}
 use Rattle.hb_wire.specs.Votes.{kind_of, epoch_of, sized_bytes, Spells}
 use Rattle.hb_wire.proofs.VoteLemmas.{vote_takes}
-use Rattle.protocol_rules.specs.Hearing.{spelled, own_in}
-use Rattle.protocol_rules.specs.Ledger.{IsCorrect}
+use Rattle.hb_rules.specs.Hearing.{spelled, own_in}
+use Rattle.hb_rules.specs.Ledger.{IsCorrect}
 use Rattle.rbc_world.specs.declared.claims.Kind.{Kind}
 use Rattle.rbc_world.specs.declared.claims.Kind.TheVariants.{Ready, Delivered, Propose}
 use Rattle.rbc_world.specs.Agreed.{ReadiesAgree, DeliveriesAgree, DeliveriesAreProposed, IsAgreed}

@@ -6,7 +6,7 @@ use Rattle.hb_base.specs.NodeSet.{is_in}
 use Rattle.hb_wire.specs.declared.vote.Vote.{Vote}
 use Rattle.hb_wire.specs.declared.post.Post.{Post}
 use Rattle.hb_wire.specs.Votes.{address_of, Spells}
-use Rattle.protocol_rules.specs.History.{MayFollow, AreLegalAfter, IsLegal}
+use Rattle.hb_rules.specs.History.{MayFollow, AreLegalAfter, IsLegal}
 
 induction_after : (c : Numbers) (P : List Post → Type 0)
     → ((history : List Post) (post : Post) → P history → MayFollow c history post → P (history ++ post ∷ []))

@@ -9,11 +9,11 @@ use Rattle.merkle_branch.specs.declared.Branch.{Branch}
 use Rattle.hb_wire.specs.declared.vote.Vote.{Vote}
 use Rattle.hb_wire.specs.declared.vote.Vote.TheVariants.{Echo, Propose}
 use Rattle.hb_wire.specs.declared.post.Post.{Post}
-use Rattle.protocol_rules.specs.Claims.{is_any_echo, is_any_proposal}
-use Rattle.protocol_rules.specs.Hearing.{Hearing, heard_in, own_in}
-use Rattle.protocol_rules.specs.Rules.{MayCast}
-use Rattle.protocol_rules.specs.History.{MayFollow, IsLegal}
-use Rattle.protocol_rules.proofs.Lists.{list_any-from}
+use Rattle.hb_rules.specs.Claims.{is_any_echo, is_any_proposal}
+use Rattle.hb_rules.specs.Hearing.{Hearing, heard_in, own_in}
+use Rattle.hb_rules.specs.Rules.{MayCast}
+use Rattle.hb_rules.specs.History.{MayFollow, IsLegal}
+use Rattle.hb_rules.proofs.Lists.{list_any-from}
 use Rattle.rbc_world.proofs.Histories.{legal_induction}
 use Rattle.rbc_world.proofs.Cast.{IsNew, newly_cast}
 

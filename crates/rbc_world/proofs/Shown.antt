@@ -11,11 +11,11 @@ use Rattle.merkle_branch.proofs.Tested.{is_branch-is}
 use Rattle.hb_wire.specs.declared.vote.Vote.{Vote}
 use Rattle.hb_wire.specs.declared.vote.Vote.TheVariants.{Echo, Ready}
 use Rattle.hb_wire.specs.declared.post.Post.{Post}
-use Rattle.protocol_rules.specs.Claims.{echoed, readied, are_these, has_root, has_both, is_echo, is_shard_echo, is_ready}
-use Rattle.protocol_rules.specs.Hearing.{Hearing, heard_in, heard_by, own_in, said_in}
-use Rattle.protocol_rules.proofs.Among.{Grows, any_stands}
-use Rattle.protocol_rules.proofs.Lists.{list_any-from}
-use Rattle.protocol_rules.proofs.BroadcastSlots.{readied-is}
+use Rattle.hb_rules.specs.Claims.{echoed, readied, are_these, has_root, has_both, is_echo, is_shard_echo, is_ready}
+use Rattle.hb_rules.specs.Hearing.{Hearing, heard_in, heard_by, own_in, said_in}
+use Rattle.hb_rules.proofs.Among.{Grows, any_stands}
+use Rattle.hb_rules.proofs.Lists.{list_any-from}
+use Rattle.hb_rules.proofs.BroadcastSlots.{readied-is}
 use Rattle.rbc_world.proofs.Histories.{AreAddressed}
 use Rattle.rbc_world.proofs.Cast.{cast_stays, heard_cast}
 

@@ -8,12 +8,12 @@ use Rattle.rs_shards.specs.Frame.{value_in, framed_value}
 use Rattle.rs_shards.proofs.Values.{value_in-frame}
 use Rattle.hb_wire.specs.declared.vote.Vote.TheVariants.{Ready, Delivered, Propose}
 use Rattle.hb_wire.specs.declared.post.Post.{Post}
-use Rattle.protocol_rules.specs.Hearing.{own_in, said_in}
-use Rattle.protocol_rules.specs.Code.{data_count, HasQuorum, HasDelivery, ready_count}
-use Rattle.protocol_rules.specs.History.{IsLegal}
-use Rattle.protocol_rules.specs.Ledger.{IsCorrect}
-use Rattle.protocol_rules.specs.Strings.{IsHashed, NoCollision}
-use Rattle.protocol_rules.proofs.FirstShards.{data_count-some}
+use Rattle.hb_rules.specs.Hearing.{own_in, said_in}
+use Rattle.hb_rules.specs.Code.{data_count, HasQuorum, HasDelivery, ready_count}
+use Rattle.hb_rules.specs.History.{IsLegal}
+use Rattle.hb_rules.specs.Ledger.{IsCorrect}
+use Rattle.hb_rules.specs.Strings.{IsHashed, NoCollision}
+use Rattle.hb_rules.proofs.FirstShards.{data_count-some}
 use Rattle.rbc_world.specs.Agreed.{ReadiesAgree, DeliveriesAgree, DeliveriesAreProposed, ProposalsAgree, IsAgreed}
 use Rattle.rbc_world.specs.Backing.{HasOneCodeword, RootsAreBound, IsBacked}
 use Rattle.rbc_world.proofs.Histories.{legal_addressed}

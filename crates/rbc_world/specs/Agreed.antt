@@ -4,8 +4,8 @@ use Rattle.std.specs.Prelude.{◌≡◌, ℕ, ◌<◌, List, Contains}
 use Rattle.hb_base.specs.Numbers.{Numbers}
 use Rattle.hb_wire.specs.declared.vote.Vote.TheVariants.{Ready, Delivered, Propose}
 use Rattle.hb_wire.specs.declared.post.Post.{Post}
-use Rattle.protocol_rules.specs.Hearing.{own_in}
-use Rattle.protocol_rules.specs.Ledger.{IsCorrect}
+use Rattle.hb_rules.specs.Hearing.{own_in}
+use Rattle.hb_rules.specs.Ledger.{IsCorrect}
 
 -- all Ready votes of correct nodes in one lane and epoch name one root
 pub record ReadiesAgree (c : Numbers) (history : List Post) : Type 0 where

@@ -6,9 +6,9 @@ use Rattle.rs_shards.specs.Rebuilding.{IsRebuilt}
 use Rattle.hb_wire.specs.declared.vote.Vote.{Vote}
 use Rattle.hb_wire.specs.declared.vote.Vote.TheVariants.{Ready}
 use Rattle.hb_wire.specs.declared.post.Post.{Post}
-use Rattle.protocol_rules.specs.Hearing.{own_in, said_in}
-use Rattle.protocol_rules.specs.Code.{data_count, AreEchoes, HasDelivery, ready_count}
-use Rattle.protocol_rules.specs.Ledger.{IsCorrect}
+use Rattle.hb_rules.specs.Hearing.{own_in, said_in}
+use Rattle.hb_rules.specs.Code.{data_count, AreEchoes, HasDelivery, ready_count}
+use Rattle.hb_rules.specs.Ledger.{IsCorrect}
 
 -- One codeword has the root, and it alone goes through the shards of any k valid Echoes for the root.
 pub record HasOneCodeword (c : Numbers) (e : ℕ) (root : List ℕ) (shown : ℕ → (Vote → Bool) → Bool) : Type 0 where

@@ -9,7 +9,7 @@ use Rattle.hb_base.specs.NodeSet.{is_in}
 use Rattle.hb_wire.specs.declared.vote.Vote.{Vote}
 use Rattle.hb_wire.specs.declared.post.Post.{Post}
 use Rattle.hb_wire.specs.Votes.{kind_of, epoch_of, row, field_bytes}
-use Rattle.protocol_rules.specs.Hearing.{spelled}
+use Rattle.hb_rules.specs.Hearing.{spelled}
 use Rattle.rbc_world.specs.declared.claims.Kind.{Kind}
 use Rattle.rbc_world.specs.declared.claims.Kind.TheVariants.{Ready, Delivered, Propose}
 use Rattle.rbc_world.specs.declared.claims.Claim.{Claim}

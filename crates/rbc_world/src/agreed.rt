@@ -1,15 +1,15 @@
 //! Whether a run's broadcasts agree.
 
 ghost use Rattle.std.specs.Prelude.{◌≡◌, ◌↔◌, IsTrue};
-ghost use Rattle.protocol_rules.specs.History.{IsLegal};
-ghost use Rattle.protocol_rules.specs.Strings.{NoCollision};
+ghost use Rattle.hb_rules.specs.History.{IsLegal};
+ghost use Rattle.hb_rules.specs.Strings.{NoCollision};
 ghost use Rattle.rbc_world.specs.Agreed.{IsAgreed};
 ghost use Rattle.rbc_world.specs.Backing.{RootsAreBound};
 
 use crate::claims::Kind;
 use crate::entries::first_claims;
 use crate::proposed::{are_none, unproposed};
-use protocol_rules::Report;
+use hb_rules::Report;
 
 /// Whether in each lane and epoch of a run all correct nodes' Ready votes name one root, all their Delivered votes carry
 /// one value, and in the lane of a correct node this value is one that its desk proposed (CCS 2016, section 4.2). It is so

@@ -6,11 +6,11 @@ ghost use Rattle.std.specs.Prelude.{ℕ, List, Contains};
 ghost use Rattle.hb_base.specs.Numbers.{Numbers, AreSound};
 ghost use Rattle.hb_wire.specs.declared.vote.Vote.TheVariants.{Ready, Delivered};
 ghost use Rattle.hb_wire.specs.declared.post.Post.{Post};
-ghost use Rattle.protocol_rules.specs.Hearing.{own_in, said_in};
-ghost use Rattle.protocol_rules.specs.Code.{HasQuorum};
-ghost use Rattle.protocol_rules.specs.History.{IsLegal};
-ghost use Rattle.protocol_rules.specs.Ledger.{IsCorrect};
-ghost use Rattle.protocol_rules.specs.Strings.{NoCollision};
+ghost use Rattle.hb_rules.specs.Hearing.{own_in, said_in};
+ghost use Rattle.hb_rules.specs.Code.{HasQuorum};
+ghost use Rattle.hb_rules.specs.History.{IsLegal};
+ghost use Rattle.hb_rules.specs.Ledger.{IsCorrect};
+ghost use Rattle.hb_rules.specs.Strings.{NoCollision};
 ghost use Rattle.rbc_world.specs.Agreed.{ReadiesAgree, DeliveriesAgree, DeliveriesAreProposed, ProposalsAgree};
 ghost use Rattle.rbc_world.specs.Backing.{RootsAreBound, IsBacked};
 

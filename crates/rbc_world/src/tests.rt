@@ -4,7 +4,7 @@
 use super::*;
 use hb_base::{Bytes, Config, NodeSet};
 use hb_wire::{Post, To};
-use protocol_rules::Report;
+use hb_rules::Report;
 use std::alloc::{AllocError, Global};
 use std::test::Fail;
 

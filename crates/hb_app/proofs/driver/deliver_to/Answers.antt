@@ -1,8 +1,8 @@
 use Rattle.std.proofs.Common.{◌≡◌, ◌∙◌, ap, sym, rules, ℕ}
 use Rattle.hb_base.specs.Numbers.{Numbers}
-use Rattle.hb_rules.specs.declared.post.Post.{Post}
-use Rattle.hb_rules.specs.declared.report.Fate.TheVariants.{Running}
-use Rattle.hb_rules.specs.Hearing.{reaches}
+use Rattle.value_rules.specs.declared.post.Post.{Post}
+use Rattle.value_rules.specs.declared.report.Fate.TheVariants.{Running}
+use Rattle.value_rules.specs.Hearing.{reaches}
 use Rattle.hb_app.proofs.Runs.{stands_read, Delivers-nothing, Delivers-received, HasReceived-apart}
 use Rattle.hb_app.proofs.driver.deliver_to.Goals as goal
 

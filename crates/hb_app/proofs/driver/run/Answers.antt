@@ -1,7 +1,7 @@
 use Rattle.std.proofs.Common.{refl, ap, subst, ◌∙◌, List, [], ◌++◌, ◌∷◌}
 use Rattle.hb_base.specs.Numbers.{AreSound}
-use Rattle.hb_rules.specs.declared.report.Submit.{Submit}
-use Rattle.hb_rules.specs.Book.{BookView}
+use Rattle.value_rules.specs.declared.report.Submit.{Submit}
+use Rattle.value_rules.specs.Book.{BookView}
 use Rattle.hb_app.proofs.Reports.{IsRunOf-run}
 use Rattle.hb_app.proofs.driver.run.Goals as goal
 

@@ -1,8 +1,8 @@
 use Rattle.std.proofs.Common.{◌≡◌, ◌∙◌, sym, ap, List, ℕ, Some, is_some, slice_get, get_or, ◌==◌, if◌then◌else◌}
 use Rattle.std.proofs.lemmas.Option.{get_or_from_slice_get}
 use Rattle.hb_base.specs.Numbers.{Numbers}
-use Rattle.hb_rules.specs.declared.post.Post.{Post}
-use Rattle.hb_rules.specs.Hearing.{hearing_of}
+use Rattle.value_rules.specs.declared.post.Post.{Post}
+use Rattle.value_rules.specs.Hearing.{hearing_of}
 use Rattle.hb_app.proofs.Taking.{KnowsNode-sender, Listens-unheard, Listens-heard}
 use Rattle.hb_app.proofs.member.listen.Goals as goal
 

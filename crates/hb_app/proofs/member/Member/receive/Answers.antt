@@ -1,5 +1,5 @@
 use Rattle.std.proofs.Common.{refl, sym, ap, ◌∙◌, Err}
-use Rattle.hb_rules.specs.declared.book.BookFault.{BookFault}
+use Rattle.value_rules.specs.declared.book.BookFault.{BookFault}
 use Rattle.hb_app.proofs.Taking.{IsMember-after}
 use Rattle.hb_app.proofs.member.Member.receive.Goals as goal
 

@@ -1,9 +1,9 @@
 use Rattle.std.proofs.Common.{◌∙◌, sym, ap, refl, List, ◌++◌}
 use Rattle.std.proofs.lemmas.Result.{on_ok_weaker}
-use Rattle.hb_rules.specs.declared.vote.Vote.{Vote}
-use Rattle.hb_rules.specs.Hearing.{own_in, heard_in}
-use Rattle.hb_rules.specs.Book.{Moved}
-use Rattle.hb_rules.specs.Report.{heard_of}
+use Rattle.value_rules.specs.declared.vote.Vote.{Vote}
+use Rattle.value_rules.specs.Hearing.{own_in, heard_in}
+use Rattle.value_rules.specs.Book.{Moved}
+use Rattle.value_rules.specs.Report.{heard_of}
 use Rattle.hb_app.specs.Member.{IsHeardBy}
 use Rattle.hb_app.proofs.Taking.{got_push, own_same, nothing_posted, IsReady-after, received_after}
 use Rattle.hb_app.proofs.member.Member.take_in.Goals as goal

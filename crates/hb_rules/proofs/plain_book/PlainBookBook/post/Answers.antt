@@ -1,13 +1,17 @@
-use Rattle.std.proofs.Common.{◌≡◌, ◌∙◌, ap, arith}
-use Rattle.hb_rules.specs.Book.{SeatView, BookView, IsSeatOf}
-use Rattle.hb_rules.proofs.Seats.{IsLegal-next}
+use Rattle.std.proofs.Common.{ap}
+use Rattle.hb_rules.specs.Book.{SeatView, post_of}
+use Rattle.hb_rules.proofs.Seats.{IsAllowed-seat, Posted-seen}
 use Rattle.hb_rules.proofs.plain_book.PlainBookBook.post.Goals as goal
 
-pub invariant_of-self-2 : goal.invariant_of-self-2
-invariant_of-self-2 c =
-    let book : BookView = record { config = c.self.inside.config; posts = c.self.inside.history.items } in
-    let seat : IsSeatOf book c.args.seat.now = rw c.self.view_is c.requires.seat in
-    let node : c.seat.inside.node ≡ c.args.seat.now.node = ap (λ (s : SeatView). s.node) (c.seat.view_is ∙ c.see-number.ensures.seat) in
-    let actor : c.seat.inside.actor ≡ c.args.seat.now.actor = ap (λ (s : SeatView). s.actor) (c.seat.view_is ∙ c.see-number.ensures.seat) in
-    rw (c.in_ok-add.ensures.ok, node, actor)
-    (IsLegal-next book c.args.seat.now c.args.vote.now c.self.invariant seat c.requires.allowed (omega arith))
+pub add_vote-posted-requires-clause-allowed : goal.add_vote-posted-requires-clause-allowed
+add_vote-posted-requires-clause-allowed c =
+    rw (c.node.ensures, c.actor.ensures, c.self.view_is)
+    (IsAllowed-seat c.args.self.now c.args.seat.now c.args.vote.now c.requires.seat c.requires.allowed)
+
+pub returns-clause-posted : goal.returns-clause-posted
+returns-clause-posted c =
+    let seat : SeatView = c.args.seat.now in
+    Posted-seen c.add_vote-posted.result c.args.self.now c.add_vote-posted.new.self seat c.look.new.self
+    (post_of seat.node seat.actor c.args.vote.now) c.requires.seat (ap (λ (s : SeatView). s.seen) c.look.ensures.seen)
+    (rw c.self.view_is at c.add_vote-posted.ensures.number)
+    (rw (c.self.view_is, c.node.ensures, c.actor.ensures) at c.add_vote-posted.ensures.added)

@@ -1,14 +1,26 @@
-use Rattle.std.proofs.Common.{ap, ◌∙◌, ◌++◌, ◌||◌, nat_lt, List, ℕ}
+use Rattle.std.proofs.Common.{◌≡◌, ◌∙◌, ◌++◌, ◌||◌, nat_lt, length, ap, List, ℕ}
+use Rattle.hb_base.specs.Numbers.{Numbers}
 use Rattle.hb_base.specs.NodeSet.{is_in}
-use Rattle.hb_rules.specs.declared.vote.Vote.{Vote}
+use Rattle.hb_wire.specs.declared.vote.Vote.{Vote}
+use Rattle.rs_shards.specs.Completing.{encoded}
+use Rattle.hb_rules.specs.Code.{data_count}
 use Rattle.rbc_core.specs.Due.{missing_vals}
-use Rattle.rbc_core.proofs.Heard.{Hears-proposal}
+use Rattle.rbc_core.proofs.Vals.{Hears-proposal}
 use Rattle.rbc_core.proofs.rbc.Rbc.hear_proposal.Goals as goal
 
 pub returns-clause-ok : goal.returns-clause-ok
 returns-clause-ok c =
-    let r = c.args.self.now in
-    Hears-proposal r c.add_below.new.nodes c.args.value.now c.args.due.now c.append.new.self c.requires.sender c.requires.known
-    (λ m. c.add_below.ensures m ∙ ap (λ (n : ℕ). nat_lt m n || is_in r.vals m) c.n-n.ensures.value)
-    (c.in_ok-append.ensures.ok ∙ ap (λ (votes : List Vote). c.args.due.now ++ votes) c.in_ok-vals.ensures
-    ∙ ap (λ (n : ℕ). c.args.due.now ++ missing_vals r.epoch c.args.value.now r.vals n) c.n-n.ensures.value)
+    let config = c.self.inside.roots.config in
+    let n : c.n-n.result ≡ config.n = c.n-n.ensures.value ∙ ap (λ (v : Numbers). v.n) c.config.ensures in
+    let k : c.k-k.result ≡ data_count config = c.k-k.ensures.value ∙ ap (λ (v : Numbers). data_count v) c.config-2.ensures in
+    let shards : c.in_ok-shards.shards.items ≡ encoded config.n (data_count config) c.args.value.now =
+    c.in_ok-shards.ensures.encoded ∙ ap (λ (v : List ℕ). encoded c.n-n.result c.k-k.result v) c.as_slice.ensures
+    ∙ ap (λ (m : ℕ). encoded m c.k-k.result c.args.value.now) n ∙ ap (λ (m : ℕ). encoded config.n m c.args.value.now) k in
+    let count : length c.in_ok-shards.shards.items ≡ config.n = c.in_ok-shards.ensures.encoding.codeword.count ∙ n in
+    rw (← c.self.view_is) (Hears-proposal _ c.add_below.new.nodes c.args.value.now c.args.due.now.votes c.push_vals.new.due.votes
+    (rw (← c.self.view_is) at c.requires.sender) c.self.invariant
+    (λ m. c.add_below.ensures m ∙ ap (λ (n : ℕ). nat_lt m n || is_in c.self.inside.vals m) n)
+    (c.push_vals.ensures
+    ∙ ap (λ (votes : List Vote). votes ++ missing_vals c.self.inside.epoch c.in_ok-shards.shards.items c.self.inside.vals (length c.in_ok-shards.shards.items)) c.reserve.ensures.votes
+    ∙ ap (λ (m : ℕ). c.args.due.now.votes ++ missing_vals c.self.inside.epoch c.in_ok-shards.shards.items c.self.inside.vals m) count
+    ∙ ap (λ (xs : List (List ℕ)). c.args.due.now.votes ++ missing_vals c.self.inside.epoch xs c.self.inside.vals config.n) shards))

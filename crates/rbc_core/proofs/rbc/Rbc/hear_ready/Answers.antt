@@ -1,43 +1,57 @@
-use Rattle.std.specs.Option.{option_or}
-use Rattle.std.proofs.Common.{◌≡◌, true, false, refl, Option, None, Some, is_some, ap, ◌∙◌, ◌++◌, ◌||◌, ◌==◌, ◌&&◌, not, if◌then◌else◌, Bool, List, ℕ, bytes_eq}
-use Rattle.hb_base.specs.NodeSet.{is_in}
-use Rattle.hb_rules.specs.declared.vote.Vote.{Vote}
-use Rattle.hb_rules.specs.declared.vote.Vote.TheVariants.{Ready, Delivered}
-use Rattle.rbc_core.specs.declared.tallies.Tally.{Tally}
-use Rattle.rbc_core.specs.Tallies.{tally_at}
-use Rattle.rbc_core.specs.Due.{vote_if}
-use Rattle.rbc_core.proofs.Changed.{ready_due, delivery_due}
-use Rattle.rbc_core.proofs.Heard.{Hears-ready}
+use Rattle.std.proofs.Common.{◌≡◌, ◌+◌, ◌&&◌, not, Bool, ap, sym, ◌∙◌, None, is_some, if◌then◌else◌, arith}
+use Rattle.std.specs.Option.{option_copied}
+use Rattle.hb_base.specs.Numbers.{Numbers}
+use Rattle.rbc_core.specs.Due.{is_ready_by, is_delivery_by}
+use Rattle.rbc_core.proofs.Adding.{any_err}
+use Rattle.rbc_core.proofs.Heard.{Keeps-roots}
+use Rattle.rbc_core.proofs.Votes.{Hears-ready, Hears-ready_again, some_copied, votes_behind, votes_fit}
 use Rattle.rbc_core.proofs.rbc.Rbc.hear_ready.Goals as goal
 
-and_is : (some none carried is : Bool) → some ≡ not none → carried ≡ is → (none && carried) ≡ (not some && is)
-and_is some none carried is h e = rw (h, e) (by none)
-  where
-    by : (b : Bool) → (b && is) ≡ (not (not b) && is)
-    by true = refl
-    by false = refl
+pub returns-then-is_ready-clause-ok : goal.returns-then-is_ready-clause-ok
+returns-then-is_ready-clause-ok c =
+    let n : c.n-n.result ≡ c.self.inside.roots.config.n = c.n-n.ensures.value ∙ ap (λ (v : Numbers). v.n) c.config.ensures in
+    rw (← c.self.view_is) (Hears-ready_again _ c.args.from c.args.root.now c.args.due.now.votes
+    (rw (← c.self.view_is) at c.requires) (omega (arith, n, c.n-n.ensures.bounds.1)) c.readies-readies.ensures.sound
+    (sym c.readies-readies.ensures.has ∙ c.if-is_ready.true))
+
+pub returns-in_err-add_ready-clause-err : goal.returns-in_err-add_ready-clause-err
+returns-in_err-add_ready-clause-err c =
+    rw (← c.self.view_is) (any_err _ _ (Keeps-roots _ c.add_ready.new.self c.in_err-add_ready.ensures.err))
+
+pub cast-requires : goal.cast-requires
+cast-requires c =
+    votes_fit c.self.inside.epoch c.args.root.now c.in_ok-votes.votes.is_ready_due c.due_by-is_ready_due.result.1
+    (option_copied c.value-value.result) c.in_ok-votes.votes.delivery c.reserve.new.self.spare c.in_ok-votes.ensures.delivery
+    (rw c.in_ok-votes.ensures.ready (rw c.count_of.ensures at c.in_ok-reserve.ensures.room))
 
 pub returns-clause-ok : goal.returns-clause-ok
 returns-clause-ok c =
-    let r = c.args.self.now in
-    let v = c.args.value.now in
-    let found : c.get-tally.result ≡ tally_at r.tallies v = c.get-tally.ensures in
-    let t : Tally = record { echoes = c.get-tally.result.echoes; readies = c.add.new.self } in
-    let backed = c.makes_ready-is_backed.ensures.exact in
-    let is_delivery_due : (c.is_none.result && c.makes_delivered-is_carried.result) ≡ delivery_due r t =
-    and_is (is_some r.delivered) c.is_none.result c.makes_delivered-is_carried.result _ c.is_none.ensures c.makes_delivered-is_carried.ensures in
-    let delivered : c.or.result ≡ option_or r.delivered (if delivery_due r t then Some v else None) =
-    c.or.ensures ∙ ap (λ (o : Option (List ℕ)). option_or o c.in_ok-delivered.delivered) c.take.ensures.value
-    ∙ ap (λ (o : Option (List ℕ)). option_or r.delivered o) (c.in_ok-delivered.ensures ∙ ap (λ (b : Bool). if b then Some v else None) is_delivery_due) in
-    let ready : c.in_ok-votes.votes ≡ vote_if (ready_due r t) (Ready r.epoch v) =
-    c.in_ok-votes.ensures ∙ ap (λ (b : Bool). vote_if (not r.is_ready_cast && b) (Ready r.epoch v)) backed in
-    let delivery : vote_if (c.is_none.result && c.makes_delivered-is_carried.result) (Delivered r.epoch c.in_ok-clone.field-0) ≡ vote_if (delivery_due r t) (Delivered r.epoch v) =
-    ap (λ (b : Bool). vote_if b (Delivered r.epoch c.in_ok-clone.field-0)) is_delivery_due
-    ∙ ap (λ (w : List ℕ). vote_if (delivery_due r t) (Delivered r.epoch w)) c.in_ok-clone.ensures.cases in
-    rw (backed, delivered) (Hears-ready r c.args.from v t c.set.new.self c.args.due.now c.append.new.self c.requires c.makes_ready-is_backed.ensures.few
-    (record { marks = λ a. c.add.ensures.members a ∙ ap (λ (x : Tally). (a == c.args.from) || is_in x.readies a) found })
-    (ap (λ (x : Tally). x.echoes) found)
-    (record { tallies = λ w. c.set.ensures w ∙ ap (λ (x : Tally). if bytes_eq v w then t else x) (c.in_ok-make_room.ensures.same w) })
-    (c.in_ok-append.ensures.ok ∙ ap (λ (votes : List Vote). c.args.due.now ++ votes)
-    (c.in_ok-push_if.ensures.ok ∙ ap (λ (votes : List Vote). votes ++ vote_if (c.is_none.result && c.makes_delivered-is_carried.result) (Delivered r.epoch c.in_ok-clone.field-0)) ready
-    ∙ ap (λ (votes : List Vote). vote_if (ready_due r t) (Ready r.epoch v) ++ votes) delivery)))
+    let n : c.n-n.result ≡ c.self.inside.roots.config.n = c.n-n.ensures.value ∙ ap (λ (v : Numbers). v.n) c.config.ensures in
+    let some : c.is_some.result ≡ is_some (option_copied c.value-value.result) = c.is_some.ensures ∙ sym (some_copied c.value-value.result) in
+    let ready = rw (← c.self.view_is) at c.due_by-is_ready_due.ensures.ready in
+    let delivery = rw (← c.self.view_is) at c.due_by-is_ready_due.ensures.delivery in
+    rw (← c.self.view_is, c.cast.ensures.state) (Hears-ready _ c.add_ready.new.self c.args.from c.args.root.now
+    c.echoes-echoes.result.0 c.readies-readies.result.0 (option_copied c.value-value.result)
+    c.in_ok-votes.votes.is_ready_due c.in_ok-votes.votes.delivered c.args.due.now.votes c.cast.new.due.votes
+    (record {
+      below = rw (← c.self.view_is) at c.requires;
+      few = omega (arith, n, c.n-n.ensures.bounds.1);
+      is = c.readies-readies.ensures.sound;
+      new = sym c.readies-readies.ensures.has ∙ c.if-is_ready.false;
+    })
+    c.in_ok-add_ready.ensures.ok
+    (record {
+      echoed = c.echoes-echoes.ensures.count;
+      readied = c.readies-readies.ensures.count;
+      is_rebuilt = c.value-value.ensures;
+      is_due =
+          c.in_ok-votes.ensures.ready ∙ ready
+          ∙ ap (λ (b : Bool). not c.self.inside.is_ready_cast && is_ready_by c.self.inside.roots.config c.echoes-echoes.result.0 (c.readies-readies.result.0 + 1) b) some;
+      is_delivered =
+          c.in_ok-votes.ensures.delivered
+          ∙ ap (λ (b : Bool). if b then option_copied c.value-value.result else None) (delivery
+          ∙ ap (λ (b : Bool). not (is_some c.self.inside.delivered) && is_delivery_by c.self.inside.roots.config (c.readies-readies.result.0 + 1) b) some);
+    })
+    (votes_behind c.self.inside.epoch c.args.root.now c.in_ok-votes.votes.is_ready_due c.in_ok-votes.votes.delivery c.in_ok-votes.votes.delivered
+    c.args.due.now.votes c.reserve.new.self.votes c.cast.new.due.votes c.cast.ensures.votes c.reserve.ensures.votes
+    (c.in_ok-votes.ensures.delivery ∙ sym c.in_ok-votes.ensures.delivered)))

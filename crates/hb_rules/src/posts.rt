@@ -1,0 +1,153 @@
+ghost use Rattle.std.specs.Prelude.{◌≡◌, ◌<◌, ◌≤◌, true, false, Err, [], ◌∷◌, ◌++◌, length, IfOk, OnOk, OnErr, slice_get, option_copied};
+ghost use Rattle.hb_base.specs.Limits.{most_posts};
+ghost use Rattle.hb_base.specs.NodeSet.{is_in};
+ghost use Rattle.hb_wire.specs.declared.post.Post.{Post};
+ghost use Rattle.hb_rules.specs.History.{HasSpelling, IsAllowed, MayFollow, IsLegal};
+ghost use Rattle.hb_rules.specs.Book.{post_of, lie_of, AreKept};
+
+use crate::book::BookFault;
+use hb_base::limits::MOST_POSTS;
+use hb_base::{Bytes, Config};
+use hb_wire::{Post, To, Vote, write};
+use std::alloc::Global;
+use std::marker::Model;
+
+/// The posts of a run, in order, by the run's config. At every moment they are a legal history of at most 2^22 posts, since a
+/// post is added only where it may follow those before it. Each kind of book keeps its posts so. Clauses see a `BookView`.
+#[derive(Drop)]
+pub struct Posts {
+    config: Config,
+    items: Vec<Post>,
+}
+
+impl Model for Posts {
+    ghost use Rattle.hb_rules.specs.Book.{BookView, AreKept};
+
+    ghost Value = { BookView };
+
+    ghost view = { λ p. record { config = p.config; posts = p.items.items } };
+
+    ghost invariant = { λ p. AreKept (record { config = p.config; posts = p.items.items }) };
+}
+
+impl Posts {
+    /// No posts yet. It takes no memory.
+    pub fn new(alloc: Global, config: &Config) -> Posts
+        ensures { result ≡ record { config = config.now; posts = [] } }
+    {
+        Posts {
+            config: *config,
+            items: Vec::new(alloc),
+        }
+    }
+
+    /// The config of the run.
+    pub fn config(&self) -> Config
+        ensures { result ≡ self.now.config }
+    {
+        self.config
+    }
+
+    /// How many posts there are.
+    pub fn count(&self) -> u32
+        ensures exact { result ≡ length self.now.posts }
+        ensures few { length self.now.posts ≤ most_posts }
+    {
+        self.items.len() as u32
+    }
+
+    /// Whether no post more may be added, since there are 2^22.
+    pub fn is_full(&self) -> bool
+        ensures full { result ≡ true → length self.now.posts ≡ most_posts }
+        ensures room { result ≡ false → length self.now.posts < most_posts }
+    {
+        self.count() >= MOST_POSTS
+    }
+
+    /// The posts, lent. They are legal, and name actors below 256.
+    pub fn as_slice(&self) -> &[Post]
+        ensures posts { result.now ≡ self.now.posts }
+        ensures kept { AreKept self.now }
+    {
+        self.items.as_slice()
+    }
+
+    /// The posts, which are legal. It takes no memory.
+    pub fn into_vec(self) -> Vec<Post>
+        ensures posts { result.items ≡ self.posts }
+        ensures legal { IsLegal self.config self.posts }
+    {
+        let Posts { config: _, items } = self;
+        items
+    }
+
+    /// Post k, lent, and None exactly where there are no more than k. It takes constant time.
+    pub fn get(&self, k: u32) -> Option<&Post>
+        ensures { option_copied result ≡ slice_get self.now.posts k }
+    {
+        self.items.get(k as usize)
+    }
+
+    /// Adds the post of a vote that has a spelling and that the rules allow to this actor of this node, and answers its number.
+    /// `Full` comes exactly where there are 2^22 posts, and a refusal adds nothing. The vote is spelled once, and nothing
+    /// else is copied.
+    pub fn add_vote(&mut self, node: u8, actor: u8, vote: &Vote) -> Result<u32, BookFault>
+        requires known { node < self.old.config.n }
+        requires spelled { HasSpelling self.old.config vote.now }
+        requires allowed { IsAllowed self.old.config node actor self.old.posts vote.now }
+        ensures number { IfOk result (λ k. (k ≡ length self.old.posts) × (k < most_posts)) }
+        ensures added { OnOk result (self.new ≡ record self.old { posts = self.old.posts ++ post_of node actor vote.now ∷ [] }) }
+        ensures refused { OnErr result (self.new ≡ self.old) }
+        ensures full { result ≡ Err BookFault.Full → length self.old.posts ≡ most_posts }
+        ensures memory { result ≡ Err BookFault.Memory → length self.old.posts < most_posts }
+    {
+        if self.is_full() {
+            return Err(BookFault::Full);
+        }
+        let alloc = *self.items.allocator();
+        let bytes = write(alloc, self.config.n(), self.config.version(), vote)?;
+        self.add(Post {
+            from: node,
+            actor,
+            to: vote.to(),
+            bytes,
+        })
+    }
+
+    /// Adds a post of a liar's node, with any actor, address and bytes, and answers its number. `Full` comes exactly where there
+    /// are 2^22 posts, and a refusal adds nothing. The bytes are copied once.
+    pub fn add_lie(&mut self, node: u8, actor: u8, to: To, bytes: &[u8]) -> Result<u32, BookFault>
+        requires known { node < self.old.config.n }
+        requires liar { is_in self.old.config.liars node ≡ true }
+        ensures number { IfOk result (λ k. (k ≡ length self.old.posts) × (k < most_posts)) }
+        ensures added { OnOk result (self.new ≡ record self.old { posts = self.old.posts ++ lie_of node actor to bytes.now ∷ [] }) }
+        ensures refused { OnErr result (self.new ≡ self.old) }
+        ensures full { result ≡ Err BookFault.Full → length self.old.posts ≡ most_posts }
+        ensures memory { result ≡ Err BookFault.Memory → length self.old.posts < most_posts }
+    {
+        if self.is_full() {
+            return Err(BookFault::Full);
+        }
+        let bytes = Bytes::copy(*self.items.allocator(), bytes)?;
+        self.add(Post {
+            from: node,
+            actor,
+            to,
+            bytes,
+        })
+    }
+
+    // Adds a post that may follow the others, where there is room for it in the history, and answers its number.
+    fn add(&mut self, post: Post) -> Result<u32, BookFault>
+        requires room { length self.old.posts < most_posts }
+        requires follows { MayFollow self.old.config self.old.posts post }
+        requires actor { post.actor < 256 }
+        ensures number { IfOk result (λ k. k ≡ length self.old.posts) }
+        ensures added { OnOk result (self.new ≡ record self.old { posts = self.old.posts ++ post ∷ [] }) }
+        ensures refused { OnErr result ((self.new ≡ self.old) × (result ≡ Err BookFault.Memory)) }
+    {
+        let number = self.count();
+        self.items.push(post)?;
+        Ok(number)
+    }
+}

@@ -1,0 +1,58 @@
+ghost use Rattle.std.specs.Prelude.{◌≡◌, ◌<◌, ◌≤◌, length, false, OnOk, OnErr};
+ghost use Rattle.hb_base.specs.Limits.{most_nodes};
+ghost use Rattle.hb_base.specs.NodeSet.{is_in};
+ghost use Rattle.rbc_core.specs.RootViews.{root_view, unheard, with_echo};
+
+use crate::voters::Voters;
+use hb_base::Bytes;
+use std::alloc::{AllocError, Global};
+
+// What was heard of a root.
+#[derive(Debug, Drop)]
+pub(crate) struct RootState {
+    pub(crate) echoes: Voters,
+    pub(crate) readies: Voters,
+
+    // The shards of the first k nodes that echoed, in order of receipt.
+    pub(crate) shards: Vec<(u8, Bytes)>,
+
+    // The value to which these k rebuild.
+    pub(crate) value: Option<Bytes>,
+}
+
+impl RootState {
+    // Nothing. It takes no memory.
+    pub(crate) fn new(alloc: Global) -> RootState
+        ensures { root_view result ≡ unheard }
+    {
+        RootState {
+            echoes: Voters::new(),
+            readies: Voters::new(),
+            shards: Vec::new(alloc),
+            value: None,
+        }
+    }
+
+    // Takes in the first valid Echo of a node, with its shard and the value to which the first k shards rebuild then. Want
+    // of memory changes nothing.
+    pub(crate) fn add_echo(
+        &mut self,
+        k: u8,
+        node: u8,
+        shard: Bytes,
+        value: Option<Bytes>,
+    ) -> Result<(), AllocError>
+        requires known { node < most_nodes }
+        requires new { is_in self.old.echoes node ≡ false }
+        requires few { length self.old.shards.items ≤ k }
+        ensures ok { OnOk result (root_view self.new ≡ with_echo k (root_view self.old) node shard value) }
+        ensures err { OnErr result (root_view self.new ≡ root_view self.old) }
+    {
+        if self.shards.len() < k as usize {
+            self.shards.push((node, shard))?;
+        }
+        self.echoes.add(node);
+        self.value = value;
+        Ok(())
+    }
+}

@@ -1,0 +1,11 @@
+pub mod Counts
+pub mod Hearings
+pub mod Histories
+pub mod Passing
+pub mod Seats
+pub mod Slots
+pub mod Repeats
+pub mod Sayings
+pub mod Validity
+pub mod Shapes
+pub mod Agreement
