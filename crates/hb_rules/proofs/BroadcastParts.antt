@@ -24,7 +24,7 @@ use Rattle.hb_rules.specs.BroadcastRows.{proposal_in, val_of, val_slot, echo_mad
 use Rattle.hb_rules.specs.Owing.{broadcast_slots}
 use Rattle.hb_rules.proofs.Counts.{count_nodes-same}
 use Rattle.hb_rules.proofs.Lists.{AllByRecursion-each, any_within, first_within, first_agree, filter_map_within, IsSource, first_source, none_if_not_some}
-use Rattle.hb_rules.proofs.Rows.{of_epoch-all}
+use Rattle.hb_rules.proofs.Rows.{of_epoch-hold}
 
 -- ---- what each slot makes
 
@@ -151,7 +151,7 @@ delivery_made-is c e heard root vote h = by (nat_le (2 * c.f + 1) (ready_count c
 
 -- ---- votes of the epoch's broadcast
 
-some_only : {A : Type 0} (b : Bool) (x : A) → is_some (if b then Some x else None) ≡ true → b ≡ true
+pub some_only : {A : Type 0} (b : Bool) (x : A) → is_some (if b then Some x else None) ≡ true → b ≡ true
 some_only true x h = refl
 some_only false x h = absurd (cc (h))
 
@@ -331,11 +331,11 @@ delivery_slot-part c e = record {
 
 -- ---- plain slots
 
-any_filled : (test : Vote → Bool) (own : List Vote) (vote : Vote) → test vote ≡ true → list_any test (own ++ vote ∷ []) ≡ true
+pub any_filled : (test : Vote → Bool) (own : List Vote) (vote : Vote) → test vote ≡ true → list_any test (own ++ vote ∷ []) ≡ true
 any_filled test own vote passes =
     list_any-append test own (vote ∷ []) ∙ or_right (list_any test own) (list_any test (vote ∷ [])) (or_left (test vote) false passes)
 
-any_stays : (test : Vote → Bool) (own more : List Vote) → list_any test own ≡ true → list_any test (own ++ more) ≡ true
+pub any_stays : (test : Vote → Bool) (own more : List Vote) → list_any test own ≡ true → list_any test (own ++ more) ≡ true
 any_stays test own more h = list_any-append test own more ∙ or_left (list_any test own) (list_any test more) h
 
 pub val_slot-plain : (c : Numbers) (i j e m : ℕ) → IsPlain (val_slot c i j e m)
@@ -361,7 +361,7 @@ echo_slot-plain c i j e = record {
   free = λ own other heard. refl;
 }
 
-some_where : {A : Type 0} (b : Bool) (x : A) → b ≡ true → is_some (if b then Some x else None) ≡ true
+pub some_where : {A : Type 0} (b : Bool) (x : A) → b ≡ true → is_some (if b then Some x else None) ≡ true
 some_where true x h = refl
 some_where false x h = absurd (cc (h))
 
@@ -444,14 +444,9 @@ rows_hold P c i j vals echo ready delivery = (
   (λ e. (echo e, tt), (λ e. (ready e, tt), (λ e. (delivery e, tt), tt))),
 )
 
-row_at : (P : ℕ → Slot Vote Hearing → Type 0) (e : ℕ) (rows : List (ℕ → List (Slot Vote Hearing)))
-    → AllByRecursion (λ row. (e : ℕ) → AllByRecursion (P e) (row e)) rows → AllByRecursion (λ row. AllByRecursion (P e) (row e)) rows
-row_at P e [] all = tt
-row_at P e (row ∷ rows) all = (all.0 e, row_at P e rows all.1)
-
 pub slots_hold : (P : ℕ → Slot Vote Hearing → Type 0) (c : Numbers) (i j e : ℕ)
     → AllByRecursion (λ row. (e : ℕ) → AllByRecursion (P e) (row e)) (broadcast_rows c i j) → AllByRecursion (P e) (broadcast_slots c i j e)
-slots_hold P c i j e all = of_epoch-all (P e) e (broadcast_rows c i j) (row_at P e (broadcast_rows c i j) all)
+slots_hold P c i j e all = of_epoch-hold P e (broadcast_rows c i j) all
 
 pub broadcast-parts : (c : Numbers) (i j : ℕ) → AreRows in_broadcast heard_in_broadcast in_broadcast (broadcast_rows c i j)
 broadcast-parts c i j =

@@ -68,7 +68,7 @@ echoed-is n e m vote part h = absurd (cc (h))
 
 -- ---- what was heard
 
-heard_spelled : (c : Numbers) (heard : List Hearing) → AreHeardSpelled c heard → (h : Hearing) → Contains heard h → HasSpelling c h.vote
+pub heard_spelled : (c : Numbers) (heard : List Hearing) → AreHeardSpelled c heard → (h : Hearing) → Contains heard h → HasSpelling c h.vote
 heard_spelled c heard spelled h stands = AllByRecursion-contains (λ (h : Hearing). HasSpelling c h.vote) heard h spelled stands
 
 -- the first proposal that was heard was heard

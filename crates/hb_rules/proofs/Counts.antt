@@ -21,6 +21,11 @@ pub count_nodes-same : (n : ℕ) (p q : ℕ → Bool) → ((a : ℕ) → p a ≡
 count_nodes-same zero p q same = refl
 count_nodes-same (suc n) p q same = rw (count_nodes-same n p q same, same n) refl
 
+-- where none passes the test
+pub count_nodes-none : (n : ℕ) (p : ℕ → Bool) → ((a : ℕ) → p a ≡ false) → count_nodes n p ≡ 0
+count_nodes-none zero p none = refl
+count_nodes-none (suc n) p none = rw (count_nodes-none n p none, none n) refl
+
 -- a count over more nodes is no less
 pub count_nodes-wider : (n m : ℕ) (p : ℕ → Bool) → n ≤ m → count_nodes n p ≤ count_nodes m p
 count_nodes-wider n zero p le = rw (let none : n ≡ 0 = omega arith in none) (omega arith)

@@ -9,6 +9,13 @@ pub mod FirstShards
 pub mod BroadcastParts
 pub mod BroadcastSlots
 pub mod MoreHeard
+pub mod AgreementParts
+pub mod FirstShares
+pub mod AgreementSlots
+pub mod LaneSlots
+pub mod DeskParts
+pub mod DeskSlots
+pub mod Lawful
 pub mod Histories
 pub mod Seats
 pub mod PlainBooks

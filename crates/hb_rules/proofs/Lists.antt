@@ -1,5 +1,5 @@
 -- Lists: what holds of each element, what filters keep, and where results come from.
-use Rattle.std.proofs.Common.{◌≡◌, ℕ, zero, suc, ◌<◌, Bool, true, false, ◌||◌, inl, inr, List, [], ◌∷◌, ◌++◌, Contains, Option, None, Some, if◌then◌else◌, refl, sym, ap, ◌∙◌, arith}
+use Rattle.std.proofs.Common.{◌≡◌, ℕ, zero, suc, ◌<◌, Bool, true, false, ◌||◌, inl, inr, List, [], ◌∷◌, ◌++◌, Contains, Option, None, Some, if◌then◌else◌, refl, sym, ap, ◌∙◌, map, arith}
 use Rattle.std.specs.List.{list_any, list_all, filter, filter_map, cons_option, AllByRecursion}
 use Rattle.std.specs.Option.{option_or, is_some}
 use Rattle.std.proofs.lemmas.Bool.{both_ways, and_parts, false_from_ne_true}
@@ -31,6 +31,10 @@ pub AllByRecursion-each : {A : Type 0} (P : A → Type 0) (k : ℕ) (f : ℕ →
 AllByRecursion-each P zero f holds = tt
 AllByRecursion-each P (suc k) f holds =
     AllByRecursion-append P (each k f) (f k) (AllByRecursion-each P k f (λ m below. holds m (omega arith))) (holds k (omega arith))
+
+pub AllByRecursion-map : {A B : Type 0} (P : B → Type 0) (f : A → B) (xs : List A) → AllByRecursion (λ x. P (f x)) xs → AllByRecursion P (map f xs)
+AllByRecursion-map P f [] all = tt
+AllByRecursion-map P f (x ∷ xs) all = (all.0, AllByRecursion-map P f xs all.1)
 
 -- what holds of each element holds of one that is contained
 pub AllByRecursion-contains : {A : Type 0} (P : A → Type 0) (xs : List A) (x : A) → AllByRecursion P xs → Contains xs x → P x

@@ -1,5 +1,5 @@
 -- What may be cast by some hearings may be cast by more.
-use Rattle.std.proofs.Common.{◌≡◌, ℕ, zero, suc, ◌≤◌, Bool, true, false, inl, inr, List, ◌++◌, Contains, arith}
+use Rattle.std.proofs.Common.{ℕ, zero, suc, ◌≤◌, Bool, true, false, inl, inr, List, ◌++◌, Contains, arith}
 use Rattle.std.proofs.lemmas.List.Elements.{All-weaker, Contains-append_left}
 use Rattle.hb_base.specs.Numbers.{Numbers}
 use Rattle.hb_wire.specs.declared.items.Item.{Item}
@@ -114,7 +114,7 @@ HasSettled-among c j e b own some all among settled = record {
   coin = HasCoin-among c e j settled.round some all b among settled.coin;
 }
 
-MayAgree-among : (c : Numbers) (i j : ℕ) (own : List Vote) (some all : List Hearing) (vote : Vote) → AreAmong some all
+pub MayAgree-among : (c : Numbers) (i j : ℕ) (own : List Vote) (some all : List Hearing) (vote : Vote) → AreAmong some all
     → MayAgree c i j own some vote → MayAgree c i j own all vote
 MayAgree-among c i j own some all (Est e r b) among may = (may.0, MayBegin-among c i j e r b own some all among may.1, may.2)
 MayAgree-among c i j own some all (Bval e r b) among may = (
@@ -149,7 +149,7 @@ IsAccepted-among c e some all list among accepted = record {
       (λ item stands. among.each (hearing item.node (Delivered e item.value)) stands) list accepted.values;
 }
 
-MayAtDesk-among : (c : Numbers) (own : List Vote) (some all : List Hearing) (vote : Vote) → AreAmong some all
+pub MayAtDesk-among : (c : Numbers) (own : List Vote) (some all : List Hearing) (vote : Vote) → AreAmong some all
     → MayAtDesk c own some vote → MayAtDesk c own all vote
 MayAtDesk-among c own some all (Propose e value) among may = may
 MayAtDesk-among c own some all (NoMore e) among may =

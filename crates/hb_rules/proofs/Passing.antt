@@ -1,5 +1,5 @@
 -- Going through slots: what is owed, that one list is owed, and that nothing is owed after it.
-use Rattle.std.proofs.Common.{◌≡◌, ℕ, zero, suc, ◌+◌, ◌≤◌, Bool, true, false, List, [], ◌∷◌, ◌++◌, length, Option, None, Some, if◌then◌else◌, refl, sym, ap, ◌∙◌, append_assoc, append-nil, length-append, arith}
+use Rattle.std.proofs.Common.{◌≡◌, ℕ, zero, suc, ◌+◌, ◌≤◌, Bool, true, false, List, [], ◌∷◌, ◌++◌, length, Option, None, Some, if◌then◌else◌, refl, sym, ap, ◌∙◌, append_assoc, append-nil, length-append, subst, arith}
 use Rattle.std.specs.List.{AllByRecursion}
 use Rattle.std.specs.Option.{option_to_list}
 use Rattle.hb_rules.specs.Slots.{Slot, owes, pass, passes, IsIdle, IsOwed, owed, IsGuarded, IsForgetful}
@@ -409,6 +409,12 @@ passes-InTurn May heard slots allowed (suc k) own =
     InTurn-append May own (pass slots own heard) (passes k slots (own ++ pass slots own heard) heard)
     (pass-InTurn May heard slots allowed own) (passes-InTurn May heard slots allowed k (own ++ pass slots own heard))
 
+pub IsOwed-InTurn : {V H : Type 0} (May : List V → V → Type 0) (heard : List H) (slots : List (Slot V H))
+    → AllByRecursion (IsAllowedBy May heard) slots
+    → (own votes : List V) → IsOwed slots own heard votes → InTurn May own votes
+IsOwed-InTurn {V} May heard slots allowed own votes owed =
+    subst (λ (votes : List V). InTurn May own votes) owed.gives (passes-InTurn May heard slots allowed owed.count own)
+
 -- the vote of a slot has a property, by what was heard
 pub record HasMade {V H : Type 0} (P : V → Type 0) (heard : List H) (slot : Slot V H) : Type 0 where
   pub has : (own : List V) (vote : V) → slot.choice own heard ≡ Some vote → P vote
@@ -428,3 +434,8 @@ passes-all P heard slots all zero own = tt
 passes-all P heard slots all (suc k) own =
     AllByRecursion-append P (pass slots own heard) (passes k slots (own ++ pass slots own heard) heard)
     (pass-all P heard slots all own) (passes-all P heard slots all k (own ++ pass slots own heard))
+
+pub IsOwed-all : {V H : Type 0} (P : V → Type 0) (heard : List H) (slots : List (Slot V H)) → AllByRecursion (HasMade P heard) slots
+    → (own votes : List V) → IsOwed slots own heard votes → AllByRecursion P votes
+IsOwed-all {V} P heard slots all own votes owed =
+    subst (λ (votes : List V). AllByRecursion P votes) owed.gives (passes-all P heard slots all owed.count own)

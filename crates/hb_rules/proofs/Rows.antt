@@ -29,6 +29,19 @@ by_rows-all P n [] all = tt
 by_rows-all P n (row ∷ rows) all =
     AllByRecursion-append P (each n row) (by_rows n rows) (AllByRecursion-each P n row all.0) (by_rows-all P n rows all.1)
 
+-- what holds of the slots of each epoch holds of those of one, and of all
+pub of_epoch-hold : {V H : Type 0} (P : ℕ → Slot V H → Type 0) (e : ℕ) (rows : List (ℕ → List (Slot V H)))
+    → AllByRecursion (λ row. (k : ℕ) → AllByRecursion (P k) (row k)) rows → AllByRecursion (P e) (of_epoch e rows)
+of_epoch-hold P e [] all = tt
+of_epoch-hold P e (row ∷ rows) all = AllByRecursion-append (P e) (row e) (of_epoch e rows) (all.0 e) (of_epoch-hold P e rows all.1)
+
+pub by_rows-hold : {V H : Type 0} (P : Slot V H → Type 0) (n : ℕ) (rows : List (ℕ → List (Slot V H)))
+    → AllByRecursion (λ row. (k : ℕ) → AllByRecursion P (row k)) rows → AllByRecursion P (by_rows n rows)
+by_rows-hold P n rows all =
+    by_rows-all P n rows
+    (AllByRecursion-weaker (λ row. (k : ℕ) → AllByRecursion P (row k)) (λ row. (k : ℕ) → k < n → AllByRecursion P (row k)) rows
+    (λ row holds k below. holds k) all)
+
 -- rows that look at a part of each epoch look at any wider part
 pub AreRows-wider : {V H : Type 0} (reads wide : ℕ → V → Bool) (hears loud : ℕ → H → Bool) (makes more : ℕ → V → Bool) (rows : List (ℕ → List (Slot V H)))
     → ((k : ℕ) (v : V) → reads k v ≡ true → wide k v ≡ true) → ((k : ℕ) (h : H) → hears k h ≡ true → loud k h ≡ true)
@@ -238,11 +251,6 @@ owed_by_epoch reads hears makes rows parts apart n e own heard h votes below dea
     owed_of_epoch reads hears makes rows parts apart n e own heard (heard ++ h ∷ []) votes below
     (λ k other. not_heard (hears k) heard h (deaf k other)) idle owed
 
-plain_at : {V H : Type 0} (e : ℕ) (rows : List (ℕ → List (Slot V H))) → AllByRecursion (λ row. (k : ℕ) → AllByRecursion IsPlain (row k)) rows
-    → AllByRecursion IsPlain (of_epoch e rows)
-plain_at e [] plain = tt
-plain_at e (row ∷ rows) plain = AllByRecursion-append IsPlain (row e) (of_epoch e rows) (plain.0 e) (plain_at e rows plain.1)
-
 -- the same for two parts, of which the first is plain
 pub owed_by_both : {V H : Type 0} (reads : ℕ → V → Bool) (hears : ℕ → H → Bool) (makes : ℕ → V → Bool) (first second : List (ℕ → List (Slot V H)))
     → AreRows reads hears makes (first ++ second) → AllByRecursion (λ row. (k : ℕ) → AllByRecursion IsPlain (row k)) first
@@ -254,6 +262,6 @@ pub owed_by_both : {V H : Type 0} (reads : ℕ → V → Bool) (hears : ℕ → 
 owed_by_both {V} {H} reads hears makes first second parts plain apart n e own heard h votes below deaf idle owed =
     let now : List H = heard ++ h ∷ [] in
     let both : IsOwed (of_epoch e first ++ of_epoch e second) own now (pass (of_epoch e first) own now ++ votes) =
-    IsOwed-plain (of_epoch e first) (of_epoch e second) own now votes (plain_at e first plain) owed in
+    IsOwed-plain (of_epoch e first) (of_epoch e second) own now votes (of_epoch-hold (λ k. IsPlain) e first plain) owed in
     owed_by_epoch reads hears makes (first ++ second) parts apart n e own heard h (pass (of_epoch e first) own now ++ votes) below deaf idle
     (rw (of_epoch-append e first second) both)

@@ -49,3 +49,10 @@ read_in_agreement e vote = in_agreement e vote || is_any_delivery e vote
 -- hearings that it looks at
 abbrev pub heard_in_agreement : ℕ → Hearing → Bool
 heard_in_agreement e h = in_agreement e h.vote || is_no_more e h.vote
+
+-- votes and hearings of the epoch, which are all that the slots of a lane look at there
+abbrev pub in_epoch : ℕ → Vote → Bool
+in_epoch e vote = epoch_of vote == e
+
+abbrev pub heard_in_epoch : ℕ → Hearing → Bool
+heard_in_epoch e h = in_epoch e h.vote

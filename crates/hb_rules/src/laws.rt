@@ -2,18 +2,26 @@
 
 ghost use Rattle.std.specs.Prelude.{◌≡◌, ◌≢◌, ℕ, ◌<◌, ◌≤◌, false, true, Bool, List, [], ◌∷◌, ◌++◌, filter};
 ghost use Rattle.std.specs.List.{list_all, AllByRecursion};
+ghost use Rattle.hb_base.specs.ByteLists.{AreBytes};
+ghost use Rattle.hb_base.specs.Limits.{IsTransaction};
 ghost use Rattle.hb_base.specs.Numbers.{Numbers, AreSound};
 ghost use Rattle.hb_wire.specs.declared.vote.Vote.{Vote};
+ghost use Rattle.hb_wire.specs.Votes.{epoch_of};
 ghost use Rattle.hb_rules.specs.Hearing.{Hearing};
 ghost use Rattle.hb_rules.specs.Slots.{Slot, pass, passes, IsIdle, IsOwed, owed, by_rows, of_epoch, IsPart, AreRows, IsGuarded, IsForgetful};
 ghost use Rattle.hb_rules.specs.Turns.{IsPlain, InTurn};
 ghost use Rattle.hb_rules.specs.Tested.{IsTested};
 ghost use Rattle.hb_rules.specs.Same.{AreSame};
-ghost use Rattle.hb_rules.specs.Parts.{in_broadcast, heard_in_broadcast};
+ghost use Rattle.hb_rules.specs.Parts.{in_broadcast, heard_in_broadcast, in_agreement, read_in_agreement, heard_in_agreement, in_epoch, heard_in_epoch};
 ghost use Rattle.hb_rules.specs.Broadcast.{MayBroadcast};
 ghost use Rattle.hb_rules.specs.BroadcastRows.{broadcast_rows};
-ghost use Rattle.hb_rules.specs.Owing.{broadcast_slots};
-ghost use Rattle.hb_rules.specs.Terms.{AreHeardSpelled, AreSpelled, AreAmong};
+ghost use Rattle.hb_rules.specs.Agreement.{MayAgree};
+ghost use Rattle.hb_rules.specs.AgreementRows.{agreement_rows};
+ghost use Rattle.hb_rules.specs.Owing.{broadcast_slots, agreement_slots, lane_slots, desk_slots};
+ghost use Rattle.hb_rules.specs.Desk.{MayAtDesk};
+ghost use Rattle.hb_rules.specs.DeskRows.{desk_rows};
+ghost use Rattle.hb_rules.specs.Rules.{MayCast};
+ghost use Rattle.hb_rules.specs.Terms.{is_proper, terms_of, AreHeardSpelled, AreSpelled, AreAmong, AreLawful};
 
 /// What is owed. One list is owed, and where each slot's vote fills it, so many passes as there are slots give it. Where
 /// nothing is owed, more passes add nothing, and nothing is owed once what was heard is forgotten. Slots whose choice does
@@ -100,4 +108,74 @@ pub fn broadcast_slot_laws()
         → InTurn (λ own vote. MayBroadcast c i j own all vote) own (pass (broadcast_slots c i j e) own some) }
     ensures spelled { (c : Numbers) → AreSound c → (i j e : ℕ) (own : List Vote) (heard : List Hearing) → AreHeardSpelled c heard
         → AreSpelled c (pass (broadcast_slots c i j e) own heard) }
+{}
+
+/// The slots of lane j of node i in the agreement, by both versions of the rules. Those of an epoch look at votes of its
+/// agreement and its delivery, and at hearings of its agreement and NoMore, and make votes of it; the vote of each fills
+/// it, and what fills it is not undone; a slot that makes nothing of what was heard makes nothing where nothing is heard;
+/// own votes count by tests alone. So one list is owed. It may be cast one vote after another by all that is heard, now or
+/// later, where what was heard has spellings; and in an epoch of the run it has spellings.
+pub fn agreement_slot_laws()
+    ensures parts { (c : Numbers) (i j : ℕ) → AreRows read_in_agreement heard_in_agreement in_agreement (agreement_rows c i j) }
+    ensures guarded { (c : Numbers) (i j : ℕ) → AllByRecursion (λ row. (e : ℕ) → AllByRecursion IsGuarded (row e)) (agreement_rows c i j) }
+    ensures forgetful { (c : Numbers) (i j : ℕ) → AllByRecursion (λ row. (e : ℕ) → AllByRecursion IsForgetful (row e)) (agreement_rows c i j) }
+    ensures tested { (c : Numbers) (i j : ℕ) → AllByRecursion (λ row. (e : ℕ) → AllByRecursion IsTested (row e)) (agreement_rows c i j) }
+    ensures owed { (c : Numbers) (i j e : ℕ) (own : List Vote) (heard : List Hearing)
+        → IsOwed (agreement_slots c i j e) own heard (owed (agreement_slots c i j e) own heard) }
+    ensures in_turn { (c : Numbers) → AreSound c → (i j e : ℕ) (own : List Vote) (some all : List Hearing) (votes : List Vote)
+        → AreHeardSpelled c some → AreAmong some all → IsOwed (agreement_slots c i j e) own some votes
+        → InTurn (λ own vote. MayAgree c i j own all vote) own votes }
+    ensures spelled { (c : Numbers) → AreSound c → (i j e : ℕ) → i < c.n → e < c.epochs → (own : List Vote) (heard : List Hearing) (votes : List Vote)
+        → IsOwed (agreement_slots c i j e) own heard votes → AreSpelled c votes }
+{}
+
+/// The slots of lane j of node i, of its broadcast and its agreement in all epochs. Those of an epoch look at its votes and
+/// hearings alone. So what one hearing makes owed, where nothing was owed before, is one pass over the broadcast's slots of
+/// its epoch, and then what the agreement's slots of that epoch owe. The vote of each slot fills it, and what fills it is
+/// not undone; a slot that makes nothing of what was heard makes nothing where nothing is heard; own votes count by tests
+/// alone. So one list is owed, and where what was heard has spellings it may be cast one vote after another by all that is
+/// heard, now or later, and has spellings.
+pub fn lane_slot_laws()
+    ensures parts { (c : Numbers) (i j : ℕ) → AreRows in_epoch heard_in_epoch in_epoch (broadcast_rows c i j ++ agreement_rows c i j) }
+    ensures hears { (c : Numbers) (i j : ℕ) (own : List Vote) (heard : List Hearing) (h : Hearing) (votes : List Vote) → epoch_of h.vote < c.epochs
+        → IsIdle (lane_slots c i j) own heard
+        → IsOwed (agreement_slots c i j (epoch_of h.vote)) (own ++ pass (broadcast_slots c i j (epoch_of h.vote)) own (heard ++ h ∷ [])) (heard ++ h ∷ []) votes
+        → IsOwed (lane_slots c i j) own (heard ++ h ∷ []) (pass (broadcast_slots c i j (epoch_of h.vote)) own (heard ++ h ∷ []) ++ votes) }
+    ensures guarded { (c : Numbers) (i j : ℕ) → AllByRecursion IsGuarded (lane_slots c i j) }
+    ensures forgetful { (c : Numbers) (i j : ℕ) → AllByRecursion IsForgetful (lane_slots c i j) }
+    ensures tested { (c : Numbers) (i j : ℕ) → AllByRecursion IsTested (lane_slots c i j) }
+    ensures owed { (c : Numbers) (i j : ℕ) (own : List Vote) (heard : List Hearing)
+        → IsOwed (lane_slots c i j) own heard (owed (lane_slots c i j) own heard) }
+    ensures in_turn { (c : Numbers) → AreSound c → (i j : ℕ) → j < c.n → (own : List Vote) (some all : List Hearing) (votes : List Vote)
+        → AreHeardSpelled c some → AreAmong some all → IsOwed (lane_slots c i j) own some votes
+        → InTurn (λ own vote. MayCast c i j own all vote) own votes }
+    ensures spelled { (c : Numbers) → AreSound c → (i j : ℕ) → i < c.n → (own : List Vote) (heard : List Hearing) (votes : List Vote)
+        → AreHeardSpelled c heard → IsOwed (lane_slots c i j) own heard votes → AreSpelled c votes }
+{}
+
+/// The slots of a desk at whose node transactions were submitted. The vote of each fills it, and what fills it is not
+/// undone; a slot that makes nothing of what was heard makes nothing where nothing is heard; own votes count by tests alone.
+/// So one list is owed. It may be cast one vote after another by all that is heard, now or later; each proposal has the
+/// value that the pool gives by the votes before it; and where what was heard has spellings, and each transaction is one
+/// that may be submitted, it has spellings.
+pub fn desk_slot_laws()
+    ensures guarded { (c : Numbers) (submitted : List (List ℕ)) → AllByRecursion (λ row. (e : ℕ) → AllByRecursion IsGuarded (row e)) (desk_rows c submitted) }
+    ensures forgetful { (c : Numbers) → AreSound c → (submitted : List (List ℕ))
+        → AllByRecursion (λ row. (e : ℕ) → AllByRecursion IsForgetful (row e)) (desk_rows c submitted) }
+    ensures tested { (c : Numbers) (submitted : List (List ℕ)) → AllByRecursion (λ row. (e : ℕ) → AllByRecursion IsTested (row e)) (desk_rows c submitted) }
+    ensures owed { (c : Numbers) (submitted : List (List ℕ)) (own : List Vote) (heard : List Hearing)
+        → IsOwed (desk_slots c submitted) own heard (owed (desk_slots c submitted) own heard) }
+    ensures in_turn { (c : Numbers) (submitted : List (List ℕ)) (own : List Vote) (some all : List Hearing) (votes : List Vote) → AreAmong some all
+        → IsOwed (desk_slots c submitted) own some votes → InTurn (λ own vote. MayAtDesk c own all vote) own votes }
+    ensures proper { (c : Numbers) (submitted : List (List ℕ)) (own : List Vote) (heard : List Hearing) (votes : List Vote)
+        → IsOwed (desk_slots c submitted) own heard votes → InTurn (λ own vote. is_proper c submitted own vote ≡ true) own votes }
+    ensures spelled { (c : Numbers) → AreSound c → (submitted : List (List ℕ)) → AllByRecursion IsTransaction submitted → AllByRecursion AreBytes submitted
+        → (own : List Vote) (heard : List Hearing) (votes : List Vote) → AreHeardSpelled c heard
+        → IsOwed (desk_slots c submitted) own heard votes → AreSpelled c votes }
+{}
+
+/// What each actor of a node of the run owes is lawful by its terms, where each transaction is one that may be submitted.
+pub fn term_laws()
+    ensures { (c : Numbers) → AreSound c → (submitted : List (List ℕ)) → AllByRecursion IsTransaction submitted → AllByRecursion AreBytes submitted
+        → (i x : ℕ) → i < c.n → AreLawful (terms_of c submitted i x) }
 {}

@@ -21,7 +21,10 @@ pub use actor::{Actor, ActorFault};
 pub use agreement_slot::AgreementSlot;
 pub use book::{Book, BookFault};
 pub use due::Due;
-pub use laws::{broadcast_slot_laws, row_laws, slot_laws};
+pub use laws::{
+    agreement_slot_laws, broadcast_slot_laws, desk_slot_laws, lane_slot_laws, row_laws, slot_laws,
+    term_laws,
+};
 pub use outbox::Outbox;
 pub use plain_book::{PlainBook, plain_book_laws};
 pub use plain_seat::PlainSeat;
