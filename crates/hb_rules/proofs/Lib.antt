@@ -17,5 +17,10 @@ pub mod DeskParts
 pub mod DeskSlots
 pub mod Lawful
 pub mod Histories
+pub mod Addressed
+pub mod Cast
+pub mod LaneVotes
+pub mod Once
+pub mod Said
 pub mod Seats
 pub mod PlainBooks

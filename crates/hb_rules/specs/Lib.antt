@@ -2,6 +2,7 @@ pub mod Slots
 pub mod Turns
 pub mod Claims
 pub mod Hearing
+pub mod Lanes
 pub mod Parts
 pub mod Code
 pub mod Coins

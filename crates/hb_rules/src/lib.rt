@@ -8,6 +8,7 @@ pub mod book;
 #[cfg(test)]
 mod book_tests;
 pub mod due;
+pub mod lanes;
 pub mod laws;
 pub mod outbox;
 pub mod plain_book;
@@ -21,6 +22,7 @@ pub use actor::{Actor, ActorFault};
 pub use agreement_slot::AgreementSlot;
 pub use book::{Book, BookFault};
 pub use due::Due;
+pub use lanes::{is_correct, posting_lane};
 pub use laws::{
     agreement_slot_laws, broadcast_slot_laws, desk_slot_laws, lane_slot_laws, row_laws, slot_laws,
     term_laws,

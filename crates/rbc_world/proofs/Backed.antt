@@ -1,6 +1,5 @@
 -- What stands behind the Ready and Delivered votes of correct nodes, and behind Val and Echo in the lane of a correct node.
 use Rattle.std.proofs.Common.{◌≡◌, ℕ, ◌+◌, ◌<◌, ◌≤◌, false, inl, inr, List, [], ◌∷◌, ◌++◌, Contains, arith}
-use Rattle.hb_base.specs.Counting.{count_nodes}
 use Rattle.hb_base.specs.Numbers.{Numbers, AreSound}
 use Rattle.hb_base.specs.NodeSet.{is_in}
 use Rattle.merkle_branch.specs.declared.Branch.{Branch}
@@ -13,23 +12,19 @@ use Rattle.hb_rules.specs.Hearing.{hearing, heard_in, heard_by, own_in, said_in}
 use Rattle.hb_rules.specs.Code.{data_count, HasQuorum, HasDelivery, ready_count}
 use Rattle.hb_rules.specs.Rules.{MayCast}
 use Rattle.hb_rules.specs.History.{MayFollow, IsLegal}
-use Rattle.hb_rules.proofs.Counts.{count_nodes-wider, correct_member, shared_correct}
 use Rattle.hb_rules.proofs.Among.{Grows, HasQuorum-grows, HasDelivery-grows, ready_count-grows}
-use Rattle.rbc_world.proofs.Histories.{AreAddressed, addressed_induction}
-use Rattle.rbc_world.proofs.Cast.{newly_cast, cast_stays, heard_cast, proposal_cast}
-use Rattle.rbc_world.proofs.Shown.{heard-said, said-stays, ready_said, echo_said}
+use Rattle.hb_rules.proofs.Addressed.{AreAddressed, addressed_induction}
+use Rattle.hb_rules.proofs.Cast.{newly_cast, cast_stays, heard_cast, IsOfDesk-proposal, desk_cast, was_allowed}
+use Rattle.hb_rules.proofs.Said.{heard-said, said-stays, correct_said, both_said}
+use Rattle.rbc_world.proofs.Shown.{ready_said, echo_said}
 use Rattle.rbc_world.proofs.Once.{one_echo}
-
-pub few_liars : (c : Numbers) → AreSound c → count_nodes c.n (is_in c.liars) ≤ c.f
-few_liars c sound = omega (arith, sound.few, count_nodes-wider c.n 16 (is_in c.liars) sound.nodes.1)
 
 -- of more than f nodes that are ready one is correct
 pub ready_correct : (c : Numbers) (x e : ℕ) (root : List ℕ) (history : List Post) → AreSound c → c.f + 1 ≤ ready_count c.n e root (said_in c x history)
     → (a : ℕ) × (a < c.n) × (is_in c.liars a ≡ false) × Contains (own_in c a x history) (Ready e root)
 ready_correct c x e root history sound many =
-    let found =
-    correct_member c.n c.f (is_in c.liars) (λ a. said_in c x history a (is_ready e root)) (few_liars c sound) (omega (arith, many)) in
-    (found.0, found.1, found.3, ready_said c x e found.0 root history found.2)
+    let found = correct_said c x history (λ a. is_ready e root) sound many in
+    (found.0, found.1.known, found.1.correct, ready_said c x e found.0 root history found.1.said)
 
 -- ---- Ready and Delivered
 
@@ -99,12 +94,9 @@ delivery_backed c x e i value sound history legal correct h = (are_backed c x so
 -- only lanes deliver
 pub delivery_lane : (c : Numbers) (i x e : ℕ) (value : List ℕ) → is_in c.liars i ≡ false → (history : List Post) → IsLegal c history
     → Contains (own_in c i x history) (Delivered e value) → x < c.n
-delivery_lane c i x e value correct history legal =
-    addressed_induction c (λ (posts : List Post). Contains (own_in c i x posts) (Delivered e value) → x < c.n) (λ none. absurd (omega (arith, none.1)))
-    (λ before post addressed holds follows h. elim (newly_cast c i x before post (Delivered e value) correct follows h) [
-      | inl earlier ↦ holds earlier
-      | inr new ↦ elim new.may [ inl may ↦ may.0 | inr may ↦ absurd may.1 ]
-    ]) history legal
+delivery_lane c i x e value correct history legal delivered =
+    let was = was_allowed c i x correct history legal (Delivered e value) delivered in
+    elim was.may [ inl may ↦ may.0 | inr may ↦ absurd may.1 ]
 
 -- ---- quorums
 
@@ -114,11 +106,10 @@ pub quorums_agree : (c : Numbers) (x e : ℕ) (root other : List ℕ) (history :
     → root ≡ other
 quorums_agree c x e root other history sound legal first second =
     let found =
-    shared_correct c.n c.f (is_in c.liars) (λ a. said_in c x history a (is_echo c.n e root a)) (λ a. said_in c x history a (is_echo c.n e other a))
-    (few_liars c sound) (omega (arith, first.echoes, second.echoes, sound.enough)) in
-    let one = echo_said c x e found.0 root history found.2 in
-    let two = echo_said c x e found.0 other history found.3 in
-    one_echo c found.0 x e found.4 history legal root other one.0 two.0 one.1 two.1 one.2 two.2
+    both_said c x history (λ a. is_echo c.n e root a) (λ a. is_echo c.n e other a) sound (omega (arith, first.echoes, second.echoes, sound.enough)) in
+    let one = echo_said c x e found.0 root history found.1.said in
+    let two = echo_said c x e found.0 other history found.2.said in
+    one_echo c found.0 x e found.1.correct history legal root other one.0 two.0 one.1 two.1 one.2 two.2
 
 -- ---- Val and Echo in the lane of a correct node
 
@@ -154,7 +145,7 @@ val_source c x e m root shard branch history (inl may) =
     let part = may.1.1 in
     record {
       value = part.value;
-      proposed = proposal_cast c x x x e part.value history part.proposed;
+      proposed = desk_cast c x x x (Propose e part.value) history (IsOfDesk-proposal c.n e part.value) part.proposed;
       shards = part.coded.shards;
       encoding = part.coded.encoding;
       root_is = part.coded.root_is;
@@ -196,8 +187,6 @@ pub quorum_proposed : (c : Numbers) (x e : ℕ) (root : List ℕ) (history : Lis
     → HasQuorum c e root (said_in c x history)
     → IsProposedRoot c x e root history
 quorum_proposed c x e root history sound legal sender quorum =
-    let found =
-    correct_member c.n c.f (is_in c.liars) (λ a. said_in c x history a (is_echo c.n e root a)) (few_liars c sound)
-    (omega (arith, quorum.echoes, sound.enough)) in
-    let shown = echo_said c x e found.0 root history found.2 in
-    (are_sourced c x sender history legal).echoes e found.0 root shown.0 shown.1 found.3 shown.2
+    let found = correct_said c x history (λ a. is_echo c.n e root a) sound (omega (arith, quorum.echoes, sound.enough)) in
+    let shown = echo_said c x e found.0 root history found.1.said in
+    (are_sourced c x sender history legal).echoes e found.0 root shown.0 shown.1 found.1.correct shown.2

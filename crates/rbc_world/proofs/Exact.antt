@@ -1,8 +1,8 @@
 -- Claims of posts are the votes that correct nodes have cast: one claim for each place is agreement, and deliveries that
 -- were all proposed are validity.
-use Rattle.std.proofs.Common.{◌≡◌, ℕ, ◌+◌, ◌*◌, ◌/◌, ◌<◌, true, false, ◌&&◌, ◌==◌, not, nat_lt, List, [], ◌++◌, Contains, Option, None, Some, if◌then◌else◌, drop, slice_get, refl, sym, ap, ap₂, ◌∙◌, subst, arith, append-nil}
+use Rattle.std.proofs.Common.{◌≡◌, ℕ, ◌+◌, ◌*◌, ◌/◌, ◌<◌, true, false, ◌&&◌, ◌==◌, List, [], ◌++◌, Contains, Option, Some, drop, slice_get, refl, sym, ap, ap₂, ◌∙◌, subst, arith, append-nil}
 use Rattle.std.specs.Option.{option_and_then}
-use Rattle.std.proofs.lemmas.Bool.{eqb-true, eq-eqb, and_parts, and_from, not-true, not_from_false, ltb-true, lt-ltb}
+use Rattle.std.proofs.lemmas.Bool.{eqb-true, eq-eqb, and_parts, and_from}
 use Rattle.std.proofs.lemmas.Option.{cond_some, option_and_then_some}
 use Rattle.hb_base.specs.Limits.{most_epochs}
 use Rattle.hb_base.specs.Numbers.{Numbers}
@@ -13,12 +13,14 @@ use Rattle.hb_wire.specs.declared.post.Post.{Post}
 use Rattle.hb_wire.specs.Votes.{kind_of, epoch_of, sized_bytes, Spells}
 use Rattle.hb_wire.proofs.VoteLemmas.{vote_takes}
 use Rattle.hb_rules.specs.Hearing.{spelled, own_in}
+use Rattle.hb_rules.specs.Lanes.{is_correct, posting_lane}
 use Rattle.hb_rules.specs.Ledger.{IsCorrect}
 use Rattle.rbc_world.specs.declared.claims.Kind.{Kind}
 use Rattle.rbc_world.specs.declared.claims.Kind.TheVariants.{Ready, Delivered, Propose}
 use Rattle.rbc_world.specs.Agreed.{ReadiesAgree, DeliveriesAgree, DeliveriesAreProposed, IsAgreed}
-use Rattle.rbc_world.specs.Claimed.{code_of, is_correct, lane_of, place_of, body_of, claimed, claim_of, claim_at, entry, AreOne, AreEntries, IsProposedAt, AreLeft, AreNone}
-use Rattle.rbc_world.proofs.Cast.{IsCastBy, cast_from, cast_stands}
+use Rattle.rbc_world.specs.Claimed.{code_of, lane_of, place_of, body_of, claimed, claim_of, claim_at, entry, AreOne, AreEntries, IsProposedAt, AreLeft, AreNone}
+use Rattle.hb_rules.proofs.Cast.{IsCastBy, cast_from, cast_stands}
+use Rattle.hb_rules.proofs.LaneVotes.{correct_is, correct_from, of_lane, lane_from}
 use Rattle.rbc_world.proofs.Striking.{AreProposed, proposed_from_none, none_from_proposed}
 use Rattle.rbc_world.proofs.FirstClaims.{given_stands, entries_one}
 
@@ -58,39 +60,6 @@ claim_from : (c : Numbers) (kind : Kind) (post : Post) (lane : ℕ) (vote : Vote
 claim_from c kind post lane vote lane_is spells code = rw (lane_is, spells, code) refl
 
 -- ---- lanes and places
-
-correct_is : (c : Numbers) (i : ℕ) → is_correct c i ≡ true → IsCorrect c i
-correct_is c i h =
-    let parts = and_parts (nat_lt i c.n) (not (is_in c.liars i)) h in
-    record { known = ltb-true i c.n parts.0; honest = not-true (is_in c.liars i) parts.1 }
-
-correct_from : (c : Numbers) (i : ℕ) → IsCorrect c i → is_correct c i ≡ true
-correct_from c i correct =
-    and_from (nat_lt i c.n) (not (is_in c.liars i)) (lt-ltb i c.n correct.known) (not_from_false (is_in c.liars i) correct.honest)
-
--- what lanes post, and not desks
-abbrev lane_at : Numbers → Post → Option ℕ
-lane_at c post = if is_correct c post.from && nat_lt post.actor c.n then Some post.actor else None
-
--- a post of a lane of a correct node
-record IsOfLane (c : Numbers) (post : Post) (lane : ℕ) : Type 0 where
-  correct : IsCorrect c post.from
-  actor : post.actor ≡ lane
-  inside : lane < c.n
-
-of_lane : (c : Numbers) (post : Post) (lane : ℕ) → lane_at c post ≡ Some lane → IsOfLane c post lane
-of_lane c post lane h =
-    let chosen = cond_some (is_correct c post.from && nat_lt post.actor c.n) post.actor lane h in
-    let parts = and_parts (is_correct c post.from) (nat_lt post.actor c.n) chosen.0 in
-    let inside : post.actor < c.n = ltb-true post.actor c.n parts.1 in
-    record { correct = correct_is c post.from parts.0; actor = chosen.1; inside = subst (λ (x : ℕ). x < c.n) chosen.1 inside }
-
-lane_from : (c : Numbers) (post : Post) (i lane : ℕ) → IsCorrect c i → lane < c.n → post.from ≡ i → post.actor ≡ lane → lane_at c post ≡ Some lane
-lane_from c post i lane correct inside from actor =
-    let right : (is_correct c post.from && nat_lt post.actor c.n) ≡ true =
-    and_from (is_correct c post.from) (nat_lt post.actor c.n) (ap (is_correct c) from ∙ correct_from c i correct)
-    (ap (λ (x : ℕ). nat_lt x c.n) actor ∙ lt-ltb lane c.n inside) in
-    rw right (ap (λ (x : ℕ). Some x) actor)
 
 -- a post of the desk of a correct node
 record IsOfDesk (c : Numbers) (post : Post) (lane : ℕ) : Type 0 where
@@ -149,7 +118,7 @@ propose_is vote h = absurd (cc (h))
 
 -- the votes of a kind that lanes cast, by what they say of an epoch
 record IsLaneKind (kind : Kind) (make : ℕ → List ℕ → Vote) : Type 0 where
-  lane : (c : Numbers) (post : Post) → lane_of c kind post ≡ lane_at c post
+  lane : (c : Numbers) (post : Post) → lane_of c kind post ≡ posting_lane c post
   code : (e : ℕ) (content : List ℕ) → (kind_of (make e content) == code_of kind) ≡ true
   epoch : (e : ℕ) (content : List ℕ) → epoch_of (make e content) ≡ e
   shape : (vote : Vote) → (kind_of vote == code_of kind) ≡ true → (content : List ℕ) × (vote ≡ make (epoch_of vote) content)

@@ -1,5 +1,3 @@
-pub mod Histories
-pub mod Cast
 pub mod Shown
 pub mod Once
 pub mod Backed

@@ -1,10 +1,9 @@
--- What was heard was said, and what was said stays said; and the votes behind what some node has shown.
-use Rattle.std.proofs.Common.{◌≡◌, ℕ, ◌<◌, Bool, true, false, ◌&&◌, ◌==◌, nat_lt, List, ◌++◌, Contains, Option, None, Some, if◌then◌else◌, refl, sym, ap, ◌∙◌, subst}
+-- The votes behind what some node has shown.
+use Rattle.std.proofs.Common.{◌≡◌, ℕ, Bool, true, false, ◌&&◌, ◌==◌, nat_lt, List, Contains, Option, None, Some, if◌then◌else◌, refl, sym, ap, ◌∙◌, subst}
 use Rattle.std.specs.Str.{bytes_eq}
 use Rattle.std.proofs.lemmas.Bool.{eqb-true, and_parts}
 use Rattle.std.proofs.lemmas.Slice.Eq.{bytes_eq-Decides}
 use Rattle.hb_base.specs.Numbers.{Numbers}
-use Rattle.hb_base.specs.NodeSet.{is_in}
 use Rattle.merkle_branch.specs.declared.Branch.{Branch}
 use Rattle.merkle_branch.specs.Branches.{is_branch, IsBranch}
 use Rattle.merkle_branch.proofs.Tested.{is_branch-is}
@@ -12,37 +11,9 @@ use Rattle.hb_wire.specs.declared.vote.Vote.{Vote}
 use Rattle.hb_wire.specs.declared.vote.Vote.TheVariants.{Echo, Ready}
 use Rattle.hb_wire.specs.declared.post.Post.{Post}
 use Rattle.hb_rules.specs.Claims.{echoed, readied, are_these, has_root, has_both, is_echo, is_shard_echo, is_ready}
-use Rattle.hb_rules.specs.Hearing.{Hearing, heard_in, heard_by, own_in, said_in}
-use Rattle.hb_rules.proofs.Among.{Grows, any_stands}
-use Rattle.hb_rules.proofs.Lists.{list_any-from}
+use Rattle.hb_rules.specs.Hearing.{own_in, said_in}
+use Rattle.hb_rules.proofs.Among.{any_stands}
 use Rattle.hb_rules.proofs.BroadcastSlots.{readied-is}
-use Rattle.rbc_world.proofs.Histories.{AreAddressed}
-use Rattle.rbc_world.proofs.Cast.{cast_stays, heard_cast}
-
--- ---- growth
-
--- what a lane of a correct node heard, the lanes of its number have said
-pub heard-said : (c : Numbers) (i x : ℕ) (history : List Post) → AreAddressed c history → x < c.n → is_in c.liars i ≡ false
-    → Grows (heard_by (heard_in c i x history)) (said_in c x history)
-heard-said c i x history addressed lane correct = record {
-  grows = λ a test away h.
-      let passes : Hearing → Bool = λ g. (g.from == a) && test g.vote in
-      let found = any_stands passes (heard_in c i x history) h in
-      let parts = and_parts (found.0.from == a) (test found.0.vote) found.2 in
-      let cast = heard_cast c i x history found.0 addressed lane correct found.1 (away.away found.0.vote parts.1) in
-      list_any-from test (own_in c a x history) found.0.vote
-      (subst (λ (b : ℕ). Contains (own_in c b x history) found.0.vote) (eqb-true found.0.from a parts.0) cast) parts.1;
-}
-
--- what was said stays said
-pub said-stays : (c : Numbers) (x : ℕ) (history more : List Post) → Grows (said_in c x history) (said_in c x (history ++ more))
-said-stays c x history more = record {
-  grows = λ a test away h.
-      let found = any_stands test (own_in c a x history) h in
-      list_any-from test (own_in c a x (history ++ more)) found.0 (cast_stays c a x history more found.0 found.1) found.2;
-}
-
--- ---- what claims say
 
 these_are : (bytes : List ℕ) (o : Option (List ℕ)) → are_these bytes o ≡ true → o ≡ Some bytes
 these_are bytes None h = absurd (cc (h))

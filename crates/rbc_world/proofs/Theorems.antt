@@ -16,8 +16,8 @@ use Rattle.hb_rules.specs.Strings.{IsHashed, NoCollision}
 use Rattle.hb_rules.proofs.FirstShards.{data_count-some}
 use Rattle.rbc_world.specs.Agreed.{ReadiesAgree, DeliveriesAgree, DeliveriesAreProposed, ProposalsAgree, IsAgreed}
 use Rattle.rbc_world.specs.Backing.{HasOneCodeword, RootsAreBound, IsBacked}
-use Rattle.rbc_world.proofs.Histories.{legal_addressed}
-use Rattle.rbc_world.proofs.Cast.{cast_fits}
+use Rattle.hb_rules.proofs.Addressed.{legal_addressed}
+use Rattle.hb_rules.proofs.Cast.{cast_fits}
 use Rattle.rbc_world.proofs.Once.{one_proposal}
 use Rattle.rbc_world.proofs.Backed.{ready_correct, ready_backed, delivery_backed, delivery_lane, quorums_agree, IsProposedRoot, quorum_proposed}
 use Rattle.rbc_world.proofs.Binding.{AreHashed, one_tree, echoed-hashed, one_codeword}

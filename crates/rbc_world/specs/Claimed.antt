@@ -1,6 +1,6 @@
 -- What posts of correct nodes claim of the broadcasts: a root that a lane is ready for, a value that it delivers or that a
 -- desk proposes. The letters: e is an epoch, s the place of a lane and an epoch.
-use Rattle.std.specs.Prelude.{◌≡◌, ◌≢◌, ◌⊎◌, ℕ, ◌+◌, ◌*◌, ◌/◌, Bool, false, ◌&&◌, ◌==◌, not, nat_lt, List, Option, Some, None, if◌then◌else◌, length, Contains, slice_get, slice_index_or}
+use Rattle.std.specs.Prelude.{◌≡◌, ◌≢◌, ◌⊎◌, ℕ, ◌+◌, ◌*◌, ◌/◌, Bool, false, ◌&&◌, ◌==◌, List, Option, Some, None, if◌then◌else◌, length, Contains, slice_get, slice_index_or}
 use Rattle.std.specs.List.{flat_map}
 use Rattle.std.specs.Option.{option_and_then}
 use Rattle.hb_base.specs.Limits.{most_epochs}
@@ -10,6 +10,7 @@ use Rattle.hb_wire.specs.declared.vote.Vote.{Vote}
 use Rattle.hb_wire.specs.declared.post.Post.{Post}
 use Rattle.hb_wire.specs.Votes.{kind_of, epoch_of, row, field_bytes}
 use Rattle.hb_rules.specs.Hearing.{spelled}
+use Rattle.hb_rules.specs.Lanes.{is_correct, posting_lane}
 use Rattle.rbc_world.specs.declared.claims.Kind.{Kind}
 use Rattle.rbc_world.specs.declared.claims.Kind.TheVariants.{Ready, Delivered, Propose}
 use Rattle.rbc_world.specs.declared.claims.Claim.{Claim}
@@ -20,15 +21,11 @@ code_of Ready = 0x03
 code_of Delivered = 0x04
 code_of Propose = 0x10
 
--- whether a node is of the run and no liar
-abbrev pub is_correct : Numbers → ℕ → Bool
-is_correct c i = nat_lt i c.n && not (is_in c.liars i)
-
 -- The lane in whose broadcasts a post of a correct node has its part: a lane is ready and delivers in those of its own
 -- number, and a desk proposes in those of its node's.
 abbrev pub lane_of : Numbers → Kind → Post → Option ℕ
 lane_of c Propose post = if is_correct c post.from && (post.actor == c.n) then Some post.from else None
-lane_of c kind post = if is_correct c post.from && nat_lt post.actor c.n then Some post.actor else None
+lane_of c kind post = posting_lane c post
 
 -- the place of a lane and an epoch in a table of all
 abbrev pub place_of : ℕ → ℕ → ℕ

@@ -3,10 +3,11 @@
 ghost use Rattle.std.specs.Prelude.{◌≡◌, ℕ, ◌*◌, ◌+◌, ◌/◌, ◌<◌, ◌↔◌, IfSome, IsTrue, Some};
 ghost use Rattle.std.specs.Option.{option_map};
 ghost use Rattle.hb_base.specs.Limits.{most_epochs};
-ghost use Rattle.rbc_world.specs.Claimed.{code_of, is_correct, lane_of, claim_of, shown, place_of};
+ghost use Rattle.rbc_world.specs.Claimed.{code_of, lane_of, claim_of, shown, place_of};
 
 use hb_base::Config;
 use hb_base::limits::{MOST_EPOCHS, MOST_NODES};
+use hb_rules::{is_correct, posting_lane};
 use hb_wire::{Post, glance};
 
 // How many epochs each lane has.
@@ -40,25 +41,17 @@ pub(crate) struct Claim<'a> {
     pub(crate) body: &'a [u8],
 }
 
-/// Whether a node is of the run and no liar.
-pub(crate) fn is_correct(config: &Config, node: u8) -> bool
-    ensures { result ≡ is_correct config.now node }
-{
-    node < config.n() && !config.liars().has(node)
-}
-
 // The lane in whose broadcasts a post of a correct node has its part.
 fn lane_of(config: &Config, kind: Kind, post: &Post) -> Option<u8>
     ensures exact { result ≡ lane_of config.now kind post.now }
     ensures inside { IfSome result (λ lane. lane < 16) }
 {
-    if !is_correct(config, post.from) {
-        return None;
-    }
     match kind {
-        Kind::Propose if post.actor == config.n() => Some(post.from),
-        Kind::Ready | Kind::Delivered if post.actor < config.n() => Some(post.actor),
-        _ => None,
+        Kind::Ready | Kind::Delivered => posting_lane(config, post),
+        Kind::Propose if is_correct(config, post.from) && post.actor == config.n() => {
+            Some(post.from)
+        }
+        Kind::Propose => None,
     }
 }
 

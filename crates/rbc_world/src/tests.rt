@@ -3,8 +3,8 @@
 
 use super::*;
 use hb_base::{Bytes, Config, NodeSet};
-use hb_wire::{Post, To};
 use hb_rules::Report;
+use hb_wire::{Post, To};
 use std::alloc::{AllocError, Global};
 use std::test::Fail;
 

@@ -1,5 +1,5 @@
 -- Votes that actors have cast and heard in a history, and the posts from which they come.
-use Rattle.std.proofs.Common.{◌≡◌, ◌≢◌, ℕ, ◌<◌, ◌⊎◌, nat_lt, Bool, true, false, ◌&&◌, ◌==◌, inl, inr, List, [], ◌∷◌, ◌++◌, Contains, Option, None, Some, if◌then◌else◌, refl, sym, ap, ◌∙◌, subst, arith}
+use Rattle.std.proofs.Common.{◌≡◌, ◌≢◌, ℕ, ◌<◌, ◌⊎◌, nat_lt, Bool, true, false, ◌&&◌, ◌==◌, inl, inr, List, [], ◌∷◌, ◌++◌, Contains, Option, None, Some, if◌then◌else◌, refl, sym, ap, ◌∙◌, subst, arith, append_assoc}
 use Rattle.std.proofs.lemmas.Bool.{eqb-true, eq-eqb, and_parts, false_from_ne_true}
 use Rattle.std.proofs.lemmas.Option.{cond_some}
 use Rattle.std.proofs.lemmas.List.Elements.{Contains-append_left, Contains-append_cases, filter_map-append}
@@ -8,16 +8,16 @@ use Rattle.hb_base.specs.NodeSet.{is_in}
 use Rattle.hb_wire.specs.declared.vote.To.{To}
 use Rattle.hb_wire.specs.declared.vote.To.TheVariants.{Book, Home, All, Node}
 use Rattle.hb_wire.specs.declared.vote.Vote.{Vote}
-use Rattle.hb_wire.specs.declared.vote.Vote.TheVariants.{Propose}
+use Rattle.hb_wire.specs.declared.vote.Vote.TheVariants.{Propose, NoMore}
 use Rattle.hb_wire.specs.declared.post.Post.{Post}
 use Rattle.hb_wire.specs.Votes.{address_of, IsVote}
 use Rattle.hb_wire.specs.Addresses.{is_at_home, goes_to, reaches}
 use Rattle.hb_wire.proofs.VoteLemmas.{vote_again}
 use Rattle.hb_rules.specs.Hearing.{Hearing, hearing, heeds, is_within, spelled, name_at, hearing_at, hearing_of, heard_in, is_by, vote_by, own_in}
 use Rattle.hb_rules.specs.Rules.{MayCast}
-use Rattle.hb_rules.specs.History.{IsCorrectPost, MayFollow, IsAllowed}
+use Rattle.hb_rules.specs.History.{IsCorrectPost, MayFollow, IsAllowed, IsLegal}
 use Rattle.hb_rules.proofs.Lists.{source_of, Contains-filter_map, Contains-cases}
-use Rattle.rbc_world.proofs.Histories.{AreAddressed}
+use Rattle.hb_rules.proofs.Addressed.{AreAddressed, addressed_induction, IsLegal-front}
 
 -- ---- what a post casts
 
@@ -117,6 +117,7 @@ pub record IsHeard (c : Numbers) (i x : ℕ) (post : Post) (h : Hearing) : Type 
   pub is : spelled c post ≡ Some vote
   pub reached : reaches c.n post i x ≡ true
   pub heeded : heeds c.n i x post.from post.actor vote ≡ true
+  pub within : is_within c vote ≡ true
   pub hearing_is : hearing (name_at c x post) vote ≡ h
 
 heard_is : (c : Numbers) (i x : ℕ) (post : Post) (h : Hearing) → hearing_of c i x post ≡ Some h → IsHeard c i x post h
@@ -128,7 +129,8 @@ heard_is c i x post h gives = by (spelled c post) refl gives
         let heeded = heeds c.n i x post.from post.actor vote in
         let chosen = cond_some (reaches c.n post i x && (heeded && is_within c vote)) (hearing (name_at c x post) vote) h gives in
         let parts = and_parts (reaches c.n post i x) (heeded && is_within c vote) chosen.0 in
-        record { vote = vote; is = is; reached = parts.0; heeded = (and_parts heeded (is_within c vote) parts.1).0; hearing_is = chosen.1 }
+        let inner = and_parts heeded (is_within c vote) parts.1 in
+        record { vote = vote; is = is; reached = parts.0; heeded = inner.0; within = inner.1; hearing_is = chosen.1 }
 
 pub heard_from : (c : Numbers) (i x : ℕ) (history : List Post) (h : Hearing) → Contains (heard_in c i x history) h
     → (post : Post) × Contains history post × IsHeard c i x post h
@@ -177,17 +179,63 @@ heard_cast c i x history h addressed lane correct stands away =
     actor : source.0.actor ≡ x
     actor = goes_same c.n source.0.to source.0.from source.0.actor i x source.2.reached stays
 
-heeds_proposal : (n i x a y e : ℕ) (value : List ℕ) → heeds n i x a y (Propose e value) ≡ true → (a ≡ i) × (y ≡ n)
-heeds_proposal n i x a y e value h =
+-- a vote that an actor takes heed of from its own node's desk alone
+pub record IsOfDesk (n : ℕ) (vote : Vote) : Type 0 where
+  pub desk : (i x a y : ℕ) → heeds n i x a y vote ≡ true → (a ≡ i) × (y ≡ n)
+
+own_desk : (n i x a y : ℕ) → (nat_lt x n && ((a == i) && (y == n))) ≡ true → (a ≡ i) × (y ≡ n)
+own_desk n i x a y h =
     let home = and_parts (a == i) (y == n) (and_parts (nat_lt x n) ((a == i) && (y == n)) h).1 in
     (eqb-true a i home.0, eqb-true y n home.1)
 
--- a proposal that an actor heard, its own node's desk has cast
-pub proposal_cast : (c : Numbers) (i x a e : ℕ) (value : List ℕ) (history : List Post) → Contains (heard_in c i x history) (hearing a (Propose e value))
-    → Contains (own_in c i c.n history) (Propose e value)
-proposal_cast c i x a e value history stands =
-    let source = heard_from c i x history (hearing a (Propose e value)) stands in
-    let vote_is : source.2.vote ≡ Propose e value = ap (λ (g : Hearing). g.vote) source.2.hearing_is in
-    let home = heeds_proposal c.n i x source.0.from source.0.actor e value (rw vote_is at source.2.heeded) in
-    cast_stands c i c.n history source.0 (Propose e value) source.1
+pub IsOfDesk-proposal : (n e : ℕ) (value : List ℕ) → IsOfDesk n (Propose e value)
+IsOfDesk-proposal n e value = record { desk = λ i x a y h. own_desk n i x a y h }
+
+pub IsOfDesk-no_more : (n e : ℕ) → IsOfDesk n (NoMore e)
+IsOfDesk-no_more n e = record { desk = λ i x a y h. own_desk n i x a y h }
+
+-- such a vote that an actor heard, its own node's desk has cast
+pub desk_cast : (c : Numbers) (i x a : ℕ) (vote : Vote) (history : List Post) → IsOfDesk c.n vote
+    → Contains (heard_in c i x history) (hearing a vote)
+    → Contains (own_in c i c.n history) vote
+desk_cast c i x a vote history of_desk stands =
+    let source = heard_from c i x history (hearing a vote) stands in
+    let vote_is : source.2.vote ≡ vote = ap (λ (g : Hearing). g.vote) source.2.hearing_is in
+    let home = of_desk.desk i x source.0.from source.0.actor (rw vote_is at source.2.heeded) in
+    cast_stands c i c.n history source.0 vote source.1
     (record { from = home.0; actor = home.1; is = source.2.is ∙ ap Some vote_is })
+
+-- ---- when a vote was allowed
+
+-- after some posts at the front of a history, which are legal, the actor was allowed to cast the vote
+pub record WasAllowed (c : Numbers) (i x : ℕ) (history : List Post) (vote : Vote) : Type 0 where
+  pub before : List Post
+  pub later : List Post
+  pub is : history ≡ before ++ later
+  pub legal : IsLegal c before
+  pub addressed : AreAddressed c before
+  pub may : MayCast c i x (own_in c i x before) (heard_in c i x before) vote
+
+later_allowed : (c : Numbers) (i x : ℕ) (history : List Post) (post : Post) (vote : Vote) → WasAllowed c i x history vote
+    → WasAllowed c i x (history ++ post ∷ []) vote
+later_allowed c i x history post vote was = record {
+  before = was.before;
+  later = was.later ++ post ∷ [];
+  is = ap (λ (posts : List Post). posts ++ post ∷ []) was.is ∙ append_assoc was.before was.later (post ∷ []);
+  legal = was.legal;
+  addressed = was.addressed;
+  may = was.may;
+}
+
+-- what a correct actor has cast, it was allowed to cast before
+pub was_allowed : (c : Numbers) (i x : ℕ) → is_in c.liars i ≡ false → (history : List Post) → IsLegal c history → (vote : Vote)
+    → Contains (own_in c i x history) vote → WasAllowed c i x history vote
+was_allowed c i x correct history legal =
+    addressed_induction c (λ (posts : List Post). IsLegal c posts → (vote : Vote) → Contains (own_in c i x posts) vote → WasAllowed c i x posts vote)
+    (λ _ vote none. absurd (omega (arith, none.1)))
+    (λ before post addressed holds follows all vote stands.
+    let front = IsLegal-front c before (post ∷ []) all in
+    elim (newly_cast c i x before post vote correct follows stands) [
+      | inl earlier ↦ later_allowed c i x before post vote (holds front vote earlier)
+      | inr new ↦ record { before = before; later = post ∷ []; is = refl; legal = front; addressed = addressed; may = new.may }
+    ]) history legal legal

@@ -1,5 +1,5 @@
 -- Legal histories, one post after another: what posts of correct nodes spell, and where they go.
-use Rattle.std.proofs.Common.{◌≡◌, false, inl, inr, List, [], ◌∷◌, ◌++◌, Contains, ap, sym, ◌∙◌, arith, append_assoc, append-nil}
+use Rattle.std.proofs.Common.{◌≡◌, false, inl, inr, List, [], ◌∷◌, ◌++◌, Contains, ap, sym, ◌∙◌, arith, append_assoc, append-nil, length-append}
 use Rattle.std.proofs.lemmas.List.Elements.{Contains-push_cases}
 use Rattle.hb_base.specs.Numbers.{Numbers}
 use Rattle.hb_base.specs.NodeSet.{is_in}
@@ -20,6 +20,17 @@ pub legal_induction : (c : Numbers) (P : List Post → Type 0) → P []
     → ((history : List Post) (post : Post) → P history → MayFollow c history post → P (history ++ post ∷ []))
     → (history : List Post) → IsLegal c history → P history
 legal_induction c P none step history legal = induction_after c P step [] history none legal.each
+
+front_legal : (c : Numbers) (before posts later : List Post) → AreLegalAfter c before (posts ++ later) → AreLegalAfter c before posts
+front_legal c before [] later legal = tt
+front_legal c before (post ∷ posts) later legal = (legal.0, front_legal c (before ++ post ∷ []) posts later legal.1)
+
+-- the posts at the front of a legal history are one
+pub IsLegal-front : (c : Numbers) (history later : List Post) → IsLegal c (history ++ later) → IsLegal c history
+IsLegal-front c history later legal = record {
+  short = omega (arith, legal.short, length-append history later);
+  each = front_legal c [] history later legal.each;
+}
 
 -- a post spells a vote, and goes where the vote goes
 pub record IsAddressed (c : Numbers) (post : Post) : Type 0 where
