@@ -4,6 +4,7 @@ pub mod Earlier
 pub mod Few
 pub mod Items
 pub mod Lengths
+pub mod Lying
 pub mod Names
 pub mod Planned
 pub mod Steps

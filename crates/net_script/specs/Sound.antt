@@ -1,6 +1,6 @@
 -- What holds of every scenario.
-use Rattle.std.specs.Prelude.{◌≡◌, ◌≢◌, ◌⊎◌, ℕ, ◌+◌, ◌<◌, ◌≤◌, Bool, false, List, length, count_by, IfSome}
-use Rattle.std.specs.List.{All, AllPairs}
+use Rattle.std.specs.Prelude.{◌≡◌, ◌≢◌, ◌⊎◌, ℕ, ◌+◌, ◌<◌, ◌≤◌, ◌==◌, Bool, false, List, length, count_by, IfSome}
+use Rattle.std.specs.List.{All, AllPairs, list_any}
 use Rattle.hb_base.specs.Counting.{count_nodes}
 use Rattle.hb_base.specs.NodeSet.{is_in}
 use Rattle.hb_base.specs.Limits.{most_nodes, most_faulty, most_epochs, most_rounds, most_batch, most_workers, most_posts, latest_version}
@@ -106,6 +106,7 @@ pub record IsScenario (s : Scenario) : Type 0 where
   pub few : length s.liars ≤ s.config.f
   pub apart : AllPairs AreApart s.liars
   pub lie : s.config.liars ≡ nodes_of s.liars
+  pub liars_lie : (node : ℕ) → is_in s.config.liars node ≡ list_any (λ liar. liar.node == node) s.liars
   pub links : All (IsLink s.config.n) s.links
   pub few_links : length s.links ≤ most_links
   pub plans : All (IsPlan s.config.n s.config.liars) s.plans

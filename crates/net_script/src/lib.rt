@@ -25,6 +25,7 @@ mod write;
 
 pub use delivery::shape;
 pub use fault::ScriptFault;
+pub use line::Line;
 pub use place::{KeyName, ListName, Place};
 pub use read::read_script;
 pub use script::{ActorPlan, LiarAt, Link, Order, Script, Shape, Submit};

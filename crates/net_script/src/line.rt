@@ -7,7 +7,7 @@ use std::marker::Model;
 
 /// A line that is being put together, at most 640 bytes. It takes no memory. Clauses see it as the list of its bytes.
 #[derive(Drop)]
-pub(crate) struct Line {
+pub struct Line {
     bytes: ArrayVec<u8, 640>,
 }
 
@@ -21,7 +21,7 @@ impl Model for Line {
 
 impl Line {
     /// An empty line.
-    pub(crate) fn new() -> Line
+    pub fn new() -> Line
         ensures value { result ≡ [] }
         ensures len { length result ≡ 0 }
     {
@@ -31,7 +31,7 @@ impl Line {
     }
 
     /// Appends a text. There must be room.
-    pub(crate) fn text(&mut self, text: &str)
+    pub fn text(&mut self, text: &str)
         requires { length self.old + length text.now ≤ 640 }
         ensures value { self.new ≡ self.old ++ text.now }
         ensures len { length self.new ≡ length self.old + length text.now }
@@ -40,7 +40,7 @@ impl Line {
     }
 
     /// Appends a number in decimal. There must be room for 20 digits.
-    pub(crate) fn number(&mut self, number: u64)
+    pub fn number(&mut self, number: u64)
         requires { length self.old + 20 ≤ 640 }
         ensures value { self.new ≡ self.old ++ decimal number }
         ensures len { length self.new ≤ length self.old + 20 }
@@ -50,7 +50,7 @@ impl Line {
     }
 
     /// Appends bytes in lower-case hex. There must be room.
-    pub(crate) fn hex(&mut self, bytes: &[u8])
+    pub fn hex(&mut self, bytes: &[u8])
         requires short { length bytes.now ≤ 256 }
         requires room { length self.old + 2 * length bytes.now ≤ 640 }
         ensures value { self.new ≡ self.old ++ encode_lower bytes.now }
@@ -63,7 +63,7 @@ impl Line {
     }
 
     /// The line.
-    pub(crate) fn as_slice(&self) -> &[u8]
+    pub fn as_slice(&self) -> &[u8]
         ensures { result.now ≡ self.now }
     {
         self.bytes.as_slice()

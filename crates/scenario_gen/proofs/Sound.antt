@@ -1,5 +1,5 @@
 -- What is made of a number is a scenario.
-use Rattle.std.proofs.Common.{◌≡◌, inl, ℕ, zero, suc, ◌+◌, ◌-◌, ◌*◌, ◌%◌, ◌<◌, ◌≤◌, true, false, [], ◌∷◌, map, length, All, AllPairs, refl, ◌∙◌, arith, lit≤, length-append}
+use Rattle.std.proofs.Common.{◌≡◌, inl, ℕ, zero, suc, ◌+◌, ◌-◌, ◌*◌, ◌%◌, ◌<◌, ◌≤◌, true, false, [], ◌∷◌, map, length, All, AllPairs, refl, ap, ◌∙◌, arith, lit≤, length-append}
 use Rattle.std.specs.List.{range_with_len}
 use Rattle.std.proofs.Math.Nat.{mod-lt}
 use Rattle.std.proofs.lemmas.List.{get_or-replicate, get_or-set_other}
@@ -9,6 +9,7 @@ use Rattle.hb_base.specs.Limits.{most_nodes}
 use Rattle.hb_base.specs.NodeSet.{is_in}
 use Rattle.disk_model.specs.declared.plan.Stop.{Stop}
 use Rattle.net_script.specs.Plans.{nodes_of}
+use Rattle.net_script.proofs.Lying.{those_lie}
 use Rattle.net_script.specs.Sound.{IsSubmit, IsLiar, AreApart, IsLink, IsNumbered, IsPlan, IsBefore, IsScenario}
 use Rattle.seed_words.specs.Words.{word}
 use Rattle.scenario_gen.specs.Generated.{nodes, faulty, first_liar, nodes_from, liar_marks, submit, liar, liars, stops_place, leave, dropped_from, twice_anywhere, late_anywhere, links, plan_of, plans, generated}
@@ -80,13 +81,16 @@ generated_sound number =
     let f = faulty n in
     let some : 4 ≤ n = omega arith in
     let most : n ≤ 10 = omega arith in
+    let are_liars : All (IsLiar n) (liars n w) = all_made (liar n w) (IsLiar n) 0 f (λ j low high. record { node = omega (arith, some, high); hears = lit≤ tt }) in
+    let lie : liar_marks n ≡ nodes_of (liars n w) = marked w (w 0 % 7) (omega arith) in
     record {
       workers = omega arith;
       submit = all_made (submit w) (IsSubmit n) 0 (64 * n) (λ t low high. submit_sound w n t (omega (arith, high)));
-      liars = all_made (liar n w) (IsLiar n) 0 f (λ j low high. record { node = omega (arith, some, high); hears = lit≤ tt });
+      liars = are_liars;
       few = omega (arith, length-map-range_with_len (liar n w) 0 f);
       apart = pairs_made (liar n w) AreApart f (λ i j before below same. absurd (omega (arith, before, same)));
-      lie = marked w (w 0 % 7) (omega arith);
+      lie = lie;
+      liars_lie = λ node. ap (λ set. is_in set node) lie ∙ those_lie n (liars n w) (omega (arith, most)) are_liars node;
       links = All-append (IsLink n) (map (dropped_from n) (range_with_len 0 f)) (twice_anywhere ∷ late_anywhere ∷ [])
           (all_made (dropped_from n) (IsLink n) 0 f (λ j low high. record { from = omega (arith, some, high); to = tt; every = (lit≤ tt, lit≤ tt); at = lit≤ tt }))
           (All-cons (IsLink n) twice_anywhere (late_anywhere ∷ []) (record { from = tt; to = tt; every = (lit≤ tt, lit≤ tt); at = lit≤ tt })
