@@ -10,3 +10,4 @@ pub mod Starts
 pub mod Arranges
 pub mod Folds
 pub mod Always
+pub mod Alone

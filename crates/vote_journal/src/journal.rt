@@ -1,7 +1,7 @@
 //! A journal in two halves: entries behind gates, folded into one in the other half when they are many.
 ghost use Rattle.std.specs.Prelude.{◌≡◌, ◌+◌, ◌-◌, ◌^◌, ◌<◌, ◌≤◌, min, [], ◌∷◌, ◌++◌, length, ◌||◌, true, false, IfOk, OnOk, IfErr, MatchResult};
 ghost use Rattle.std.specs.List.{concat};
-ghost use Rattle.disk_model.specs.Disk.{Only};
+ghost use Rattle.disk_model.specs.Disk.{Only, LeavesOnly};
 ghost use Rattle.disk_model.specs.Supply.{Draws};
 ghost use Rattle.vote_journal.specs.Runs.{Runs, HasReason, IsStep, IsUntouched, LeftOrSays};
 ghost use Rattle.vote_journal.specs.Text.{text_of, live_entries, is_foreign, IsSound, SaysOnly, SaysMaybe};
@@ -44,6 +44,10 @@ impl<D: Disk> Journal<D> {
             → (is_foreign (D.seen disk).a || is_foreign (D.seen disk).b) ≡ true) }
         ensures untouched { IfErr result (λ refused. refused.1 ≡ JournalFault.NotAJournal
             → IsUntouched D.seen D.may_leave D.moment D.left_since disk refused.0) }
+
+        // Whatever the refusal, nothing is written on a disk with a half that is no journal's.
+        ensures foreign_stays { (is_foreign (D.seen disk).a || is_foreign (D.seen disk).b) ≡ true
+            → (D.seen (disk_after result) ≡ D.seen disk) × LeavesOnly D.moment D.left_since disk (disk_after result) (D.may_leave disk) }
 
         // Where nothing was pending, a crash at any moment of the call leaves a sound image of the same text.
         ensures runs { Only (D.seen disk) (D.may_leave disk) → IsSound (D.seen disk)

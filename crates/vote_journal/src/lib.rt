@@ -14,4 +14,4 @@ mod tests;
 
 pub use fault::JournalFault;
 pub use journal::Journal;
-pub use laws::always_sound;
+pub use laws::{always_sound, crash_laws, usable_laws};

@@ -2,7 +2,7 @@
 ghost use Rattle.std.specs.Prelude.{◌≡◌, ◌<◌, ◌≤◌, ◌+◌, ◌^◌, ◌||◌, ◌&&◌, false, true, [], ℕ, length, drop, nat_le, IfOk, OnOk, IfErr};
 ghost use Rattle.std.specs.List.{concat};
 ghost use Rattle.disk_model.specs.Image.{half_of, other};
-ghost use Rattle.disk_model.specs.Disk.{Only};
+ghost use Rattle.disk_model.specs.Disk.{Only, LeavesOnly};
 ghost use Rattle.disk_model.specs.Supply.{Draws};
 ghost use Rattle.vote_journal.specs.Runs.{Runs, HasReason, IsStep, IsUntouched, LeftOrSays};
 ghost use Rattle.vote_journal.specs.Text.{HasBytes, half_entries, is_foreign, blocks, live_half, live_by, live_entries, text_of, is_some_entry};
@@ -128,6 +128,8 @@ pub(crate) fn open<D: Disk>(alloc: Global, disk: &mut D) -> Result<Opened, Journ
         → Runs D.moment D.left_since D.faults D.supply disk.old disk.new (LeftOrSays (D.may_leave disk.old) (text_of (D.seen disk.old))) }
     ensures untouched { IfErr result (λ fault. fault ≡ JournalFault.NotAJournal
         → IsUntouched D.seen D.may_leave D.moment D.left_since disk.old disk.new) }
+    ensures foreign_stays { (is_foreign (D.seen disk.old).a || is_foreign (D.seen disk.old).b) ≡ true
+        → (D.seen disk.new ≡ D.seen disk.old) × LeavesOnly D.moment D.left_since disk.old disk.new (D.may_leave disk.old) }
     ensures supply { Draws (D.supply disk.old) (D.supply disk.new) }
     ensures failed { IfErr result (HasReason D.faults D.explains disk.old disk.new) }
 {

@@ -78,3 +78,12 @@ returns-in_err-found-clause-untouched g c =
 pub returns-in_err-arrange-clause-untouched : goal.returns-in_err-arrange-clause-untouched
 returns-in_err-arrange-clause-untouched g c =
     on_err _ c.from_residual-in_err-arrange.result c.from_residual-in_err-arrange.ensures.1 (λ foreign. absurd (c.in_err-arrange.ensures.step.no_other foreign))
+
+pub returns-in_err-found-clause-foreign_stays : goal.returns-in_err-found-clause-foreign_stays
+returns-in_err-found-clause-foreign_stays g c = λ foreign. (c.survey.ensures.seen, c.survey.ensures.runs.moments)
+
+pub returns-in_err-arrange-clause-foreign_stays : goal.returns-in_err-arrange-clause-foreign_stays
+returns-in_err-arrange-clause-foreign_stays g c = λ foreign. absurd (cc (foreign, c.in_ok-found.ensures.ours))
+
+pub returns-clause-foreign_stays : goal.returns-clause-foreign_stays
+returns-clause-foreign_stays g c = λ foreign. absurd (cc (foreign, c.in_ok-found.ensures.ours))
