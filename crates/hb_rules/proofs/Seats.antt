@@ -1,6 +1,6 @@
 -- What a seat may post is allowed while others post, and what calls on it do to its book.
 use Rattle.std.proofs.Common.{◌≡◌, ℕ, ◌+◌, ◌-◌, ◌<◌, ◌≤◌, true, false, ◌||◌, ◌==◌, inl, inr, List, [], ◌∷◌, ◌++◌, None, Result, Ok, Err, length, take, drop, refl, sym, ap, ◌∙◌, subst, arith, append-nil, append_assoc, length-take-le}
-use Rattle.std.specs.Prelude.{IfOk, OnOk}
+use Rattle.std.specs.Prelude.{IsOkAnd, IfOk, OnOk}
 use Rattle.std.specs.List.{filter_map}
 use Rattle.std.proofs.lemmas.Bool.{and_parts, and_from, or_right, false_from_ne_true}
 use Rattle.std.proofs.lemmas.List.{append_cancel_left, take-append-drop}
@@ -82,6 +82,13 @@ Posted-seen (Ok k) old new s t post seat all number added = (
   },
 )
 Posted-seen (Err fault) old new s t post seat all number added = tt
+
+-- what a call did with a copy of bytes it did with the bytes
+pub OnOk-copied : {E : Type 0} (result : Result ℕ BookFault) (copy : Result (List ℕ) E) (bytes : List ℕ) (Holds : List ℕ → Type 0)
+    → IfOk copy (λ b. b ≡ bytes) → OnOk result (IsOkAnd copy Holds) → OnOk result (Holds bytes)
+OnOk-copied (Ok k) (Ok b) bytes Holds is holds = subst Holds is holds
+OnOk-copied (Ok k) (Err e) bytes Holds is holds = absurd holds
+OnOk-copied (Err fault) copy bytes Holds is holds = tt
 
 -- ---- two seats that meet
 

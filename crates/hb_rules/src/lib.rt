@@ -30,5 +30,5 @@ pub use laws::{
 pub use outbox::Outbox;
 pub use plain_book::{PlainBook, plain_book_laws};
 pub use plain_seat::PlainSeat;
-pub use posts::Posts;
+pub use posts::{Posts, spell};
 pub use report::{End, Fate, Report, running};

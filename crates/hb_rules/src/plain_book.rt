@@ -7,8 +7,8 @@ ghost use Rattle.hb_rules.specs.BookLaws.{Moved-refl, Moved-trans, IsSeatOf-move
 
 use crate::book::{Book, BookFault};
 use crate::plain_seat::PlainSeat;
-use crate::posts::Posts;
-use hb_base::Config;
+use crate::posts::{Posts, spell};
+use hb_base::{Bytes, Config};
 use hb_wire::{Post, To, Vote};
 use std::alloc::{AllocError, Global};
 use std::marker::Model;
@@ -100,7 +100,8 @@ impl Book for PlainBook {
     ghost looks = { HasSeenAll-most };
 
     fn post(&mut self, seat: &mut PlainSeat, vote: &Vote) -> Result<u32, BookFault> {
-        let posted = self.posts.add_vote(seat.node(), seat.actor(), vote);
+        let bytes = spell(self.posts.alloc(), &self.posts.config(), vote);
+        let posted = self.posts.add_vote(seat.node(), seat.actor(), vote, bytes);
         seat.look(&self.posts);
         posted
     }
@@ -112,6 +113,7 @@ impl Book for PlainBook {
         to: To,
         bytes: &[u8],
     ) -> Result<u32, BookFault> {
+        let bytes = Bytes::copy(self.posts.alloc(), bytes);
         let posted = self.posts.add_lie(seat.node(), as_actor, to, bytes);
         seat.look(&self.posts);
         posted
@@ -119,10 +121,7 @@ impl Book for PlainBook {
 
     fn read(&mut self, seat: &mut PlainSeat, k: u32) -> Result<Option<Post>, AllocError> {
         seat.look(&self.posts);
-        match self.posts.get(k) {
-            None => Ok(None),
-            Some(post) => Ok(Some(post.clone()?)),
-        }
+        self.posts.read(k)
     }
 
     fn posts(&mut self, seat: &mut PlainSeat) -> u32 {

@@ -1,7 +1,8 @@
-ghost use Rattle.std.specs.Prelude.{◌≡◌, ◌<◌, ◌≤◌, true, false, Err, [], ◌∷◌, ◌++◌, length, IfOk, OnOk, OnErr, slice_get, option_copied};
+ghost use Rattle.std.specs.Prelude.{◌≡◌, ◌<◌, ◌≤◌, true, false, Err, [], ◌∷◌, ◌++◌, length, IsOkAnd, IfOk, OnOk, OnErr, slice_get};
 ghost use Rattle.hb_base.specs.Limits.{most_posts};
 ghost use Rattle.hb_base.specs.NodeSet.{is_in};
 ghost use Rattle.hb_wire.specs.declared.post.Post.{Post};
+ghost use Rattle.hb_wire.specs.Votes.{Spells};
 ghost use Rattle.hb_rules.specs.History.{HasSpelling, IsAllowed, MayFollow, IsLegal};
 ghost use Rattle.hb_rules.specs.Book.{post_of, lie_of, AreKept};
 
@@ -9,8 +10,16 @@ use crate::book::BookFault;
 use hb_base::limits::MOST_POSTS;
 use hb_base::{Bytes, Config};
 use hb_wire::{Post, To, Vote, write};
-use std::alloc::Global;
+use std::alloc::{AllocError, Global};
 use std::marker::Model;
+
+/// The bytes of a vote in a run of this config. Err where there is no memory for them.
+pub fn spell(alloc: Global, config: &Config, vote: &Vote) -> Result<Bytes, AllocError>
+    requires { HasSpelling config.now vote.now }
+    ensures { IfOk result (λ b. Spells config.now.n config.now.version b vote.now) }
+{
+    write(alloc, config.n(), config.version(), vote)
+}
 
 /// The posts of a run, in order, by the run's config. At every moment they are a legal history of at most 2^22 posts, since a
 /// post is added only where it may follow those before it. Each kind of book keeps its posts so. Clauses see a `BookView`.
@@ -48,6 +57,11 @@ impl Posts {
         self.config
     }
 
+    /// The allocator of what it keeps.
+    pub fn alloc(&self) -> Global {
+        *self.items.allocator()
+    }
+
     /// How many posts there are.
     pub fn count(&self) -> u32
         ensures exact { result ≡ length self.now.posts }
@@ -81,19 +95,29 @@ impl Posts {
         items
     }
 
-    /// Post k, lent, and None exactly where there are no more than k. It takes constant time.
-    pub fn get(&self, k: u32) -> Option<&Post>
-        ensures { option_copied result ≡ slice_get self.now.posts k }
+    /// Post k, and None exactly where there are no more than k. It shares the post's bytes and takes no memory; Err is as of
+    /// `Bytes::clone`. It takes constant time.
+    pub fn read(&self, k: u32) -> Result<Option<Post>, AllocError>
+        ensures { IfOk result (λ post. post ≡ slice_get self.now.posts k) }
     {
-        self.items.get(k as usize)
+        match self.items.get(k as usize) {
+            None => Ok(None),
+            Some(post) => Ok(Some(post.clone()?)),
+        }
     }
 
-    /// Adds the post of a vote that has a spelling and that the rules allow to this actor of this node, and answers its number.
-    /// `Full` comes exactly where there are 2^22 posts, and a refusal adds nothing. The vote is spelled once, and nothing
-    /// else is copied.
-    pub fn add_vote(&mut self, node: u8, actor: u8, vote: &Vote) -> Result<u32, BookFault>
+    /// Adds the post of a vote that the rules allow to this actor of this node, and answers its number. `bytes` is what `spell` gave
+    /// for the vote, so that nothing is spelled where a book is locked. `Full` comes exactly where there are 2^22 posts, and a
+    /// refusal adds nothing.
+    pub fn add_vote(
+        &mut self,
+        node: u8,
+        actor: u8,
+        vote: &Vote,
+        bytes: Result<Bytes, AllocError>,
+    ) -> Result<u32, BookFault>
         requires known { node < self.old.config.n }
-        requires spelled { HasSpelling self.old.config vote.now }
+        requires spelled { IfOk bytes (λ b. Spells self.old.config.n self.old.config.version b vote.now) }
         requires allowed { IsAllowed self.old.config node actor self.old.posts vote.now }
         ensures number { IfOk result (λ k. (k ≡ length self.old.posts) × (k < most_posts)) }
         ensures added { OnOk result (self.new ≡ record self.old { posts = self.old.posts ++ post_of node actor vote.now ∷ [] }) }
@@ -104,23 +128,27 @@ impl Posts {
         if self.is_full() {
             return Err(BookFault::Full);
         }
-        let alloc = *self.items.allocator();
-        let bytes = write(alloc, self.config.n(), self.config.version(), vote)?;
         self.add(Post {
             from: node,
             actor,
             to: vote.to(),
-            bytes,
+            bytes: bytes?,
         })
     }
 
-    /// Adds a post of a liar's node, with any actor, address and bytes, and answers its number. `Full` comes exactly where there
-    /// are 2^22 posts, and a refusal adds nothing. The bytes are copied once.
-    pub fn add_lie(&mut self, node: u8, actor: u8, to: To, bytes: &[u8]) -> Result<u32, BookFault>
+    /// Adds a post of a liar's node, with any actor, address and bytes, and answers its number. `bytes` is a copy that was made
+    /// before. `Full` comes exactly where there are 2^22 posts, and a refusal adds nothing.
+    pub fn add_lie(
+        &mut self,
+        node: u8,
+        actor: u8,
+        to: To,
+        bytes: Result<Bytes, AllocError>,
+    ) -> Result<u32, BookFault>
         requires known { node < self.old.config.n }
         requires liar { is_in self.old.config.liars node ≡ true }
         ensures number { IfOk result (λ k. (k ≡ length self.old.posts) × (k < most_posts)) }
-        ensures added { OnOk result (self.new ≡ record self.old { posts = self.old.posts ++ lie_of node actor to bytes.now ∷ [] }) }
+        ensures added { OnOk result (IsOkAnd bytes (λ b. self.new ≡ record self.old { posts = self.old.posts ++ lie_of node actor to b ∷ [] })) }
         ensures refused { OnErr result (self.new ≡ self.old) }
         ensures full { result ≡ Err BookFault.Full → length self.old.posts ≡ most_posts }
         ensures memory { result ≡ Err BookFault.Memory → length self.old.posts < most_posts }
@@ -128,12 +156,11 @@ impl Posts {
         if self.is_full() {
             return Err(BookFault::Full);
         }
-        let bytes = Bytes::copy(*self.items.allocator(), bytes)?;
         self.add(Post {
             from: node,
             actor,
             to,
-            bytes,
+            bytes: bytes?,
         })
     }
 
