@@ -1,0 +1,7 @@
+pub mod Votes
+pub mod Coins
+pub mod Stood
+pub mod Rounds
+pub mod Theorems
+pub mod Tables
+pub mod Exact
