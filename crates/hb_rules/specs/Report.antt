@@ -3,6 +3,7 @@ use Rattle.std.specs.Prelude.{◌≡◌, ℕ, ◌+◌, ◌-◌, ◌≤◌, Bool,
 use Rattle.std.specs.List.{list_any, list_all, flat_map, range_with_len}
 use Rattle.hb_base.specs.Numbers.{Numbers, numbers}
 use Rattle.hb_base.specs.NodeSet.{is_in}
+use Rattle.net_script.specs.declared.script.Order.TheVariants.{Fifo}
 use Rattle.net_script.specs.declared.script.Shape.{Shape}
 use Rattle.net_script.specs.declared.script.Shape.TheVariants.{Once, Twice, Late, Drop}
 use Rattle.net_script.specs.declared.script.Script.{Script}
@@ -185,6 +186,8 @@ one_node = numbers 1 0 1 1 1 0 1 (replicate 16 false)
 pub record IsEmptyReport (report : Report) : Type 0 where
   pub config : report.config ≡ one_node
   pub scenario_config : (told report.script).config ≡ one_node
+  pub workers : report.script.workers ≡ 0
+  pub order : report.script.order ≡ Fifo
   pub submit : report.script.submit.items ≡ []
   pub liars : report.script.liars.items ≡ []
   pub links : report.script.links.items ≡ []

@@ -1,37 +1,12 @@
 -- Whether two votes are the same, and lists of votes by it.
-use Rattle.std.specs.Prelude.{◌≡◌, ℕ, Bool, false, ◌&&◌, ◌==◌, List, [], ◌∷◌, ◌++◌, if◌then◌else◌, fold, count_by, bytes_eq}
-use Rattle.std.specs.Cmp.Lexicographic.{pointwise}
+use Rattle.std.specs.Prelude.{◌≡◌, Bool, ℕ, List, [], ◌∷◌, ◌++◌, if◌then◌else◌, fold, count_by}
 use Rattle.std.specs.List.{list_any}
-use Rattle.merkle_branch.specs.declared.Branch.{Branch}
 use Rattle.hb_wire.specs.declared.vote.Vote.{Vote}
-use Rattle.hb_wire.specs.declared.vote.Vote.TheVariants.{Val, Echo, Ready, Delivered, Est, Bval, Aux, Conf, Pick, Coin, Decided, Propose, NoMore, Closed}
-use Rattle.hb_wire.specs.Lists.{same_item}
-use Rattle.hb_rules.specs.Claims.{same_bit}
-use Rattle.hb_rules.specs.Marks.{same_vals}
+use Rattle.hb_wire.specs.contracts.vote.VotePartialEq.TheImpl.{ghosts as votes}
 
-abbrev pub same_branch : Branch → Branch → Bool
-same_branch b c = (b.len == c.len) && pointwise bytes_eq b.digests c.digests
-
--- whether two votes are the same
+-- whether two votes are the same: what `==` answers, of which `equality_laws` of the votes say that it is true exactly there
 abbrev pub same_vote : Vote → Vote → Bool
-same_vote (Val e m root shard branch) (Val d t h piece path) =
-    (e == d) && ((m == t) && (bytes_eq root h && (bytes_eq shard piece && same_branch branch path)))
-same_vote (Echo e root shard branch) (Echo d h piece path) =
-    (e == d) && (bytes_eq root h && (bytes_eq shard piece && same_branch branch path))
-same_vote (Ready e root) (Ready d h) = (e == d) && bytes_eq root h
-same_vote (Delivered e value) (Delivered d v) = (e == d) && bytes_eq value v
-same_vote (Est e r b) (Est d s o) = (e == d) && ((r == s) && same_bit b o)
-same_vote (Bval e r b) (Bval d s o) = (e == d) && ((r == s) && same_bit b o)
-same_vote (Aux e r b) (Aux d s o) = (e == d) && ((r == s) && same_bit b o)
-same_vote (Conf e r vals) (Conf d s o) = (e == d) && ((r == s) && same_vals vals o)
-same_vote (Pick e r vals) (Pick d s o) = (e == d) && ((r == s) && same_vals vals o)
-same_vote (Coin e r share salt branch) (Coin d s part grain path) =
-    (e == d) && ((r == s) && ((share == part) && (bytes_eq salt grain && same_branch branch path)))
-same_vote (Decided e b) (Decided d o) = (e == d) && same_bit b o
-same_vote (Propose e value) (Propose d v) = (e == d) && bytes_eq value v
-same_vote (NoMore e) (NoMore d) = e == d
-same_vote (Closed e list) (Closed d others) = (e == d) && pointwise same_item list others
-same_vote _ _ = false
+same_vote v w = votes.eq v w
 
 -- the votes with one more, where it is not among them
 abbrev pub with_vote : List Vote → Vote → List Vote
