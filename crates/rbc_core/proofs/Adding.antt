@@ -7,7 +7,7 @@ use Rattle.hb_base.specs.NodeSet.{is_in}
 use Rattle.hb_rules.specs.Code.{data_count}
 use Rattle.rbc_core.specs.declared.root_state.RootState.{RootState}
 use Rattle.rbc_core.specs.RootViews.{RootView, root_view, with_echo}
-use Rattle.rbc_core.specs.Roots.{view_at, AreRootViews, value_with, after_echo, after_ready, Finds}
+use Rattle.rbc_core.specs.Roots.{RootsView, view_at, AreRootViews, value_with, after_echo, after_ready, Finds}
 use Rattle.rbc_core.proofs.Tables.{shown, Puts, Finds-puts}
 use Rattle.rbc_core.proofs.RootStates.{IsRootView-echo, IsRootView-ready, AreRootViews-finds}
 
@@ -43,6 +43,20 @@ pub record MayEcho (c : Numbers) (m : BTreeMap (List ℕ) RootState) (root : Lis
   pub short : length shard < 2 ^ 32
   pub new : is_in (view_at (shown c m) root).echoes node ≡ false
   pub rebuilt : value ≡ value_with c root (view_at (shown c m) root) node shard
+
+-- by what is known of the value that is shown
+pub MayEcho-shown : (r : RootsView) (c : Numbers) (m : BTreeMap (List ℕ) RootState) (root : List ℕ) (node : ℕ) (shard : List ℕ) (value : Option (List ℕ))
+    → shown c m ≡ r → AreRootViews (shown c m) → node < r.config.n → c.n ≤ most_nodes → length shard < 2 ^ 32
+    → is_in (view_at r root).echoes node ≡ false → value ≡ value_with r.config root (view_at r root) node shard
+    → MayEcho c m root node shard value
+MayEcho-shown r c m root node shard value is are below few short new rebuilt = record {
+  are = are;
+  below = rw (← is) at below;
+  few = few;
+  short = short;
+  new = rw (← is) at new;
+  rebuilt = rw (← is) at rebuilt;
+}
 
 pub Finds-echo : (c : Numbers) (m n : BTreeMap (List ℕ) RootState) (root : List ℕ) (before : RootView) (after : RootState) (node : ℕ) (shard : List ℕ)
     (value : Option (List ℕ)) → MayEcho c m root node shard value → view_at (shown c m) root ≡ before → Puts m n root after

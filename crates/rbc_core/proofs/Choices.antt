@@ -20,7 +20,7 @@ use Rattle.hb_rules.proofs.Passing.{pass-append, IsSettledAt, settled_if_cast, s
 use Rattle.rbc_core.specs.Broadcast.{Place, slots_at, names}
 use Rattle.rbc_core.specs.Due.{unless}
 use Rattle.rbc_core.proofs.Firsts.{first_of-nothing, first_none, made_by, only_new, none_new}
-use Rattle.rbc_core.proofs.Hearings.{silent_if_none, silent_of_others, ready_made-silent, delivery_made-silent}
+use Rattle.rbc_core.proofs.Hearings.{IsSilent, silent_if_none, silent_of_others, ready_made-silent, delivery_made-silent}
 
 -- ---- the rows
 
@@ -119,22 +119,49 @@ quiet_echo p own more heard h settled none =
     (quiet_slot (echo_at p) (echo_slot-plain p.config p.node p.lane p.epoch) own more heard h settled.echo
     (first_of-nothing (echo_in p.config.n p.epoch p.node p.lane) heard h none)).none
 
--- no Ready or delivery is owed after a hearing that names no root
+-- A slot whose choice is the first vote that a root makes that was named: what a root makes, a hearing leaves that is
+-- silent of it.
+pub record IsOfRoots (p : Place) (made : List Hearing → List ℕ → Option Vote) (slot : Slot Vote Hearing) : Type 0 where
+  pub plain : IsPlain slot
+  pub choice : (own : List Vote) (heard : List Hearing) → slot.choice own heard ≡ first_of (made_by (named p.config.n p.epoch) (made heard)) heard
+  pub silent : (root : List ℕ) (heard : List Hearing) (h : Hearing) → IsSilent p.config.n p.epoch root h → made (heard ++ h ∷ []) root ≡ made heard root
+
+pub ready_at-roots : (p : Place) → IsOfRoots p (ready_made p.config p.epoch) (ready_at p)
+unfolding ready_slot
+ready_at-roots p = record {
+  plain = ready_slot-plain p.config p.epoch;
+  choice = λ own heard. refl;
+  silent = λ root heard h silent. ready_made-silent p.config p.epoch root heard h silent;
+}
+
+pub delivery_at-roots : (p : Place) → IsOfRoots p (delivery_made p.config p.epoch) (delivery_at p)
+unfolding delivery_slot
+delivery_at-roots p = record {
+  plain = delivery_slot-plain p.config p.epoch;
+  choice = λ own heard. refl;
+  silent = λ root heard h silent. delivery_made-silent p.config p.epoch root heard h silent;
+}
+
+-- it makes nothing owed after a hearing that names no root
+quiet_root : (p : Place) (made : List Hearing → List ℕ → Option Vote) (slot : Slot Vote Hearing) → IsOfRoots p made slot
+    → (own more : List Vote) (heard : List Hearing) (h : Hearing) → IsSettledAt slot own heard → named p.config.n p.epoch h ≡ None
+    → owes slot (own ++ more) (heard ++ h ∷ []) ≡ []
+quiet_root p made slot of own more heard h settled none =
+    (quiet_slot slot of.plain own more heard h settled
+    (of.choice own (heard ++ h ∷ [])
+    ∙ none_new (named p.config.n p.epoch) (made heard) (made (heard ++ h ∷ [])) heard h none
+    (λ root. of.silent root heard h (silent_if_none p.config.n p.epoch h none root))
+    ∙ sym (of.choice own heard))).none
+
 pub quiet_ready : (p : Place) (own more : List Vote) (heard : List Hearing) (h : Hearing) → AreSettled p own heard
     → named p.config.n p.epoch h ≡ None → owes (ready_at p) (own ++ more) (heard ++ h ∷ []) ≡ []
-unfolding ready_slot
 quiet_ready p own more heard h settled none =
-    (quiet_slot (ready_at p) (ready_slot-plain p.config p.epoch) own more heard h settled.ready
-    (none_new (named p.config.n p.epoch) (ready_made p.config p.epoch heard) (ready_made p.config p.epoch (heard ++ h ∷ [])) heard h none
-    (λ root. ready_made-silent p.config p.epoch root heard h (silent_if_none p.config.n p.epoch h none root)))).none
+    quiet_root p (ready_made p.config p.epoch) (ready_at p) (ready_at-roots p) own more heard h settled.ready none
 
 pub quiet_delivery : (p : Place) (own more : List Vote) (heard : List Hearing) (h : Hearing) → AreSettled p own heard
     → named p.config.n p.epoch h ≡ None → owes (delivery_at p) (own ++ more) (heard ++ h ∷ []) ≡ []
-unfolding delivery_slot
 quiet_delivery p own more heard h settled none =
-    (quiet_slot (delivery_at p) (delivery_slot-plain p.config p.epoch) own more heard h settled.delivery
-    (none_new (named p.config.n p.epoch) (delivery_made p.config p.epoch heard) (delivery_made p.config p.epoch (heard ++ h ∷ [])) heard h none
-    (λ root. delivery_made-silent p.config p.epoch root heard h (silent_if_none p.config.n p.epoch h none root)))).none
+    quiet_root p (delivery_made p.config p.epoch) (delivery_at p) (delivery_at-roots p) own more heard h settled.delivery none
 
 -- ---- slots that a hearing fills
 
@@ -145,29 +172,18 @@ owes_vote slot own heard true vote is choice = rw is refl
 owes_vote slot own heard false vote is choice = rw (is, choice refl) refl
 
 -- a hearing that names a root makes owed what the root makes then
-pub ready_owes : (p : Place) (own : List Vote) (heard : List Hearing) (h : Hearing) (root : List ℕ) (cast : Bool) → IsSettledAt (ready_at p) own heard
-    → list_any (is_any_ready p.epoch) own ≡ cast → named p.config.n p.epoch h ≡ Some root
-    → owes (ready_at p) own (heard ++ h ∷ []) ≡ option_to_list (unless cast (ready_made p.config p.epoch (heard ++ h ∷ []) root))
-unfolding ready_slot
-ready_owes p own heard h root cast settled is names =
+root_owes : (p : Place) (made : List Hearing → List ℕ → Option Vote) (slot : Slot Vote Hearing) → IsOfRoots p made slot
+    → (own : List Vote) (heard : List Hearing) (h : Hearing) (root : List ℕ) (cast : Bool) → IsSettledAt slot own heard → slot.is_cast own ≡ cast
+    → named p.config.n p.epoch h ≡ Some root
+    → owes slot own (heard ++ h ∷ []) ≡ option_to_list (unless cast (made (heard ++ h ∷ []) root))
+root_owes p made slot of own heard h root cast settled is names =
     let now : List Hearing = heard ++ h ∷ [] in
-    owes_vote (ready_at p) own now cast (ready_made p.config p.epoch now root) is
+    owes_vote slot own now cast (made now root) is
     (λ empty.
-    only_new (named p.config.n p.epoch) (ready_made p.config p.epoch heard) (ready_made p.config p.epoch now) heard h root names
-    (λ w apart. ready_made-silent p.config p.epoch w heard h (silent_of_others p.config.n p.epoch h root names w apart))
-    (no_choice (ready_at p) own heard settled (is ∙ empty)))
-
-pub delivery_owes : (p : Place) (own : List Vote) (heard : List Hearing) (h : Hearing) (root : List ℕ) (cast : Bool) → IsSettledAt (delivery_at p) own heard
-    → list_any (is_any_delivery p.epoch) own ≡ cast → named p.config.n p.epoch h ≡ Some root
-    → owes (delivery_at p) own (heard ++ h ∷ []) ≡ option_to_list (unless cast (delivery_made p.config p.epoch (heard ++ h ∷ []) root))
-unfolding delivery_slot
-delivery_owes p own heard h root cast settled is names =
-    let now : List Hearing = heard ++ h ∷ [] in
-    owes_vote (delivery_at p) own now cast (delivery_made p.config p.epoch now root) is
-    (λ empty.
-    only_new (named p.config.n p.epoch) (delivery_made p.config p.epoch heard) (delivery_made p.config p.epoch now) heard h root names
-    (λ w apart. delivery_made-silent p.config p.epoch w heard h (silent_of_others p.config.n p.epoch h root names w apart))
-    (no_choice (delivery_at p) own heard settled (is ∙ empty)))
+    of.choice own now
+    ∙ only_new (named p.config.n p.epoch) (made heard) (made now) heard h root names
+    (λ w apart. of.silent w heard h (silent_of_others p.config.n p.epoch h root names w apart))
+    (sym (of.choice own heard) ∙ no_choice slot own heard settled (is ∙ empty)))
 
 -- what a hearing that names a root makes owed: the Ready and the delivery that the root makes then, unless they are cast
 pub named_owed : (p : Place) (own : List Vote) (heard : List Hearing) (h : Hearing) (root : List ℕ) (ready delivery : Option Vote)
@@ -177,6 +193,7 @@ pub named_owed : (p : Place) (own : List Vote) (heard : List Hearing) (h : Heari
     → unless (list_any (is_any_delivery p.epoch) own) (delivery_made p.config p.epoch (heard ++ h ∷ []) root) ≡ delivery
     → list_any (is_any_delivery p.epoch) (option_to_list ready) ≡ false
     → pass (slots_at p) own (heard ++ h ∷ []) ≡ option_to_list ready ++ option_to_list delivery
+unfolding ready_slot delivery_slot
 named_owed p own heard h root ready delivery settled no_proposal no_echo names is_ready is_delivery none =
     let now : List Hearing = heard ++ h ∷ [] in
     let first : List Vote = option_to_list ready in
@@ -187,9 +204,10 @@ named_owed p own heard h root ready delivery settled no_proposal no_echo names i
     (quiet_vals p own heard h settled no_proposal)
     (quiet_echo p own [] heard h settled no_echo)
     (rw (append-nil, append-nil)
-    (ready_owes p own heard h root (list_any (is_any_ready p.epoch) own) settled.ready refl names ∙ ap (λ (o : Option Vote). option_to_list o) is_ready))
+    (root_owes p (ready_made p.config p.epoch) (ready_at p) (ready_at-roots p) own heard h root (list_any (is_any_ready p.epoch) own) settled.ready refl names
+    ∙ ap (λ (o : Option Vote). option_to_list o) is_ready))
     (rw (append-nil, append-nil)
-    (delivery_owes p (own ++ first) heard h root (list_any (is_any_delivery p.epoch) own)
+    (root_owes p (delivery_made p.config p.epoch) (delivery_at p) (delivery_at-roots p) (own ++ first) heard h root (list_any (is_any_delivery p.epoch) own)
     (settled_more (delivery_at p) (delivery_slot-plain p.config p.epoch) own first heard settled.delivery) flag names
     ∙ ap (λ (o : Option Vote). option_to_list o) is_delivery))
     ∙ ap (λ (votes : List Vote). first ++ votes) (append-nil (option_to_list delivery))
@@ -210,27 +228,26 @@ nothing_owed p own heard h settled unheeded =
     (rw (append-nil, append-nil) (quiet_delivery p own [] heard h settled unheeded.named))
 
 -- where nothing is owed, no root that was named makes anything that is not cast
+root_settled : (p : Place) (made : List Hearing → List ℕ → Option Vote) (slot : Slot Vote Hearing) → IsOfRoots p made slot
+    → (own : List Vote) (heard : List Hearing) (g : Hearing) (root : List ℕ) (cast : Bool) → IsSettledAt slot own heard → slot.is_cast own ≡ cast
+    → Contains heard g → named p.config.n p.epoch g ≡ Some root → unless cast (made heard root) ≡ None
+root_settled p made slot of own heard g root true settled is stands names = refl
+root_settled p made slot of own heard g root false settled is stands names =
+    ap (λ (o : Option (List ℕ)). option_and_then (made heard) o) (sym names)
+    ∙ first_none (made_by (named p.config.n p.epoch) (made heard)) heard (sym (of.choice own heard) ∙ no_choice slot own heard settled is) g stands
+
 pub ready_settled : (p : Place) (own : List Vote) (heard : List Hearing) (g : Hearing) (root : List ℕ) → AreSettled p own heard
     → Contains heard g → named p.config.n p.epoch g ≡ Some root
     → unless (list_any (is_any_ready p.epoch) own) (ready_made p.config p.epoch heard root) ≡ None
 unfolding ready_slot
-ready_settled p own heard g root settled stands names = by (list_any (is_any_ready p.epoch) own) refl
-  where
-    by : (b : Bool) → list_any (is_any_ready p.epoch) own ≡ b → unless b (ready_made p.config p.epoch heard root) ≡ None
-    by true cast = refl
-    by false empty =
-        ap (λ (o : Option (List ℕ)). option_and_then (ready_made p.config p.epoch heard) o) (sym names)
-        ∙ first_none (made_by (named p.config.n p.epoch) (ready_made p.config p.epoch heard)) heard (no_choice (ready_at p) own heard settled.ready empty) g stands
+ready_settled p own heard g root settled stands names =
+    root_settled p (ready_made p.config p.epoch) (ready_at p) (ready_at-roots p) own heard g root (list_any (is_any_ready p.epoch) own)
+    settled.ready refl stands names
 
 pub delivery_settled : (p : Place) (own : List Vote) (heard : List Hearing) (g : Hearing) (root : List ℕ) → AreSettled p own heard
     → Contains heard g → named p.config.n p.epoch g ≡ Some root
     → unless (list_any (is_any_delivery p.epoch) own) (delivery_made p.config p.epoch heard root) ≡ None
 unfolding delivery_slot
-delivery_settled p own heard g root settled stands names = by (list_any (is_any_delivery p.epoch) own) refl
-  where
-    by : (b : Bool) → list_any (is_any_delivery p.epoch) own ≡ b → unless b (delivery_made p.config p.epoch heard root) ≡ None
-    by true cast = refl
-    by false empty =
-        ap (λ (o : Option (List ℕ)). option_and_then (delivery_made p.config p.epoch heard) o) (sym names)
-        ∙ first_none (made_by (named p.config.n p.epoch) (delivery_made p.config p.epoch heard)) heard
-        (no_choice (delivery_at p) own heard settled.delivery empty) g stands
+delivery_settled p own heard g root settled stands names =
+    root_settled p (delivery_made p.config p.epoch) (delivery_at p) (delivery_at-roots p) own heard g root (list_any (is_any_delivery p.epoch) own)
+    settled.delivery refl stands names

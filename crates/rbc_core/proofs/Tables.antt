@@ -45,9 +45,27 @@ pub view-none : (c : Numbers) (m : BTreeMap (List ℕ) RootState) (root : List �
 view-none c m root none =
     ap (λ (o : Option RootView). unwrap_or o unheard) (found-shown c m root ∙ ap (option_map root_view) none)
 
+-- the same of a value that it shows
+pub seen-some : (r : RootsView) (c : Numbers) (m : BTreeMap (List ℕ) RootState) (root : List ℕ) (s : RootState) → shown c m ≡ r
+    → get (slice_cmp nat_cmp) m root ≡ Some s → view_at r root ≡ root_view s
+seen-some r c m root s is some = ap (λ (r : RootsView). view_at r root) (sym is) ∙ view-some c m root s some
+
+pub seen-none : (r : RootsView) (c : Numbers) (m : BTreeMap (List ℕ) RootState) (root : List ℕ) → shown c m ≡ r
+    → get (slice_cmp nat_cmp) m root ≡ None → view_at r root ≡ unheard
+seen-none r c m root is none = ap (λ (r : RootsView). view_at r root) (sym is) ∙ view-none c m root none
+
 -- one state was put at a root
 pub record Puts (old new : BTreeMap (List ℕ) RootState) (root : List ℕ) (s : RootState) : Type 0 where
   pub puts : (q : List ℕ) → get (slice_cmp nat_cmp) new q ≡ (if is_eq (slice_cmp nat_cmp root q) then Some s else get (slice_cmp nat_cmp) old q)
+
+-- one that was inserted where there was none
+pub Puts-inserted : (old between new : BTreeMap (List ℕ) RootState) (root : List ℕ) (s : RootState) → between ≡ old
+    → ((q : List ℕ) → get (slice_cmp nat_cmp) new q ≡ (if is_eq (slice_cmp nat_cmp root q) then Some s else get (slice_cmp nat_cmp) between q))
+    → Puts old new root s
+Puts-inserted old between new root s same updates = record {
+  puts = λ q.
+      updates q ∙ ap (λ (m : BTreeMap (List ℕ) RootState). if is_eq (slice_cmp nat_cmp root q) then Some s else get (slice_cmp nat_cmp) m q) same;
+}
 
 -- so the table shows what it shows
 pub Finds-puts : (c : Numbers) (old new : BTreeMap (List ℕ) RootState) (root : List ℕ) (s : RootState) (v : RootView) → Puts old new root s → root_view s ≡ v

@@ -4,6 +4,7 @@ use Rattle.std.specs.Option.{option_map, option_or}
 use Rattle.std.proofs.lemmas.Bool.{eqb-true, and_parts}
 use Rattle.hb_wire.specs.declared.vote.Vote.{Vote}
 use Rattle.hb_wire.specs.declared.vote.Vote.TheVariants.{Val, Echo, Ready, Propose}
+use Rattle.hb_wire.specs.Votes.{epoch_of}
 use Rattle.merkle_branch.specs.declared.Branch.{Branch}
 use Rattle.merkle_branch.specs.Branches.{is_branch}
 use Rattle.hb_rules.specs.Hearing.{hearing}
@@ -64,6 +65,19 @@ unheeded_ready r from e root due below apart = Hears-unheeded r (hearing from (R
   proposal = λ sender. none_either (from == r.node) None refl;
   echo = none_either (from == r.lane) None refl;
   named = claim_if (e == r.epoch) root (λ same. apart (eqb-true e r.epoch same));
+})
+
+-- a vote of another epoch
+pub unheeded_epoch : (r : RbcView) (from : ℕ) (vote : Vote) (due : List Vote) → from < r.roots.config.n → (epoch_of vote ≡ r.epoch → ⊥)
+    → Hears r r (hearing from vote) due due
+unheeded_epoch r from (Propose e value) due below other = unheeded_proposal r from e value due below (λ same at sender. other same)
+unheeded_epoch r from (Val e m root shard branch) due below other = unheeded_val r from e m root shard branch due below (λ same at target. other same)
+unheeded_epoch r from (Echo e root shard branch) due below other = unheeded_echo r from e root shard branch due below (λ same valid. other same)
+unheeded_epoch r from (Ready e root) due below other = unheeded_ready r from e root due below other
+unheeded_epoch r from vote due below other = Hears-unheeded r (hearing from vote) due below (record {
+  proposal = λ sender. none_either (from == r.node) None refl;
+  echo = none_either (from == r.lane) None refl;
+  named = refl;
 })
 
 -- votes that the broadcast hears

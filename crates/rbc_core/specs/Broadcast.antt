@@ -1,18 +1,20 @@
 -- What the state of a broadcast stands for: the votes that its lane has cast and those that it has heard.
-use Rattle.std.specs.Prelude.{◌≡◌, ℕ, ◌≤◌, Bool, true, false, ◌||◌, List, [], ◌∷◌, ◌++◌, length, take, Option, is_some}
+use Rattle.std.specs.Prelude.{◌≡◌, ℕ, ◌+◌, ◌≤◌, Bool, true, false, not, ◌&&◌, ◌||◌, List, [], ◌∷◌, ◌++◌, length, take, Option, is_some}
 use Rattle.std.specs.List.{list_any}
 use Rattle.std.specs.Option.{option_or}
-use Rattle.hb_base.specs.Limits.{longest_value, longest_shard}
+use Rattle.hb_base.specs.Limits.{most_nodes, longest_value, longest_shard}
+use Rattle.hb_base.specs.Counting.{count_nodes}
 use Rattle.hb_base.specs.Numbers.{Numbers}
 use Rattle.hb_base.specs.NodeSet.{is_in}
 use Rattle.hb_wire.specs.declared.vote.Vote.{Vote}
-use Rattle.hb_wire.specs.declared.vote.Vote.TheVariants.{Echo, Propose}
+use Rattle.hb_wire.specs.declared.vote.Vote.TheVariants.{Echo, Ready, Propose}
 use Rattle.hb_rules.specs.Claims.{delivered, are_these, is_echo, is_ready, is_val_to, is_any_echo, is_any_ready}
 use Rattle.hb_rules.specs.Hearing.{Hearing, heard_by}
 use Rattle.hb_rules.specs.Code.{data_count}
 use Rattle.hb_rules.specs.Slots.{Slot, pass, IsIdle, IsOwed, first_of}
 use Rattle.hb_rules.specs.BroadcastRows.{shards_of, named}
 use Rattle.hb_rules.specs.Owing.{broadcast_slots}
+use Rattle.rbc_core.specs.Due.{is_delivery_by}
 use Rattle.rbc_core.specs.RootViews.{RootView}
 use Rattle.rbc_core.specs.Roots.{RootsView, found, view_at, IsUnchanged}
 
@@ -97,3 +99,17 @@ pub record Marks (old new : RbcView) (vote : Vote) : Type 0 where
   pub echo : new.is_echo_cast ≡ (old.is_echo_cast || is_any_echo old.epoch vote)
   pub ready : new.is_ready_cast ≡ (old.is_ready_cast || is_any_ready old.epoch vote)
   pub delivered : new.delivered ≡ option_or old.delivered (delivered old.epoch vote)
+
+-- One node more that is ready for the root makes no delivery due: one was cast, or still too few are ready, or its shards
+-- do not rebuild.
+abbrev pub MakesNoDelivery : RbcView → List ℕ → Type 0
+MakesNoDelivery r root =
+    (not (is_some r.delivered)
+    && is_delivery_by r.roots.config (count_nodes most_nodes (is_in (view_at r.roots root).readies) + 1) (is_some (view_at r.roots root).value)) ≡ false
+
+-- a Ready of the epoch for a root that is known, which makes no delivery due
+pub record IsFurtherReady (r : RbcView) (vote : Vote) : Type 0 where
+  pub root : List ℕ
+  pub is : vote ≡ Ready r.epoch root
+  pub known : is_some (found r.roots root) ≡ true
+  pub no_delivery : MakesNoDelivery r root

@@ -6,7 +6,7 @@ ghost use Rattle.hb_base.specs.Limits.{most_nodes, longest_value};
 ghost use Rattle.hb_base.specs.NodeSet.{is_in};
 ghost use Rattle.hb_wire.specs.declared.vote.Vote.{Vote};
 ghost use Rattle.hb_wire.specs.declared.vote.Vote.TheVariants.{Propose, Val, Echo, Ready, Delivered};
-ghost use Rattle.merkle_branch.specs.Branches.{branch_of};
+ghost use Rattle.merkle_branch.specs.Branches.{branch_of, is_branch};
 ghost use Rattle.merkle_branch.specs.Digests.{leaf_digests, root_of};
 ghost use Rattle.rs_shards.specs.Completing.{encoded};
 ghost use Rattle.hb_rules.specs.Claims.{delivered};
@@ -16,17 +16,17 @@ ghost use Rattle.hb_rules.specs.History.{HasSpelling};
 ghost use Rattle.hb_rules.specs.Parts.{in_broadcast};
 ghost use Rattle.hb_rules.specs.Slots.{first_of};
 ghost use Rattle.hb_rules.specs.Terms.{AreSpelled};
-ghost use Rattle.rbc_core.specs.Broadcast.{place_of, IsShort, Stands, Hears, Keeps, Marks};
+ghost use Rattle.rbc_core.specs.Broadcast.{place_of, IsShort, Stands, Hears, Keeps, Marks, MakesNoDelivery, IsFurtherReady};
 ghost use Rattle.rbc_core.specs.Due.{is_ready_by, is_delivery_by, unless, missing_vals};
-ghost use Rattle.rbc_core.specs.Roots.{view_at};
+ghost use Rattle.rbc_core.specs.Roots.{found, view_at};
 ghost use Rattle.rbc_core.specs.RootVotes.{votes_in, after_votes};
 
 use crate::checking::tree_over;
 use crate::roots::{Roots, copy_of};
 use hb_base::{Bytes, Config, NodeSet};
+use hb_rules::Due;
 use hb_wire::Vote;
 use merkle_branch::{Branch, Tree, is_branch};
-use hb_rules::Due;
 use rs_shards::encode;
 use std::alloc::{AllocError, Global};
 use std::marker::Model;
@@ -111,7 +111,7 @@ impl Rbc {
     /// Hears a vote that node `from` has cast, and adds the votes that it makes due. It does not heed a vote of another
     /// epoch or kind, a Val of another node than the sender or for another node, a Val or an Echo whose branch is not valid,
     /// or a proposal of another node. Want of memory changes nothing; a Ready for a known root that makes no delivery due
-    /// needs none where there is room for one vote.
+    /// takes none where there is room for one vote.
     pub fn hear(
         &mut self,
         alloc: Global,
@@ -124,47 +124,27 @@ impl Rbc {
         ensures ok { OnOk result (Hears self.old self.new (hearing from vote.now) due.old.votes due.new.votes) }
         ensures err { OnErr result (Keeps self.old self.new) }
         ensures due { OnErr result (due.new.votes ≡ due.old.votes) }
+        ensures enough { IsFurtherReady self.old vote.now → 1 ≤ due.old.spare → IsOk result }
     {
+        if vote.epoch() != self.epoch {
+            return Ok(());
+        }
         match vote {
-            Vote::Propose { epoch, value } => {
-                if *epoch == self.epoch && from == self.node && self.node == self.lane {
-                    self.hear_proposal(alloc, value, due)
-                } else {
-                    Ok(())
-                }
-            }
+            Vote::Propose { value, .. } => self.hear_proposal(alloc, from, value, due),
             Vote::Val {
-                epoch,
                 target,
                 root,
                 shard,
                 branch,
-            } => {
-                if *epoch == self.epoch && from == self.lane && *target == self.node {
-                    self.hear_val(root, shard, branch, due)
-                } else {
-                    Ok(())
-                }
-            }
+                ..
+            } => self.hear_val(from, *target, root, shard, branch, due),
             Vote::Echo {
-                epoch,
                 root,
                 shard,
                 branch,
-            } => {
-                if *epoch == self.epoch {
-                    self.hear_echo(alloc, from, root, shard, branch, due)
-                } else {
-                    Ok(())
-                }
-            }
-            Vote::Ready { epoch, root } => {
-                if *epoch == self.epoch {
-                    self.hear_ready(alloc, from, root, due)
-                } else {
-                    Ok(())
-                }
-            }
+                ..
+            } => self.hear_echo(alloc, from, root, shard, branch, due),
+            Vote::Ready { root, .. } => self.hear_ready(alloc, from, root, due),
             _ => Ok(()),
         }
     }
@@ -209,19 +189,23 @@ impl Rbc {
         }
     }
 
-    // The sender's own desk proposes: each node that has none gets its shard of the value.
+    // A desk proposes. At the sender's own desk each node that has none gets its shard of the value.
     fn hear_proposal(
         &mut self,
         alloc: Global,
+        from: u8,
         value: &Bytes,
         due: &mut Due,
     ) -> Result<(), AllocError>
-        requires sender { self.old.node ≡ self.old.lane }
+        requires from { from < (place_of self.old).config.n }
         requires short { length value.now ≤ longest_value }
-        ensures ok { OnOk result (Hears self.old self.new (hearing self.old.node (Propose self.old.epoch value.now)) due.old.votes due.new.votes) }
+        ensures ok { OnOk result (Hears self.old self.new (hearing from (Propose self.old.epoch value.now)) due.old.votes due.new.votes) }
         ensures err { OnErr result (Keeps self.old self.new) }
         ensures due { OnErr result (due.new.votes ≡ due.old.votes) }
     {
+        if from != self.node || self.node != self.lane {
+            return Ok(());
+        }
         let n = self.roots.config().n();
         let k = self.roots.config().k();
         let shards = encode(alloc, n, k, value.as_slice())?;
@@ -232,25 +216,29 @@ impl Rbc {
         Ok(())
     }
 
-    // The sender shows this node its shard, which echoes the first whose branch is valid.
+    // A node shows another its shard. The first that the sender shows this node, and whose branch is valid, is echoed.
     fn hear_val(
         &mut self,
+        from: u8,
+        target: u8,
         root: &[u8; 32],
         shard: &Bytes,
         branch: &Branch,
         due: &mut Due,
     ) -> Result<(), AllocError>
-        requires { self.old.lane < (place_of self.old).config.n }
+        requires { from < (place_of self.old).config.n }
         ensures ok { OnOk result (Hears self.old self.new
-            (hearing self.old.lane (Val self.old.epoch self.old.node root.now shard.now branch.now)) due.old.votes due.new.votes) }
+            (hearing from (Val self.old.epoch target root.now shard.now branch.now)) due.old.votes due.new.votes) }
         ensures err { OnErr result (Keeps self.old self.new) }
         ensures due { OnErr result (due.new.votes ≡ due.old.votes) }
     {
+        if from != self.lane || target != self.node {
+            return Ok(());
+        }
         if self.is_echo_cast {
             return Ok(());
         }
-        let n = self.roots.config().n();
-        if !is_branch(root, n, self.node, shard.as_slice(), branch) {
+        if !self.is_valid(self.node, root, shard, branch) {
             return Ok(());
         }
         due.push(Vote::Echo {
@@ -280,20 +268,21 @@ impl Rbc {
         ensures err { OnErr result (Keeps self.old self.new) }
         ensures due { OnErr result (due.new.votes ≡ due.old.votes) }
     {
-        let n = self.roots.config().n();
-        if !is_branch(root, n, from, shard.as_slice(), branch) {
+        if !self.is_valid(from, root, shard, branch) {
             return Ok(());
         }
-        let (echoes, has_echoed) = self.roots.echoes(root, from);
-        if has_echoed {
+        let counts = self.roots.counts(root, from);
+        if counts.has_echoed {
             return Ok(());
         }
-        let (readies, _) = self.roots.readies(root, from);
         let shard = shard.clone()?;
         let value = self.roots.value_with(alloc, root, from, &shard)?;
-        let (is_ready_due, is_delivery_due) = self.due_by(echoes + 1, readies, value.is_some());
-        due.reserve(count_of(is_ready_due, is_delivery_due))?;
-        let votes = root_votes(is_ready_due, is_delivery_due, value.as_ref())?;
+        let (is_ready_due, is_delivery_due) = self.due_by(
+            counts.echoes + 1,
+            counts.readies,
+            value.is_some(),
+        );
+        let votes = root_votes(is_ready_due, is_delivery_due, value.as_ref(), due)?;
         self.roots.add_echo(alloc, root, from, shard, value)?;
         self.cast(root, votes, due);
         Ok(())
@@ -312,21 +301,34 @@ impl Rbc {
             (hearing from (Ready self.old.epoch root.now)) due.old.votes due.new.votes) }
         ensures err { OnErr result (Keeps self.old self.new) }
         ensures due { OnErr result (due.new.votes ≡ due.old.votes) }
+        ensures enough { is_some (found self.old.roots root.now) ≡ true → MakesNoDelivery self.old root.now → 1 ≤ due.old.spare → IsOk result }
     {
         let n = self.roots.config().n();
         prove!(from < n);
-        let (readies, is_ready) = self.roots.readies(root, from);
-        if is_ready {
+        let counts = self.roots.counts(root, from);
+        if counts.is_ready {
             return Ok(());
         }
-        let (echoes, _) = self.roots.echoes(root, from);
         let value = self.roots.value(root);
-        let (is_ready_due, is_delivery_due) = self.due_by(echoes, readies + 1, value.is_some());
-        due.reserve(count_of(is_ready_due, is_delivery_due))?;
-        let votes = root_votes(is_ready_due, is_delivery_due, value)?;
+        let (is_ready_due, is_delivery_due) = self.due_by(
+            counts.echoes,
+            counts.readies + 1,
+            value.is_some(),
+        );
+        let votes = root_votes(is_ready_due, is_delivery_due, value, due)?;
         self.roots.add_ready(alloc, root, from)?;
         self.cast(root, votes, due);
         Ok(())
+    }
+
+    // Whether the branch of a shard leads from it, as the leaf of node m, to the root.
+    fn is_valid(&self, m: u8, root: &[u8; 32], shard: &Bytes, branch: &Branch) -> bool
+        requires { m < (place_of self.now).config.n }
+        ensures value { result ≡ is_branch root.now (place_of self.now).config.n m shard.now branch.now }
+        ensures few { (place_of self.now).config.n ≤ most_nodes }
+    {
+        let n = self.roots.config().n();
+        is_branch(root, n, m, shard.as_slice(), branch)
     }
 
     // Whether a Ready for a root becomes due, and a delivery, where so many nodes echoed it validly, so many are ready for
@@ -374,16 +376,21 @@ fn count_of(is_ready_due: bool, is_delivery_due: bool) -> u32
     }
 }
 
-// What becomes due by a root that rebuilds to this value, if it does.
+// What becomes due by a root that rebuilds to this value, if it does, with room for it.
 fn root_votes(
     is_ready_due: bool,
     is_delivery_due: bool,
     value: Option<&Bytes>,
+    due: &mut Due,
 ) -> Result<RootVotes, AllocError>
     ensures ready { IfOk result (λ v. v.is_ready_due ≡ is_ready_due) }
     ensures delivery { IfOk result (λ v. v.delivery ≡ (if is_delivery_due then option_copied value.entry else None)) }
     ensures delivered { IfOk result (λ v. v.delivered ≡ (if is_delivery_due then option_copied value.entry else None)) }
+    ensures room { OnOk result ((if is_ready_due then 1 else 0) + (if is_delivery_due then 1 else 0) ≤ due.new.spare) }
+    ensures votes { due.new.votes ≡ due.old.votes }
+    ensures enough { is_delivery_due ≡ false → 1 ≤ due.old.spare → IsOk result }
 {
+    due.reserve(count_of(is_ready_due, is_delivery_due))?;
     let value = if is_delivery_due { value } else { None };
     Ok(RootVotes {
         is_ready_due,

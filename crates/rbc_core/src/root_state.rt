@@ -1,4 +1,5 @@
 ghost use Rattle.std.specs.Prelude.{◌≡◌, ◌<◌, ◌≤◌, length, false, OnOk, OnErr};
+ghost use Rattle.hb_base.specs.Counting.{count_nodes};
 ghost use Rattle.hb_base.specs.Limits.{most_nodes};
 ghost use Rattle.hb_base.specs.NodeSet.{is_in};
 ghost use Rattle.rbc_core.specs.RootViews.{root_view, unheard, with_echo};
@@ -6,6 +7,15 @@ ghost use Rattle.rbc_core.specs.RootViews.{root_view, unheard, with_echo};
 use crate::voters::Voters;
 use hb_base::Bytes;
 use std::alloc::{AllocError, Global};
+
+// How many nodes echoed a root validly and how many are ready for it, and whether one node did and is.
+#[derive(Clone, Copy, Debug)]
+pub(crate) struct RootCounts {
+    pub(crate) echoes: u8,
+    pub(crate) readies: u8,
+    pub(crate) has_echoed: bool,
+    pub(crate) is_ready: bool,
+}
 
 // What was heard of a root.
 #[derive(Debug, Drop)]
@@ -30,6 +40,21 @@ impl RootState {
             readies: Voters::new(),
             shards: Vec::new(alloc),
             value: None,
+        }
+    }
+
+    // How many nodes echoed and are ready, and whether this one did and is.
+    pub(crate) fn counts(&self, node: u8) -> RootCounts
+        ensures echoes { result.echoes ≡ count_nodes most_nodes (is_in (root_view self.now).echoes) }
+        ensures readies { result.readies ≡ count_nodes most_nodes (is_in (root_view self.now).readies) }
+        ensures has_echoed { result.has_echoed ≡ is_in (root_view self.now).echoes node }
+        ensures is_ready { result.is_ready ≡ is_in (root_view self.now).readies node }
+    {
+        RootCounts {
+            echoes: self.echoes.count(),
+            readies: self.readies.count(),
+            has_echoed: self.echoes.has(node),
+            is_ready: self.readies.has(node),
         }
     }
 

@@ -10,7 +10,7 @@ ghost use Rattle.rbc_core.specs.RootViews.{first_with};
 ghost use Rattle.rbc_core.specs.Roots.{found, view_at, IsRootView, value_with, after_echo, after_ready, Finds, IsUnchanged};
 
 use crate::checking::value_through;
-use crate::root_state::RootState;
+use crate::root_state::{RootCounts, RootState};
 use hb_base::{Bytes, Config};
 use std::alloc::{AllocError, Global};
 use std::collections::BTreeMap;
@@ -55,29 +55,24 @@ impl Roots {
         &self.config
     }
 
-    // How many nodes echoed a root validly, and whether this one did.
-    pub(crate) fn echoes(&self, root: &[u8; 32], node: u8) -> (u8, bool)
-        ensures count { result.0 ≡ count_nodes most_nodes (is_in (view_at self.now root.now).echoes) }
-        ensures few { result.0 ≤ most_nodes }
-        ensures has { result.1 ≡ is_in (view_at self.now root.now).echoes node }
+    // How many nodes echoed a root validly and how many are ready for it, and whether this one did and is.
+    pub(crate) fn counts(&self, root: &[u8; 32], node: u8) -> RootCounts
+        ensures echoes { result.echoes ≡ count_nodes most_nodes (is_in (view_at self.now root.now).echoes) }
+        ensures readies { result.readies ≡ count_nodes most_nodes (is_in (view_at self.now root.now).readies) }
+        ensures few_echoes { result.echoes ≤ most_nodes }
+        ensures few_readies { result.readies ≤ most_nodes }
+        ensures has_echoed { result.has_echoed ≡ is_in (view_at self.now root.now).echoes node }
+        ensures is_ready { result.is_ready ≡ is_in (view_at self.now root.now).readies node }
         ensures sound { IsRootView self.now.config root.now (view_at self.now root.now) }
     {
         match self.by_root.get(root) {
-            Some(state) => (state.echoes.count(), state.echoes.has(node)),
-            None => (0, false),
-        }
-    }
-
-    // How many nodes are ready for a root, and whether this one is.
-    pub(crate) fn readies(&self, root: &[u8; 32], node: u8) -> (u8, bool)
-        ensures count { result.0 ≡ count_nodes most_nodes (is_in (view_at self.now root.now).readies) }
-        ensures few { result.0 ≤ most_nodes }
-        ensures has { result.1 ≡ is_in (view_at self.now root.now).readies node }
-        ensures sound { IsRootView self.now.config root.now (view_at self.now root.now) }
-    {
-        match self.by_root.get(root) {
-            Some(state) => (state.readies.count(), state.readies.has(node)),
-            None => (0, false),
+            Some(state) => state.counts(node),
+            None => RootCounts {
+                echoes: 0,
+                readies: 0,
+                has_echoed: false,
+                is_ready: false,
+            },
         }
     }
 
@@ -203,7 +198,8 @@ fn value_once(
 
 // One more owner of the value, if there is one.
 pub(crate) fn copy_of(value: Option<&Bytes>) -> Result<Option<Bytes>, AllocError>
-    ensures { IfOk result (λ copy. copy ≡ option_copied value.entry) }
+    ensures copy { IfOk result (λ copy. copy ≡ option_copied value.entry) }
+    ensures none { value.entry ≡ None → IsOk result }
 {
     match value {
         Some(value) => Ok(Some(value.clone()?)),

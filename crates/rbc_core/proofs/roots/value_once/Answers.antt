@@ -12,7 +12,7 @@ returns-then-shards-k c =
     if_ok c.copy_of.result _ _
     (λ copy is. is ∙ c.requires.value
     ∙ ap (value_through c.args.config.now c.args.root.now) (sym (first_with-full (data_count c.args.config.now) c.args.shards.now (c.args.node, c.args.shard.now) full)))
-    c.copy_of.ensures
+    c.copy_of.ensures.copy
 
 pub returns-then-shards-k-2 : goal.returns-then-shards-k-2
 returns-then-shards-k-2 c =

@@ -1,14 +1,14 @@
-use Rattle.std.proofs.Common.{◌≡◌, ◌∙◌, length, is_some, Some, None, sym, ap, arith, if◌then◌else◌, List, ℕ}
+use Rattle.std.proofs.Common.{◌≡◌, ◌∙◌, length, is_some, Some, None, sym, ap, arith, List, ℕ}
 use Rattle.std.specs.BTreeMap.{BTreeMap, get}
 use Rattle.std.specs.Cmp.Lexicographic.{slice_cmp}
-use Rattle.std.specs.Ordering.{nat_cmp, is_eq}
+use Rattle.std.specs.Ordering.{nat_cmp}
 use Rattle.hb_base.specs.NodeSet.{is_in}
 use Rattle.rbc_core.specs.declared.root_state.RootState.{RootState}
 use Rattle.rbc_core.specs.RootViews.{RootView, unheard, root_view, with_echo}
 use Rattle.rbc_core.specs.Roots.{view_at, AreRootViews}
-use Rattle.rbc_core.proofs.Tables.{shown, view-some, view-none, Puts, unchanged-puts}
+use Rattle.rbc_core.proofs.Tables.{shown, view-some, view-none, Puts, Puts-inserted, unchanged-puts}
 use Rattle.rbc_core.proofs.RootStates.{AreRootViews-unchanged}
-use Rattle.rbc_core.proofs.Adding.{on_ok, on_err, either_way, MayEcho, Finds-echo, AreRootViews-echo}
+use Rattle.rbc_core.proofs.Adding.{on_ok, on_err, either_way, MayEcho, MayEcho-shown, Finds-echo, AreRootViews-echo}
 use Rattle.rbc_core.proofs.roots.Roots.add_echo.Goals as goal
 
 pub add_echo-requires-clause-new : goal.add_echo-requires-clause-new
@@ -27,14 +27,9 @@ pub returns-in-Some-clause-ok : goal.returns-in-Some-clause-ok
 returns-in-Some-clause-ok c =
     let m = c.self.inside.by_root in
     let some : get (slice_cmp nat_cmp) m c.args.root.now ≡ Some c.in-Some.state.now = sym c.in-Some.ensures.value in
-    let may : MayEcho c.self.inside.config m c.args.root.now c.args.node c.args.shard c.args.value = record {
-      are = c.self.invariant;
-      below = rw (← c.self.view_is) at c.requires.known;
-      few = omega (arith, c.n-n.ensures.value, c.n-n.ensures.bounds.1);
-      short = c.requires.short;
-      new = rw (← c.self.view_is) at c.requires.new;
-      rebuilt = rw (← c.self.view_is) at c.requires.value;
-    } in
+    let may : MayEcho c.self.inside.config m c.args.root.now c.args.node c.args.shard c.args.value =
+    MayEcho-shown c.args.self.now c.self.inside.config m c.args.root.now c.args.node c.args.shard c.args.value c.self.view_is c.self.invariant c.requires.known
+    (omega (arith, c.n-n.ensures.value, c.n-n.ensures.bounds.1)) c.requires.short c.requires.new c.requires.value in
     let puts : Puts m (c.get_mut.follows.lender c.add_echo.new.self) c.args.root.now c.add_echo.new.self =
     record { puts = ((c.get_mut.follows.holds c.add_echo.new.self).3 (ap is_some some)).0 } in
     rw (← c.self.view_is) (on_ok c.add_echo.result _ _
@@ -58,14 +53,9 @@ pub invariant_of-self : goal.invariant_of-self
 invariant_of-self c =
     let m = c.self.inside.by_root in
     let some : get (slice_cmp nat_cmp) m c.args.root.now ≡ Some c.in-Some.state.now = sym c.in-Some.ensures.value in
-    let may : MayEcho c.self.inside.config m c.args.root.now c.args.node c.args.shard c.args.value = record {
-      are = c.self.invariant;
-      below = rw (← c.self.view_is) at c.requires.known;
-      few = omega (arith, c.n-n.ensures.value, c.n-n.ensures.bounds.1);
-      short = c.requires.short;
-      new = rw (← c.self.view_is) at c.requires.new;
-      rebuilt = rw (← c.self.view_is) at c.requires.value;
-    } in
+    let may : MayEcho c.self.inside.config m c.args.root.now c.args.node c.args.shard c.args.value =
+    MayEcho-shown c.args.self.now c.self.inside.config m c.args.root.now c.args.node c.args.shard c.args.value c.self.view_is c.self.invariant c.requires.known
+    (omega (arith, c.n-n.ensures.value, c.n-n.ensures.bounds.1)) c.requires.short c.requires.new c.requires.value in
     let n : BTreeMap (List ℕ) RootState = c.get_mut.follows.lender c.add_echo.new.self in
     let puts : Puts m n c.args.root.now c.add_echo.new.self =
     record { puts = ((c.get_mut.follows.holds c.add_echo.new.self).3 (ap is_some some)).0 } in
@@ -82,20 +72,11 @@ pub invariant_of-self-in-None : goal.invariant_of-self-in-None
 invariant_of-self-in-None c =
     let m = c.self.inside.by_root in
     let none : get (slice_cmp nat_cmp) m c.args.root.now ≡ None = sym c.in-None.ensures.value in
-    let may : MayEcho c.self.inside.config m c.args.root.now c.args.node c.args.shard c.args.value = record {
-      are = c.self.invariant;
-      below = rw (← c.self.view_is) at c.requires.known;
-      few = omega (arith, c.n-n.ensures.value, c.n-n.ensures.bounds.1);
-      short = c.requires.short;
-      new = rw (← c.self.view_is) at c.requires.new;
-      rebuilt = rw (← c.self.view_is) at c.requires.value;
-    } in
-    let puts : Puts m c.insert.new.self c.args.root.now c.add_echo-in-None.new.self = record {
-      puts = λ q.
-          c.in_ok-insert-in-None.ensures.updates.0 q
-          ∙ ap (λ (o : BTreeMap (List ℕ) RootState). if is_eq (slice_cmp nat_cmp c.args.root.now q) then Some c.add_echo-in-None.new.self else get (slice_cmp nat_cmp) o q)
-          c.get_mut.follows.holds-at-none;
-    } in
+    let may : MayEcho c.self.inside.config m c.args.root.now c.args.node c.args.shard c.args.value =
+    MayEcho-shown c.args.self.now c.self.inside.config m c.args.root.now c.args.node c.args.shard c.args.value c.self.view_is c.self.invariant c.requires.known
+    (omega (arith, c.n-n.ensures.value, c.n-n.ensures.bounds.1)) c.requires.short c.requires.new c.requires.value in
+    let puts : Puts m c.insert.new.self c.args.root.now c.add_echo-in-None.new.self =
+    Puts-inserted m _ c.insert.new.self c.args.root.now c.add_echo-in-None.new.self c.get_mut.follows.holds-at-none c.in_ok-insert-in-None.ensures.updates.0 in
     AreRootViews-echo c.self.inside.config m c.insert.new.self c.args.root.now c.args.node c.args.shard c.args.value may
     (Finds-echo c.self.inside.config m c.insert.new.self c.args.root.now unheard c.add_echo-in-None.new.self
     c.args.node c.args.shard c.args.value may
@@ -108,20 +89,11 @@ pub returns-in_ok-insert-in-None-clause-ok : goal.returns-in_ok-insert-in-None-c
 returns-in_ok-insert-in-None-clause-ok c =
     let m = c.self.inside.by_root in
     let none : get (slice_cmp nat_cmp) m c.args.root.now ≡ None = sym c.in-None.ensures.value in
-    let may : MayEcho c.self.inside.config m c.args.root.now c.args.node c.args.shard c.args.value = record {
-      are = c.self.invariant;
-      below = rw (← c.self.view_is) at c.requires.known;
-      few = omega (arith, c.n-n.ensures.value, c.n-n.ensures.bounds.1);
-      short = c.requires.short;
-      new = rw (← c.self.view_is) at c.requires.new;
-      rebuilt = rw (← c.self.view_is) at c.requires.value;
-    } in
-    let puts : Puts m c.insert.new.self c.args.root.now c.add_echo-in-None.new.self = record {
-      puts = λ q.
-          c.in_ok-insert-in-None.ensures.updates.0 q
-          ∙ ap (λ (o : BTreeMap (List ℕ) RootState). if is_eq (slice_cmp nat_cmp c.args.root.now q) then Some c.add_echo-in-None.new.self else get (slice_cmp nat_cmp) o q)
-          c.get_mut.follows.holds-at-none;
-    } in
+    let may : MayEcho c.self.inside.config m c.args.root.now c.args.node c.args.shard c.args.value =
+    MayEcho-shown c.args.self.now c.self.inside.config m c.args.root.now c.args.node c.args.shard c.args.value c.self.view_is c.self.invariant c.requires.known
+    (omega (arith, c.n-n.ensures.value, c.n-n.ensures.bounds.1)) c.requires.short c.requires.new c.requires.value in
+    let puts : Puts m c.insert.new.self c.args.root.now c.add_echo-in-None.new.self =
+    Puts-inserted m _ c.insert.new.self c.args.root.now c.add_echo-in-None.new.self c.get_mut.follows.holds-at-none c.in_ok-insert-in-None.ensures.updates.0 in
     rw (← c.self.view_is) (Finds-echo c.self.inside.config m c.insert.new.self c.args.root.now unheard c.add_echo-in-None.new.self
     c.args.node c.args.shard c.args.value may
     (view-none c.self.inside.config m c.args.root.now none) puts

@@ -1,14 +1,14 @@
-use Rattle.std.proofs.Common.{◌≡◌, ◌∙◌, false, is_some, Some, None, sym, ap, if◌then◌else◌, List, ℕ}
+use Rattle.std.proofs.Common.{◌≡◌, ◌∙◌, false, is_some, Some, None, sym, ap, List, ℕ}
 use Rattle.std.specs.BTreeMap.{BTreeMap, get}
 use Rattle.std.specs.Cmp.Lexicographic.{slice_cmp}
 use Rattle.std.specs.Option.{option_map}
-use Rattle.std.specs.Ordering.{nat_cmp, is_eq}
+use Rattle.std.specs.Ordering.{nat_cmp}
 use Rattle.std.proofs.lemmas.Bool.{both_ways}
 use Rattle.hb_base.specs.NodeSet.{is_in}
 use Rattle.rbc_core.specs.declared.root_state.RootState.{RootState}
 use Rattle.rbc_core.specs.RootViews.{RootView, root_view}
 use Rattle.rbc_core.specs.Roots.{RootsView, found}
-use Rattle.rbc_core.proofs.Tables.{found-shown, view-some, view-none, Puts}
+use Rattle.rbc_core.proofs.Tables.{found-shown, view-some, view-none, Puts, Puts-inserted}
 use Rattle.rbc_core.proofs.Adding.{Finds-ready, AreRootViews-ready}
 use Rattle.rbc_core.proofs.roots.Roots.add_ready.Goals as goal
 
@@ -54,12 +54,8 @@ invariant_of-self-in-None c =
     let m = c.self.inside.by_root in
     let after : RootState = record c.new-state.result { readies = c.add-in-None.new.self } in
     let none : get (slice_cmp nat_cmp) m c.args.root.now ≡ None = sym c.in-None.ensures.value in
-    let puts : Puts m c.insert.new.self c.args.root.now after = record {
-      puts = λ q.
-          c.in_ok-insert-in-None.ensures.updates.0 q
-          ∙ ap (λ (o : BTreeMap (List ℕ) RootState). if is_eq (slice_cmp nat_cmp c.args.root.now q) then Some after else get (slice_cmp nat_cmp) o q)
-          c.get_mut.follows.holds-at-none;
-    } in
+    let puts : Puts m c.insert.new.self c.args.root.now after =
+    Puts-inserted m _ c.insert.new.self c.args.root.now after c.get_mut.follows.holds-at-none c.in_ok-insert-in-None.ensures.updates.0 in
     AreRootViews-ready c.self.inside.config m c.insert.new.self c.args.root.now c.args.node c.self.invariant
     (Finds-ready c.self.inside.config m c.insert.new.self c.args.root.now (root_view c.new-state.result) after c.args.node
     (view-none c.self.inside.config m c.args.root.now none ∙ sym c.new-state.ensures) puts
@@ -70,12 +66,8 @@ returns-in_ok-insert-in-None-clause-ok c =
     let m = c.self.inside.by_root in
     let after : RootState = record c.new-state.result { readies = c.add-in-None.new.self } in
     let none : get (slice_cmp nat_cmp) m c.args.root.now ≡ None = sym c.in-None.ensures.value in
-    let puts : Puts m c.insert.new.self c.args.root.now after = record {
-      puts = λ q.
-          c.in_ok-insert-in-None.ensures.updates.0 q
-          ∙ ap (λ (o : BTreeMap (List ℕ) RootState). if is_eq (slice_cmp nat_cmp c.args.root.now q) then Some after else get (slice_cmp nat_cmp) o q)
-          c.get_mut.follows.holds-at-none;
-    } in
+    let puts : Puts m c.insert.new.self c.args.root.now after =
+    Puts-inserted m _ c.insert.new.self c.args.root.now after c.get_mut.follows.holds-at-none c.in_ok-insert-in-None.ensures.updates.0 in
     rw (← c.self.view_is) (Finds-ready c.self.inside.config m c.insert.new.self c.args.root.now (root_view c.new-state.result) after c.args.node
     (view-none c.self.inside.config m c.args.root.now none ∙ sym c.new-state.ensures) puts
     (ap (λ set. record (root_view c.new-state.result) { readies = set }) c.add-in-None.ensures.exact))
