@@ -1,19 +1,24 @@
 -- What stood behind a vote when it was cast stands behind it in the whole history.
-use Rattle.std.proofs.Common.{◌≡◌, ℕ, suc, ◌+◌, ◌-◌, ◌*◌, ◌<◌, ◌≤◌, ◌⊎◌, ◌==◌, ◌&&◌, Bool, true, false, inl, inr, List, ◌++◌, Contains, refl, sym, subst, arith}
+use Rattle.std.proofs.Common.{◌≡◌, ℕ, suc, ◌+◌, ◌-◌, ◌*◌, ◌<◌, ◌≤◌, ◌⊎◌, ◌==◌, ◌&&◌, Bool, true, false, inl, inr, List, Some, ◌++◌, Contains, refl, sym, subst, arith}
 use Rattle.std.proofs.lemmas.Bool.{and_parts}
 use Rattle.hb_base.specs.Numbers.{Numbers, AreSound}
 use Rattle.hb_base.specs.NodeSet.{is_in}
-use Rattle.coin_deal.specs.Deal.{dealt_coin}
+use Rattle.merkle_branch.specs.declared.Branch.{Branch}
+use Rattle.merkle_branch.specs.Digests.{leaf_digests}
+use Rattle.merkle_branch.specs.Branches.{branch_of}
+use Rattle.coin_deal.specs.Deal.{share, salt, coin_leaves, dealt_coin}
+use Rattle.coin_deal.specs.Heard.{heard_share}
 use Rattle.hb_wire.specs.declared.vote.Vals.{Vals}
 use Rattle.hb_wire.specs.declared.vote.Vals.TheVariants.{Zero, One, Both}
 use Rattle.hb_wire.specs.declared.vote.Vote.{Vote}
-use Rattle.hb_wire.specs.declared.vote.Vote.TheVariants.{Est, Aux, Conf, Pick, Decided, NoMore}
+use Rattle.hb_wire.specs.declared.vote.Vote.TheVariants.{Est, Bval, Aux, Conf, Pick, Coin, Decided, NoMore}
 use Rattle.hb_wire.specs.declared.post.Post.{Post}
 use Rattle.hb_rules.specs.Claims.{is_any_delivery, is_no_more}
-use Rattle.hb_rules.specs.Hearing.{Hearing, hearing, heard_in, heard_by, own_in, said_in, count_shown}
+use Rattle.hb_rules.specs.Hearing.{Hearing, hearing, round_of, heard_in, heard_by, own_in, said_in, count_shown}
 use Rattle.hb_rules.specs.Marks.{single, has_bit, pick, bears, has, Claim, bvals, makes, support}
 use Rattle.hb_rules.specs.Coins.{HasCoin}
 use Rattle.hb_rules.specs.Agreement.{confirms, IsGathered, IsLeftWith}
+use Rattle.hb_rules.specs.Rules.{MayCast}
 use Rattle.hb_rules.specs.History.{IsLegal}
 use Rattle.hb_rules.specs.Strings.{NoCollision}
 use Rattle.hb_rules.proofs.Among.{any_stands}
@@ -126,6 +131,42 @@ pick_balloted c j e r i b history legal correct stands =
       | inl may ↦
           let enough = left_alone (confirms c) c e r b (own_in c i j was.before) (heard_in c i j was.before) may.1.1 in
           omega (arith, enough, support_grows c i j e history (Pick e r (single b)) (ballots (confirms c) r b) may.0 correct was)
+      | inr may ↦ absurd may.1
+    ]
+
+-- ---- rounds and shares
+
+round_known : (c : Numbers) (i x r : ℕ) (own : List Vote) (heard : List Hearing) (vote : Vote) → MayCast c i x own heard vote
+    → round_of vote ≡ Some r → r < c.rounds
+round_known c i x r own heard (Est e s b) (inl may) h = subst (λ (k : ℕ). k < c.rounds) (let same : s ≡ r = cc (h) in same) may.1.0
+round_known c i x r own heard (Bval e s b) (inl may) h = subst (λ (k : ℕ). k < c.rounds) (let same : s ≡ r = cc (h) in same) may.1.0
+round_known c i x r own heard (Aux e s b) (inl may) h = subst (λ (k : ℕ). k < c.rounds) (let same : s ≡ r = cc (h) in same) may.1.0
+round_known c i x r own heard (Conf e s vals) (inl may) h = subst (λ (k : ℕ). k < c.rounds) (let same : s ≡ r = cc (h) in same) may.1.0
+round_known c i x r own heard (Pick e s vals) (inl may) h = subst (λ (k : ℕ). k < c.rounds) (let same : s ≡ r = cc (h) in same) may.1.0
+round_known c i x r own heard (Coin e s share salt branch) (inl may) h =
+    subst (λ (k : ℕ). k < c.rounds) (let same : s ≡ r = cc (h) in same) may.1.0
+round_known c i x r own heard (Est e s b) (inr may) h = absurd may.1
+round_known c i x r own heard (Bval e s b) (inr may) h = absurd may.1
+round_known c i x r own heard (Aux e s b) (inr may) h = absurd may.1
+round_known c i x r own heard (Conf e s vals) (inr may) h = absurd may.1
+round_known c i x r own heard (Pick e s vals) (inr may) h = absurd may.1
+round_known c i x r own heard (Coin e s share salt branch) (inr may) h = absurd may.1
+round_known c i x r own heard vote may h = absurd (cc (h))
+
+pub round_of_run : (c : Numbers) (j i r : ℕ) (vote : Vote) (history : List Post) → IsLegal c history → is_in c.liars i ≡ false
+    → Contains (own_in c i j history) vote → round_of vote ≡ Some r → r < c.rounds
+round_of_run c j i r vote history legal correct stands about =
+    let was = was_allowed c i j correct history legal vote stands in
+    round_known c i j r (own_in c i j was.before) (heard_in c i j was.before) vote was.may about
+
+pub share_dealt : (c : Numbers) (j e r i dealt_share : ℕ) (dealt_salt : List ℕ) (branch : Branch) (history : List Post) → IsLegal c history
+    → is_in c.liars i ≡ false → Contains (own_in c i j history) (Coin e r dealt_share dealt_salt branch)
+    → heard_share i dealt_share dealt_salt branch
+    ≡ heard_share i (share c e j r i) (salt c e j r i) (branch_of (leaf_digests (coin_leaves c e j r)) i)
+share_dealt c j e r i dealt_share dealt_salt branch history legal correct stands =
+    let was = was_allowed c i j correct history legal (Coin e r dealt_share dealt_salt branch) stands in
+    elim was.may [
+      | inl may ↦ rw (may.1.1, may.1.2, may.1.3) refl
       | inr may ↦ absurd may.1
     ]
 

@@ -12,9 +12,9 @@ use Rattle.hb_rules.specs.Ledger.{IsCorrect}
 use Rattle.hb_rules.specs.Strings.{NoCollision}
 use Rattle.hb_rules.proofs.Addressed.{legal_addressed}
 use Rattle.aba_world.specs.Agreed.{HasEstimate, DecisionsAgree, DecisionsAreBegun, IsAgreed}
-use Rattle.aba_world.specs.Backing.{BitsAreEstimates, VotesAreSupported, PicksAgree, BeginningsAreBacked, CoinsAreDealt, IsSettled, DecisionsAreSettled}
+use Rattle.aba_world.specs.Backing.{BitsAreEstimates, VotesAreSupported, PicksAgree, BeginningsAreBacked, CoinsAreDealt, VotesAreProper, IsSettled, DecisionsAreSettled}
 use Rattle.aba_world.proofs.Coins.{coin_dealt}
-use Rattle.aba_world.proofs.Stood.{aux_supported, conf_supported, pick_supported, had_dealt, WasDecided, was_decided, began_delivered, began_unwanted}
+use Rattle.aba_world.proofs.Stood.{aux_supported, conf_supported, pick_supported, round_of_run, share_dealt, had_dealt, WasDecided, was_decided, began_delivered, began_unwanted}
 use Rattle.aba_world.proofs.Rounds.{bval_estimate, supported_estimate, pick_estimate, began, one_single, IsLocked, locked_from, locked_later}
 
 -- ---- rounds
@@ -46,6 +46,12 @@ coins_dealt c history sound legal premise = record {
   dealt = λ j e r i b lane correct coin.
       coin_dealt c i j e r b history [] sound (legal_addressed c history legal) lane correct.honest (subst (NoCollision c) (sym (append-nil history)) premise)
       coin;
+}
+
+pub votes_proper : (c : Numbers) (history : List Post) → IsLegal c history → VotesAreProper c history
+votes_proper c history legal = record {
+  rounds = λ j i r vote correct h about. round_of_run c j i r vote history legal correct.honest h about;
+  shares = λ j e r i dealt_share dealt_salt branch correct h. share_dealt c j e r i dealt_share dealt_salt branch history legal correct.honest h;
 }
 
 -- ---- decisions

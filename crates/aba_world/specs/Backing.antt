@@ -1,13 +1,18 @@
 -- What stands behind the votes of a binary agreement. The letters: e is an epoch, j a lane, i and m nodes of a run with
 -- config c, r a round, b and d bits.
-use Rattle.std.specs.Prelude.{◌≡◌, ℕ, ◌+◌, ◌*◌, ◌<◌, ◌≤◌, Bool, true, false, List, Contains}
+use Rattle.std.specs.Prelude.{◌≡◌, ℕ, ◌+◌, ◌*◌, ◌<◌, ◌≤◌, Bool, true, false, List, Contains, Some}
 use Rattle.hb_base.specs.Numbers.{Numbers}
-use Rattle.coin_deal.specs.Deal.{dealt_coin}
+use Rattle.merkle_branch.specs.declared.Branch.{Branch}
+use Rattle.merkle_branch.specs.Digests.{leaf_digests}
+use Rattle.merkle_branch.specs.Branches.{branch_of}
+use Rattle.coin_deal.specs.Deal.{share, salt, coin_leaves, dealt_coin}
+use Rattle.coin_deal.specs.Heard.{heard_share}
 use Rattle.hb_wire.specs.declared.vote.Vals.{Vals}
-use Rattle.hb_wire.specs.declared.vote.Vote.TheVariants.{Est, Bval, Aux, Conf, Pick, Decided, NoMore}
+use Rattle.hb_wire.specs.declared.vote.Vote.{Vote}
+use Rattle.hb_wire.specs.declared.vote.Vote.TheVariants.{Est, Bval, Aux, Conf, Pick, Coin, Decided, NoMore}
 use Rattle.hb_wire.specs.declared.post.Post.{Post}
 use Rattle.hb_rules.specs.Claims.{is_any_delivery}
-use Rattle.hb_rules.specs.Hearing.{heard_in, own_in, said_in, count_shown}
+use Rattle.hb_rules.specs.Hearing.{round_of, heard_in, own_in, said_in, count_shown}
 use Rattle.hb_rules.specs.Marks.{single, has_bit, bvals, makes}
 use Rattle.hb_rules.specs.Coins.{HasCoin}
 use Rattle.hb_rules.specs.Ledger.{IsCorrect}
@@ -43,6 +48,14 @@ pub record BeginningsAreBacked (c : Numbers) (history : List Post) : Type 0 wher
 -- what a correct lane has heard gives no coin but the dealt one
 pub record CoinsAreDealt (c : Numbers) (history : List Post) : Type 0 where
   pub dealt : (j e r i : ℕ) (b : Bool) → j < c.n → IsCorrect c i → HasCoin c e j r (heard_in c i j history) b → b ≡ dealt_coin c e j r
+
+-- each vote of a correct lane that is about a round is about one that the run has, and a share of a coin is the dealt one
+pub record VotesAreProper (c : Numbers) (history : List Post) : Type 0 where
+  pub rounds : (j i r : ℕ) (vote : Vote) → IsCorrect c i → Contains (own_in c i j history) vote → round_of vote ≡ Some r → r < c.rounds
+  pub shares : (j e r i dealt_share : ℕ) (dealt_salt : List ℕ) (branch : Branch) → IsCorrect c i
+      → Contains (own_in c i j history) (Coin e r dealt_share dealt_salt branch)
+      → heard_share i dealt_share dealt_salt branch
+      ≡ heard_share i (share c e j r i) (salt c e j r i) (branch_of (leaf_digests (coin_leaves c e j r)) i)
 
 -- The decision of a lane was settled in a round: there it was left with the bit alone, and the coin is the bit. From then on
 -- correct nodes support the bit alone, and it is their estimate.
