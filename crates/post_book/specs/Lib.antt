@@ -1,0 +1,3 @@
+pub mod Numbering
+pub mod SharedSeats
+pub mod SharedLaws

@@ -1,0 +1,32 @@
+-- The seats of a shared book as their callers see them.
+use Rattle.std.specs.Prelude.{◌≡◌, ℕ, List, Contains}
+use Rattle.atomic_table.specs.Seated.{TableId}
+use Rattle.hb_wire.specs.declared.post.Post.{Post}
+use Rattle.hb_wire.specs.declared.vote.Vote.{Vote}
+use Rattle.hb_wire.specs.Votes.{Spells, spelling}
+use Rattle.hb_rules.specs.Book.{SeatView}
+use Rattle.hb_rules.specs.History.{IsAllowed}
+
+-- a seat of an actor: which book it is of, how often it was shown the whole history, and what it knows
+pub record SharedView : Type 0 where
+  pub book : TableId
+  pub looks : ℕ
+  pub seat : SeatView
+
+-- The first seat of a book, by which the others are made: which book it is of, what it has seen, the numbers of the seats
+-- made, and the number and the posts of each seat that was joined into it.
+pub record FirstView : Type 0 where
+  pub book : TableId
+  pub seen : List Post
+  pub given : List ℕ
+  pub joined : List (ℕ × List Post)
+
+-- each seat that was made was joined
+abbrev pub AllJoined : FirstView → Type 0
+AllJoined first = (number : ℕ) → Contains first.given number → (posts : List Post) × Contains first.joined (number, posts)
+
+-- a seat of this book that may post this vote, which has a spelling
+pub record MayPost (name : TableId) (vote : Vote) (s : SharedView) : Type 0 where
+  pub book : s.book ≡ name
+  pub spelled : Spells s.seat.config.n s.seat.config.version (spelling vote) vote
+  pub allowed : IsAllowed s.seat.config s.seat.node s.seat.actor s.seat.seen vote

@@ -1,0 +1,22 @@
+//! The first seat of a book.
+use crate::named_posts::NamedPosts;
+use crate::naming::Naming;
+use std::marker::Model;
+use turn_book::Seat;
+
+/// The seat that a `PostBook` is made with. It posts nothing: it makes the others, takes them in again, and closes the book.
+#[derive(Drop)]
+pub struct FirstSeat<J: Naming> {
+    pub(crate) seat: Seat<NamedPosts<J>>,
+}
+
+impl<J: Naming> Model for FirstSeat<J> {
+    ghost use Rattle.std.specs.Prelude.{◌≡◌, false};
+    ghost use Rattle.post_book.specs.SharedSeats.{FirstView};
+
+    ghost Value = { FirstView };
+
+    ghost view = { λ s. record { book = s.seat.book; seen = s.seat.seen; given = s.seat.given; joined = s.seat.ended } };
+
+    ghost invariant = { λ s. (s.seat.number ≡ 0) × (s.seat.in_turn ≡ false) };
+}
