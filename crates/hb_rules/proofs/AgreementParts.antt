@@ -92,7 +92,7 @@ choice_gives c i j e (Decide r) v P gives vote h =
 
 -- ---- the vote of a slot fills it, and is of the epoch's agreement
 
-same_bit-refl : (b : Bool) → same_bit b b ≡ true
+pub same_bit-refl : (b : Bool) → same_bit b b ≡ true
 same_bit-refl true = refl
 same_bit-refl false = refl
 

@@ -4,16 +4,19 @@ use Rattle.std.specs.List.{AllByRecursion}
 use Rattle.std.proofs.lemmas.Bool.{eqb-true, leb-true, and_parts, or_cases}
 use Rattle.hb_base.specs.Numbers.{Numbers, AreSound}
 use Rattle.coin_deal.proofs.Form.{share_form}
+use Rattle.hb_wire.specs.Votes.{FieldFits, first_version, epoch_of, row}
+use Rattle.hb_wire.specs.declared.vote.Vals.{Vals}
 use Rattle.hb_wire.specs.declared.vote.Vals.TheVariants.{Zero, One, Both}
 use Rattle.hb_wire.specs.declared.vote.Vote.{Vote}
+use Rattle.hb_wire.specs.declared.vote.Vote.TheVariants.{Est, Bval, Aux, Conf, Pick, Decided}
 use Rattle.hb_rules.specs.declared.agreement_slot.AgreementSlot.{AgreementSlot}
 use Rattle.hb_rules.specs.declared.agreement_slot.AgreementSlot.TheVariants.{Begin, Support, Accept, ConfirmOne, ConfirmBoth, PickOne, PickBoth, ShowShare, GoOn, Decide}
 use Rattle.hb_rules.specs.Hearing.{Hearing}
 use Rattle.hb_rules.specs.History.{HasSpelling}
-use Rattle.hb_rules.specs.Marks.{single, est, any_est, any_aux, any_conf, pick, has, bvals, auxes, any_auxes, confs, any_confs, confs_with, support}
+use Rattle.hb_rules.specs.Marks.{single, Claim, Mark, est, any_est, any_aux, any_conf, pick, has, bvals, auxes, any_auxes, confs, any_confs, confs_with, support}
 use Rattle.hb_rules.specs.Coins.{HasCoin}
 use Rattle.hb_rules.specs.Agreement.{confirms, IsGathered, IsConfirmed, IsLeftWith, GoesOn, MayBegin, MayAgree}
-use Rattle.hb_rules.specs.AgreementRows.{View, view_of, is_supported, has_quorum, is_made, is_gathered_one, is_gathered_both, is_confirmed_one, is_confirmed_both, is_left_one, is_left_both, next_bit, limit_of, agreement_slot, agreement_rows}
+use Rattle.hb_rules.specs.AgreementRows.{View, view_of, is_supported, has_quorum, is_made, is_gathered_one, is_gathered_both, is_confirmed_one, is_confirmed_both, is_left_one, is_left_both, next_bit, limit_of, agreement_slot, agreement_rows, dealt}
 use Rattle.hb_rules.specs.Slots.{IsOwed, owed, IsGuarded}
 use Rattle.hb_rules.specs.Turns.{InTurn, IsAllowedBy}
 use Rattle.hb_rules.specs.Owing.{agreement_slots}
@@ -27,41 +30,33 @@ use Rattle.hb_rules.proofs.AgreementParts.{Gives, choice_gives, IsKnown, agreeme
 
 -- ---- the bits that are left
 
+-- the bit is supported, and n - f nodes make a claim
+alone : (c : Numbers) (i j e r : ℕ) (b : Bool) (own : List Vote) (heard : List Hearing) (mark : Mark) (claim : Claim)
+    → (has e mark own && (is_supported c (view_of c i j e own heard) r b && has_quorum c (view_of c i j e own heard) claim)) ≡ true
+    → (has e mark own ≡ true) × (2 * c.f + 1 ≤ support c.n e (bvals r b) heard) × (c.n - c.f ≤ support c.n e claim heard)
+alone c i j e r b own heard mark claim h =
+    let v : View = view_of c i j e own heard in
+    let one = and_parts (has e mark own) (is_supported c v r b && has_quorum c v claim) h in
+    let two = and_parts (is_supported c v r b) (has_quorum c v claim) one.1 in
+    (one.0, leb-true (2 * c.f + 1) (support c.n e (bvals r b) heard) two.0, leb-true (c.n - c.f) (support c.n e claim heard) two.1)
+
 gathered_one : (c : Numbers) (i j e r : ℕ) (b : Bool) (own : List Vote) (heard : List Hearing)
     → is_gathered_one c (view_of c i j e own heard) r b ≡ true → IsGathered c e r (single b) own heard
-gathered_one c i j e r b own heard h = by b (parts b h)
-  where
-    parts : (b : Bool) → is_gathered_one c (view_of c i j e own heard) r b ≡ true
-        → (has e (any_aux r) own ≡ true) × (2 * c.f + 1 ≤ support c.n e (bvals r b) heard) × (c.n - c.f ≤ support c.n e (auxes r b) heard)
-    parts b h =
-        let v : View = view_of c i j e own heard in
-        let one = and_parts (v.cast (any_aux r)) (is_supported c v r b && has_quorum c v (auxes r b)) h in
-        let two = and_parts (is_supported c v r b) (has_quorum c v (auxes r b)) one.1 in
-        (one.0, leb-true (2 * c.f + 1) (support c.n e (bvals r b) heard) two.0, leb-true (c.n - c.f) (support c.n e (auxes r b) heard) two.1)
-
-    by : (b : Bool)
-        → (has e (any_aux r) own ≡ true) × (2 * c.f + 1 ≤ support c.n e (bvals r b) heard) × (c.n - c.f ≤ support c.n e (auxes r b) heard)
-        → IsGathered c e r (single b) own heard
-    by false is = record { entered = is.0; supported = is.1; accepted = is.2 }
-    by true is = record { entered = is.0; supported = is.1; accepted = is.2 }
+gathered_one c i j e r false own heard h =
+    let is = alone c i j e r false own heard (any_aux r) (auxes r false) h in
+    record { entered = is.0; supported = is.1; accepted = is.2 }
+gathered_one c i j e r true own heard h =
+    let is = alone c i j e r true own heard (any_aux r) (auxes r true) h in
+    record { entered = is.0; supported = is.1; accepted = is.2 }
 
 confirmed_one : (c : Numbers) (i j e r : ℕ) (b : Bool) (own : List Vote) (heard : List Hearing)
     → is_confirmed_one c (view_of c i j e own heard) r b ≡ true → IsConfirmed c e r (single b) own heard
-confirmed_one c i j e r b own heard h = by b (parts b h)
-  where
-    parts : (b : Bool) → is_confirmed_one c (view_of c i j e own heard) r b ≡ true
-        → (has e (any_conf r) own ≡ true) × (2 * c.f + 1 ≤ support c.n e (bvals r b) heard) × (c.n - c.f ≤ support c.n e (confs r b) heard)
-    parts b h =
-        let v : View = view_of c i j e own heard in
-        let one = and_parts (v.cast (any_conf r)) (is_supported c v r b && has_quorum c v (confs r b)) h in
-        let two = and_parts (is_supported c v r b) (has_quorum c v (confs r b)) one.1 in
-        (one.0, leb-true (2 * c.f + 1) (support c.n e (bvals r b) heard) two.0, leb-true (c.n - c.f) (support c.n e (confs r b) heard) two.1)
-
-    by : (b : Bool)
-        → (has e (any_conf r) own ≡ true) × (2 * c.f + 1 ≤ support c.n e (bvals r b) heard) × (c.n - c.f ≤ support c.n e (confs r b) heard)
-        → IsConfirmed c e r (single b) own heard
-    by false is = record { entered = is.0; supported = is.1; confirmed = is.2 }
-    by true is = record { entered = is.0; supported = is.1; confirmed = is.2 }
+confirmed_one c i j e r false own heard h =
+    let is = alone c i j e r false own heard (any_conf r) (confs r false) h in
+    record { entered = is.0; supported = is.1; confirmed = is.2 }
+confirmed_one c i j e r true own heard h =
+    let is = alone c i j e r true own heard (any_conf r) (confs r true) h in
+    record { entered = is.0; supported = is.1; confirmed = is.2 }
 
 -- what holds of both bits holds of each
 each_bit : (P : Bool → Type 0) → P false → P true → (b : Bool) → P b
@@ -221,77 +216,49 @@ agreement-owed c i j e own heard =
 
 -- ---- owed votes have spellings
 
--- an epoch and a round that the run has are written
+-- a vote of both versions and of an epoch of the run, whose fields fit
+pub in_run : (c : Numbers) → AreSound c → (vote : Vote) → first_version vote ≡ 1 → epoch_of vote < c.epochs
+    → AllByRecursion (FieldFits c.n) (row vote).fields
+    → HasSpelling c vote
+in_run c sound vote version epoch fields = record {
+  begun = omega (arith, version, sound.version.0);
+  built = sound.version.1;
+  epoch = omega (arith, epoch, sound.epochs.1);
+  fields = fields;
+}
+
+-- a Conf, where there is a confirm phase
+conf_in_run : (c : Numbers) → AreSound c → (e r : ℕ) (vals : Vals) → e < c.epochs → r < c.rounds → confirms c ≡ true → HasSpelling c (Conf e r vals)
+conf_in_run c sound e r vals epoch round confirming = record {
+  begun = omega (arith, eqb-true c.version 2 confirming);
+  built = sound.version.1;
+  epoch = omega (arith, epoch, sound.epochs.1);
+  fields = (omega (arith, round, sound.rounds.1), (tt, tt));
+}
+
+-- what is made of an epoch and a round of the run has a spelling
 pub gives_spelled : (c : Numbers) → AreSound c → (i j e : ℕ) → i < c.n → e < c.epochs → (name : AgreementSlot) → IsKnown c name → (v : View)
     → Gives c i j e name v (HasSpelling c)
-gives_spelled c sound i j e node epoch (Begin true) known v = λ h. record {
-  begun = sound.version.0;
-  built = sound.version.1;
-  epoch = omega (arith, sound.epochs.1);
-  fields = (omega (arith, sound.rounds.1, sound.rounds.0), (tt, tt));
-}
-gives_spelled c sound i j e node epoch (Begin false) known v = λ h. record {
-  begun = sound.version.0;
-  built = sound.version.1;
-  epoch = omega (arith, sound.epochs.1);
-  fields = (omega (arith, sound.rounds.1, sound.rounds.0), (tt, tt));
-}
-gives_spelled c sound i j e node epoch (Support r b) known v = λ h. record {
-  begun = sound.version.0;
-  built = sound.version.1;
-  epoch = omega (arith, sound.epochs.1);
-  fields = (omega (arith, known, sound.rounds.1), (tt, tt));
-}
-gives_spelled c sound i j e node epoch (Accept r) known v = λ b begun supported. record {
-  begun = sound.version.0;
-  built = sound.version.1;
-  epoch = omega (arith, sound.epochs.1);
-  fields = (omega (arith, known, sound.rounds.1), (tt, tt));
-}
-gives_spelled c sound i j e node epoch (ConfirmOne r b) known v = λ h. record {
-  begun = omega (arith, eqb-true c.version 2 known.1);
-  built = sound.version.1;
-  epoch = omega (arith, sound.epochs.1);
-  fields = (omega (arith, known.0, sound.rounds.1), (tt, tt));
-}
-gives_spelled c sound i j e node epoch (ConfirmBoth r) known v = λ h. record {
-  begun = omega (arith, eqb-true c.version 2 known.1);
-  built = sound.version.1;
-  epoch = omega (arith, sound.epochs.1);
-  fields = (omega (arith, known.0, sound.rounds.1), (tt, tt));
-}
-gives_spelled c sound i j e node epoch (PickOne r b) known v = λ h. record {
-  begun = sound.version.0;
-  built = sound.version.1;
-  epoch = omega (arith, sound.epochs.1);
-  fields = (omega (arith, known, sound.rounds.1), (tt, tt));
-}
-gives_spelled c sound i j e node epoch (PickBoth r) known v = λ h. record {
-  begun = sound.version.0;
-  built = sound.version.1;
-  epoch = omega (arith, sound.epochs.1);
-  fields = (omega (arith, known, sound.rounds.1), (tt, tt));
-}
+gives_spelled c sound i j e node epoch (Begin true) known v =
+    λ h. in_run c sound (Est e 0 true) refl epoch (omega arith, (tt, tt))
+gives_spelled c sound i j e node epoch (Begin false) known v =
+    λ h. in_run c sound (Est e 0 false) refl epoch (omega arith, (tt, tt))
+gives_spelled c sound i j e node epoch (Support r b) known v =
+    λ h. in_run c sound (Bval e r b) refl epoch (omega (arith, known, sound.rounds.1), (tt, tt))
+gives_spelled c sound i j e node epoch (Accept r) known v =
+    λ b begun supported. in_run c sound (Aux e r b) refl epoch (omega (arith, known, sound.rounds.1), (tt, tt))
+gives_spelled c sound i j e node epoch (ConfirmOne r b) known v = λ h. conf_in_run c sound e r (single b) epoch known.0 known.1
+gives_spelled c sound i j e node epoch (ConfirmBoth r) known v = λ h. conf_in_run c sound e r Both epoch known.0 known.1
+gives_spelled c sound i j e node epoch (PickOne r b) known v =
+    λ h. in_run c sound (Pick e r (single b)) refl epoch (omega (arith, known, sound.rounds.1), (tt, tt))
+gives_spelled c sound i j e node epoch (PickBoth r) known v =
+    λ h. in_run c sound (Pick e r Both) refl epoch (omega (arith, known, sound.rounds.1), (tt, tt))
 gives_spelled c sound i j e node epoch (ShowShare r) known v = λ h.
     let form = share_form c e j r i (omega (arith, sound.nodes.1)) node in
-    record {
-      begun = sound.version.0;
-      built = sound.version.1;
-      epoch = omega (arith, sound.epochs.1);
-      fields = (omega (arith, known, sound.rounds.1), (form.byte, (form.salt, (form.path, tt))));
-    }
-gives_spelled c sound i j e node epoch (GoOn r) known v = λ coin b is next. record {
-  begun = sound.version.0;
-  built = sound.version.1;
-  epoch = omega (arith, sound.epochs.1);
-  fields = (omega (arith, known, sound.rounds.1), (tt, tt));
-}
-gives_spelled c sound i j e node epoch (Decide r) known v = λ coin is picked. record {
-  begun = sound.version.0;
-  built = sound.version.1;
-  epoch = omega (arith, sound.epochs.1);
-  fields = (tt, tt);
-}
+    in_run c sound (dealt c i j e r) refl epoch (omega (arith, known, sound.rounds.1), (form.byte, (form.salt, (form.path, tt))))
+gives_spelled c sound i j e node epoch (GoOn r) known v =
+    λ coin b is next. in_run c sound (Est e (r + 1) b) refl epoch (omega (arith, known, sound.rounds.1), (tt, tt))
+gives_spelled c sound i j e node epoch (Decide r) known v = λ coin is picked. in_run c sound (Decided e coin) refl epoch (tt, tt)
 
 pub agreement_slot-spelled : (c : Numbers) → AreSound c → (i j e : ℕ) → i < c.n → e < c.epochs → (name : AgreementSlot) → IsKnown c name
     → (heard : List Hearing)

@@ -19,8 +19,8 @@ use Rattle.hb_wire.specs.Batches.{transaction_bytes}
 use Rattle.hb_wire.specs.Votes.{AreItems}
 use Rattle.hb_wire.specs.declared.items.Item.{Item}
 use Rattle.hb_wire.specs.declared.vote.Vote.{Vote}
-use Rattle.hb_wire.specs.declared.vote.Vote.TheVariants.{Delivered}
-use Rattle.hb_rules.specs.Claims.{decided, delivered, same_bit, is_bit, is_decision}
+use Rattle.hb_wire.specs.declared.vote.Vote.TheVariants.{Delivered, Propose, NoMore, Closed}
+use Rattle.hb_rules.specs.Claims.{decided, delivered, is_bit, is_decision}
 use Rattle.hb_rules.specs.Hearing.{Hearing, hearing, heard_by, count_shown}
 use Rattle.hb_rules.specs.History.{HasSpelling}
 use Rattle.hb_rules.specs.Desk.{IsAccepted, MayAtDesk}
@@ -36,6 +36,8 @@ use Rattle.hb_rules.proofs.MoreHeard.{MayAtDesk-among}
 use Rattle.hb_rules.proofs.Passing.{HasMade, owed_is_owed, IsOwed-InTurn, IsOwed-all}
 use Rattle.hb_rules.proofs.Rows.{by_rows-all, by_rows-hold}
 use Rattle.hb_rules.proofs.BroadcastSlots.{heard_spelled}
+use Rattle.hb_rules.proofs.AgreementParts.{same_bit-refl}
+use Rattle.hb_rules.proofs.AgreementSlots.{in_run}
 use Rattle.hb_rules.proofs.DeskParts.{proposal_made, ones, no_more_made, closing_made, desk-guarded}
 
 -- ---- what was heard of a lane
@@ -61,10 +63,6 @@ claim_heard {A} j claim heard result h = by source.element source.stands (source
       gives = gives;
     }
     by g stands false same gives = absurd (cc (gives))
-
-same_bit-refl : (b : Bool) → same_bit b b ≡ true
-same_bit-refl true = refl
-same_bit-refl false = refl
 
 decision_heard : (e j : ℕ) (heard : List Hearing) (bit : Bool) → decision_of e heard j ≡ Some bit → heard_by heard j (is_decision e bit) ≡ true
 decision_heard e j heard bit h =
@@ -390,31 +388,17 @@ desk-spelled c sound submitted fit bytes heard spelled =
     desk_slots_hold (HasMade (HasSpelling c) heard) c submitted
     (λ e below. record {
       has = λ own vote h.
-          subst (HasSpelling c) (proposal_made c submitted e own heard vote h).1 (record {
-            begun = sound.version.0;
-            built = sound.version.1;
-            epoch = omega (arith, below, sound.epochs.1);
-            fields = (pool_value-fits c sound submitted fit bytes e own, tt);
-          });
+          subst (HasSpelling c) (proposal_made c submitted e own heard vote h).1
+          (in_run c sound (Propose e (pool_value c submitted e own)) refl below (pool_value-fits c sound submitted fit bytes e own, tt));
     })
     (λ e below. record {
-      has = λ own vote h.
-          subst (HasSpelling c) (no_more_made c e own heard vote h).1 (record {
-            begun = sound.version.0;
-            built = sound.version.1;
-            epoch = omega (arith, below, sound.epochs.1);
-            fields = tt;
-          });
+      has = λ own vote h. subst (HasSpelling c) (no_more_made c e own heard vote h).1 (in_run c sound (NoMore e) refl below tt);
     })
     (λ e below. record {
       has = λ own vote h.
           let made = closing_made c e own heard vote h in
-          subst (HasSpelling c) made.is (record {
-            begun = sound.version.0;
-            built = sound.version.1;
-            epoch = omega (arith, below, sound.epochs.1);
-            fields = (accepted_fits c e heard spelled c.n made.list made.was, tt);
-          });
+          subst (HasSpelling c) made.is
+          (in_run c sound (Closed e made.list) refl below (accepted_fits c e heard spelled c.n made.list made.was, tt));
     })
 
 -- what a desk owes has spellings
