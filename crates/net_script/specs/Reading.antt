@@ -26,17 +26,22 @@ use Rattle.net_script.specs.Scenario.{Scenario}
 
 -- ---- the keys with numbers, and the order
 
-unfoldable pub sizes_at : Data → Result Sizes ScriptFault
-sizes_at d = do
-  nodes ← number_at (top keys.Nodes) 1 most_nodes d
-  faulty ← number_at (top keys.Faulty) 0 most_faulty d
-  epochs ← number_at (top keys.Epochs) 1 most_epochs d
+-- these numbers, and those that may be missing
+unfoldable pub with_usual : ℕ → ℕ → ℕ → Data → Result Sizes ScriptFault
+with_usual nodes faulty epochs d = do
   rounds ← number_or most_rounds (top keys.Rounds) 1 most_rounds d
   batch ← number_or most_batch (top keys.Batch) 1 most_batch d
   seed ← number_or 0 (top keys.Seed) 0 (2 ^ 64 - 1) d
   version ← number_or 1 (top keys.Version) 1 latest_version d
   workers ← number_or 0 (top keys.Workers) 0 most_workers d
   Ok (record { nodes = nodes; faulty = faulty; epochs = epochs; rounds = rounds; batch = batch; seed = seed; version = version; workers = workers })
+
+unfoldable pub sizes_at : Data → Result Sizes ScriptFault
+sizes_at d = do
+  nodes ← number_at (top keys.Nodes) 1 most_nodes d
+  faulty ← number_at (top keys.Faulty) 0 most_faulty d
+  epochs ← number_at (top keys.Epochs) 1 most_epochs d
+  with_usual nodes faulty epochs d
 
 -- what comes before the lists: the keys, the numbers and the order, and more than three times as many nodes as may be faulty
 unfoldable pub head_at : Data → Result Head ScriptFault

@@ -12,13 +12,9 @@ mod lists;
 mod place;
 mod plans;
 mod read;
-#[cfg(test)]
-mod rows;
 mod script;
 mod stops;
 mod submits;
-#[cfg(test)]
-mod tests;
 mod top;
 mod words;
 mod write;

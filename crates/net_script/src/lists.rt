@@ -16,7 +16,7 @@ use serde_json::Value;
 use std::alloc::Global;
 
 // The lists of a scenario, as they were read.
-#[derive(Debug, Drop)]
+#[derive(Drop)]
 pub(crate) struct Lists {
     pub(crate) submit: Vec<Submit>,
     pub(crate) liars: Vec<LiarAt>,

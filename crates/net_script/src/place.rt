@@ -161,7 +161,7 @@ pub struct Place {
 }
 
 // An entry of a list of a scenario, or the scenario itself.
-#[derive(Clone, Copy, Debug, PartialEq, Eq)]
+#[derive(Clone, Copy)]
 pub(crate) struct Spot {
     pub(crate) list: ListName,
     pub(crate) index: u32,

@@ -17,7 +17,7 @@ use serde_json::Value;
 use std::alloc::Global;
 
 // A device call of an actor's disk.
-#[derive(Clone, Copy, Debug, PartialEq, Eq)]
+#[derive(Clone, Copy)]
 pub(crate) struct CallAt {
     pub(crate) node: u8,
     pub(crate) actor: u8,
@@ -33,7 +33,7 @@ impl CallAt {
 }
 
 // A device call at which an actor's disk stops.
-#[derive(Clone, Copy, Debug, PartialEq, Eq)]
+#[derive(Clone, Copy)]
 pub(crate) struct StopAt {
     pub(crate) at: CallAt,
     pub(crate) leave: Leave,

@@ -1,8 +1,8 @@
 //! What no clause says: that calls find memory, and that the definitions say what was meant.
 use crate::rows::{BOUNDS, FAULTS, KINDS, LIARS, LINKS, LONG, NUMBERS, STOPS, SUBMIT, WHOLE};
-use crate::{LiarAt, Link, Order, Script, Shape, read_script, shape, write_fault};
 use disk_model::{Leave, Stop};
 use hb_base::{LiarName, MemorySink};
+use net_script::{LiarAt, Link, Order, Script, Shape, read_script, shape, write_fault};
 use std::alloc::{AllocError, Global};
 use std::process::Abort;
 use std::test::Fail;
