@@ -24,8 +24,6 @@ mod items_view;
 mod kinds;
 mod post;
 mod reading;
-#[cfg(test)]
-mod tests;
 mod vote;
 mod vote_view;
 mod writing;

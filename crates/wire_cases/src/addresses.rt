@@ -1,7 +1,7 @@
 //! Whom a post reaches.
 
-use crate::*;
 use hb_base::Bytes;
+use hb_wire::*;
 use std::test::*;
 
 #[test]

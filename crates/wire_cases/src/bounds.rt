@@ -3,7 +3,7 @@
 
 ghost use Rattle.std.specs.Prelude.{◌≤◌};
 
-use crate::*;
+use hb_wire::*;
 use std::alloc::{AllocError, Global};
 use std::test::*;
 

@@ -2,7 +2,7 @@
 
 ghost use Rattle.std.specs.Prelude.{◌≤◌};
 
-use crate::*;
+use hb_wire::*;
 use std::alloc::Global;
 use std::test::*;
 

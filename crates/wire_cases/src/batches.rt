@@ -1,7 +1,7 @@
 //! Batches and their bytes.
 
-use crate::*;
 use hb_base::Bytes;
+use hb_wire::*;
 use std::alloc::{AllocError, Global};
 use std::test::*;
 

@@ -2,8 +2,8 @@
 
 ghost use Rattle.std.specs.Prelude.{◌≤◌};
 
-use crate::*;
 use hb_base::Bytes;
+use hb_wire::*;
 use merkle_branch::Branch;
 use std::alloc::{AllocError, Global};
 use std::test::*;

@@ -9,8 +9,8 @@ ghost use Rattle.hb_wire.specs.Votes.{Spells, IsVote};
 ghost use Rattle.hb_wire.specs.Reading.{vote_at};
 ghost use Rattle.hb_wire.specs.Batches.{IsBatch, batch_bytes};
 
-use crate::*;
 use hb_base::{Bytes, Config, NodeSet};
+use hb_wire::*;
 use merkle_branch::{Leaves, Tree, is_branch};
 use std::alloc::{AllocError, Global};
 use std::test::*;
