@@ -9,8 +9,6 @@ mod met;
 mod past;
 mod plan;
 mod span;
-#[cfg(test)]
-mod tests;
 
 pub use disk::{Disk, DiskFault, Half, Power};
 pub use memory::MemoryDisk;

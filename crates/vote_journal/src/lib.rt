@@ -9,8 +9,6 @@ mod laws;
 mod parse;
 mod recover;
 mod steps;
-#[cfg(test)]
-mod tests;
 
 pub use fault::JournalFault;
 pub use journal::Journal;

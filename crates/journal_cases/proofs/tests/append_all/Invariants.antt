@@ -1,7 +1,7 @@
 use Rattle.disk_model.specs.Halves.{HalvesMayLeave, content_of}
 use Rattle.disk_model.specs.Memory.{MemoryState}
 use Rattle.vote_journal.specs.Usable.{IsUsable}
-use Rattle.vote_journal.proofs.tests.append_all.Given as goal
+use Rattle.journal_cases.proofs.tests.append_all.Given as goal
 
 abbrev pub invariant-loop : goal.invariant-loop
 invariant-loop l = IsUsable (λ (d : MemoryState). content_of d.halves) (λ (d : MemoryState). HalvesMayLeave d.halves) l.journal

@@ -1,7 +1,7 @@
 //! Disks by hand: what a stop, a fault and a cut leave, call by call.
 ghost use Rattle.std.specs.Prelude.{◌≡◌, IfOk};
 
-use crate::{Disk, DiskFault, Half, Leave, MemoryDisk, Plan, Power, Stop};
+use disk_model::{Disk, DiskFault, Half, Leave, MemoryDisk, Plan, Power, Stop};
 use std::alloc::Global;
 use std::test::Fail;
 

@@ -4,7 +4,7 @@ use Rattle.disk_model.specs.Area.{at_rest}
 use Rattle.disk_model.specs.Halves.{HalvesMayLeave, content_of}
 use Rattle.disk_model.specs.Memory.{MemoryState}
 use Rattle.vote_journal.specs.Calls.{IsEmpty}
-use Rattle.vote_journal.proofs.tests.new_disk.Goals as goal
+use Rattle.journal_cases.proofs.tests.new_disk.Goals as goal
 
 none : (xs : List ℕ) → length xs ≤ 0 → xs ≡ []
 none [] h = refl

@@ -1,5 +1,5 @@
 use Rattle.vote_journal.proofs.Starts.{empty_sound}
-use Rattle.vote_journal.proofs.tests.written.Goals as goal
+use Rattle.journal_cases.proofs.tests.written.Goals as goal
 
 pub loop-done-init : goal.loop-done-init
 loop-done-init c = c.in-Ok.ensures.usable (empty_sound _ c.requires.nothing)

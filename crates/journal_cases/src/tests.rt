@@ -5,11 +5,11 @@ ghost use Rattle.vote_journal.specs.Calls.{IsEmpty};
 ghost use Rattle.vote_journal.specs.Text.{IsSound};
 ghost use Rattle.vote_journal.specs.Usable.{IsUsable};
 
-use crate::{Journal, JournalFault};
 use disk_model::{Disk, Half, Leave, MemoryDisk, Plan, Power, Stop};
 use hb_base::Bytes;
 use std::alloc::{AllocError, Global};
 use std::test::Fail;
+use vote_journal::{Journal, JournalFault};
 
 const LEAVES: [Leave; 3] = [Leave::Old, Leave::New, Leave::Torn];
 

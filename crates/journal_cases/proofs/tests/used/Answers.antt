@@ -1,7 +1,7 @@
 use Rattle.std.proofs.Common.{List, [], ◌∷◌, refl, subst}
 use Rattle.vote_journal.specs.Calls.{JournalCall, Recover, Append, Did}
 use Rattle.vote_journal.proofs.Always.{always}
-use Rattle.vote_journal.proofs.tests.used.Goals as goal
+use Rattle.journal_cases.proofs.tests.used.Goals as goal
 
 pub returns-in-Ok-recover : goal.returns-in-Ok-recover
 returns-in-Ok-recover g c =
