@@ -5,7 +5,7 @@ use Rattle.std.specs.Io.KnownBytes.{Consumes, IsAtEnd}
 use Rattle.std.proofs.lemmas.Bool.{leb-true}
 use Rattle.serde_json.specs.Read.{read}
 use Rattle.hb_base.specs.Outside.{HasCause, Puts}
-use Rattle.value_rules.specs.declared.report.Report.{Report}
+use Rattle.hb_rules.specs.declared.report.Report.{Report}
 use Rattle.hb_app.specs.declared.scenario.Scenario.{Scenario}
 use Rattle.hb_base.specs.Limits.{longest_scenario}
 use Rattle.hb_app.specs.Input.{most_taken}
@@ -47,5 +47,5 @@ one_word f (y ∷ []) x word one is = (λ same. ap (λ w. w ∷ []) (ap f (sym i
 one_word f (y ∷ z ∷ xs) x word one is = absurd (omega (arith, one))
 
 -- what was delivered fits into a line
-pub short_run : (s : Scenario) (report : Report) → IsPlain s → IsRunOf s report → AreShort report.history.items
+pub short_run : (s : Scenario) (report : Report) → IsPlain s → IsRunOf s report → AreShort report.config report.history.items
 short_run s report plain run = record { short = λ i x e value found. rw (run.agreed.on i x e value found) plain.tx }

@@ -1,12 +1,15 @@
+pub mod Alive
 pub mod Answers
 pub mod Casts
 pub mod Deliveries
 pub mod Prints
 pub mod Quiet
+pub mod Rebuilt
+pub mod Receiving
 pub mod Reports
 pub mod Runs
 pub mod Scenarios
+pub mod Sent
 pub mod Statuses
-pub mod Taking
 pub mod Teams
 pub mod Totality

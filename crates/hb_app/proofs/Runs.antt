@@ -5,31 +5,32 @@ use Rattle.std.proofs.lemmas.Bool.{cases_lt, cases_Bool, eqb-true, eq-eqb}
 use Rattle.std.proofs.lemmas.Option.{slice_get_within, slice_get-get_or}
 use Rattle.std.proofs.lemmas.List.Elements.{Contains-push, Contains-append_left}
 use Rattle.hb_base.specs.Numbers.{Numbers}
-use Rattle.value_rules.specs.declared.vote.Vote.{Vote}
-use Rattle.value_rules.specs.declared.post.Post.{Post}
-use Rattle.value_rules.specs.declared.report.Fate.TheVariants.{Running}
-use Rattle.value_rules.specs.Hearing.{own_in, reaches}
-use Rattle.value_rules.specs.Book.{BookView, Moved}
-use Rattle.value_rules.specs.BookLaws.{own_in-append, own_in-others, Moved-refl, IsSeatOf-moved}
-use Rattle.value_rules.specs.Report.{heard_of, NoVoteTwice, actors}
+use Rattle.hb_base.specs.NodeSet.{is_in}
+use Rattle.hb_wire.specs.declared.vote.Vote.{Vote}
+use Rattle.hb_wire.specs.declared.post.Post.{Post}
+use Rattle.hb_wire.specs.Addresses.{reaches}
+use Rattle.hb_rules.specs.declared.report.Fate.TheVariants.{Running}
+use Rattle.hb_rules.specs.Hearing.{own_in}
+use Rattle.hb_rules.specs.Book.{BookView, SeatView, AreTwo, Moved, IsSeatOf}
+use Rattle.hb_rules.specs.BookLaws.{IsSeatOf-moved}
 use Rattle.hb_app.specs.declared.member.Member.{Member}
-use Rattle.hb_app.specs.Member.{IsReady, IsMember, IsTeam, HasReceived, AddsReceived, Delivers}
+use Rattle.hb_app.specs.Quiet.{NoVoteTwice, broadcast_actors}
+use Rattle.hb_app.specs.Member.{IsMember, IsTeam, HasReceived, Receives, Acts}
 use Rattle.hb_app.specs.Team.{HasProposed, IsRun}
-use Rattle.hb_app.proofs.Taking.{slice_get-front, got_within, heard_of-more, IsReceived-moved}
+use Rattle.hb_app.proofs.Casts.{own-others}
+use Rattle.hb_app.proofs.Receiving.{slice_get-front, IsMember-moved, Acts-refl}
 
 -- where an actor is
 abbrev pub place_of_member : Member → ℕ × ℕ
 place_of_member m = (m.node, m.actor)
 
+-- ---- one delivery to one actor
+
 -- nothing is delivered to an actor that ended, or that the post does not reach
-pub Delivers-nothing : (k : ℕ) (book : BookView) (m : Member) → IsMember book.config book.posts m → HasReceived book.config book.posts k m → Delivers k book book m m
-Delivers-nothing k book m member received = record {
-  node = refl;
-  actor = refl;
+pub Receives-nothing : (k : ℕ) (book : BookView) (m : Member) → IsMember book.config book.posts m → HasReceived book.config book.posts k m → Receives k book book m m
+Receives-nothing k book m member received = record {
+  acts = Acts-refl book m m refl refl;
   member = member;
-  moved = Moved-refl m.node m.actor book;
-  once = λ once. once;
-  desk = λ _. refl;
   kept = λ j running stands. stands;
   worked = λ running. running;
   received = received;
@@ -42,31 +43,26 @@ pub HasReceived-apart : (c : Numbers) (posts : List Post) (k : ℕ) (m : Member)
 HasReceived-apart c posts k m here stands apart post is reached running =
     let same : here ≡ post = cc in absurd (cc (sym apart ∙ ap (λ (p : Post). reaches c.n p m.node m.actor) same ∙ reached))
 
-pub HasReceived-pushed : (c : Numbers) (posts : List Post) (k : ℕ) (old m : Member) → (m.fate ≡ Running → m.got.items ≡ old.got.items ++ k ∷ []) → HasReceived c posts k m
-HasReceived-pushed c posts k old m got post stands reached running =
-    subst (λ (ks : List ℕ). Contains ks k) (sym (got running)) (Contains-push old.got.items k)
+-- an actor that received the post
+pub Receives-one : (k : ℕ) (book book' : BookView) (old new : Member) → old.fate ≡ Running → Acts book book' old new → IsMember book'.config book'.posts new
+    → (new.fate ≡ Running → new.got.items ≡ old.got.items ++ k ∷ []) → Receives k book book' old new
+Receives-one k book book' old new working acts member got = record {
+  acts = acts;
+  member = member;
+  kept = λ j running stands. subst (λ (ks : List ℕ). Contains ks j) (sym (got running)) (Contains-append_left old.got.items (k ∷ []) j stands);
+  worked = λ _. working;
+  received = λ post stands reached running. subst (λ (ks : List ℕ). Contains ks k) (sym (got running)) (Contains-push old.got.items k);
+}
 
 -- another actor stays a member while one posts
-pub IsMember-others : (book book' : BookView) (i x : ℕ) (m : Member) → Moved i x book book' → IsMember book.config book.posts m → (m.node ≡ i → m.actor ≢ x) → IsMember book'.config book'.posts m
-IsMember-others book book' i x m moved member apart =
-    let own : own_in m.node m.actor book'.posts ≡ own_in m.node m.actor book.posts =
-    ap (own_in m.node m.actor) moved.extended.is ∙ own_in-append m.node m.actor book.posts moved.extended.added
-    ∙ ap (λ (vs : List Vote). own_in m.node m.actor book.posts ++ vs) (own_in-others i x m.node m.actor moved.extended.added moved.extended.mine apart)
-    ∙ append-nil (own_in m.node m.actor book.posts) in
-    record {
-      seat = IsSeatOf-moved i x book book' m.seat moved (λ node actor. apart (sym member.node ∙ node) (sym member.actor ∙ actor)) member.seat;
-      node = member.node;
-      actor = member.actor;
-      got = λ j stands. IsReceived-moved book book' m.node m.actor i x j moved (member.got j stands);
-      ready = λ running.
-          let heard : heard_of book.config m.node m.actor book'.posts m.got.items ≡ heard_of book.config m.node m.actor book.posts m.got.items =
-          ap (λ (posts : List Post). heard_of book.config m.node m.actor posts m.got.items) moved.extended.is
-          ∙ heard_of-more book.config m.node m.actor book.posts moved.extended.added m.got.items (got_within book.config book.posts m.node m.actor m.got.items member.got) in
-          subst (λ (c : Numbers). IsReady c m.node m.actor (own_in m.node m.actor book'.posts) (heard_of c m.node m.actor book'.posts m.got.items) m.core) (sym moved.config)
-          (rw (own, heard) (member.ready running));
-      full = λ full. let more : length book'.posts ≡ length book.posts + length moved.extended.added = ap (λ (ps : List Post). length ps) moved.extended.is ∙ length-append book.posts moved.extended.added in
-          omega (arith, more, member.full full);
-    }
+IsMember-others : (book book' : BookView) (i x : ℕ) (m : Member) → Moved i x book book' → AreTwo book.config i x m.node m.actor → IsMember book.config book.posts m → IsMember book'.config book'.posts m
+IsMember-others book book' i x m moved apart member =
+    let seat_apart : AreTwo m.seat.config i x m.seat.node m.seat.actor =
+    subst (λ (c : Numbers). AreTwo c i x m.seat.node m.seat.actor) (sym member.seated.seat.config) (rw (member.seated.node, member.seated.actor) apart) in
+    IsMember-moved book book' i x m moved (own-others book.config i x m.node m.actor book.posts book'.posts moved.extended apart)
+    (IsSeatOf-moved i x book book' m.seat moved seat_apart member.seated.seat) member
+
+-- ---- one delivery to all
 
 -- one element of a list set
 pub slice_get-set_same : {A : Type 0} (xs : List A) (p : ℕ) (y : A) → p < length xs → slice_get (set xs p y) p ≡ Some y
@@ -99,8 +95,8 @@ pub record IsDelivering (k : ℕ) (book0 : BookView) (team0 : List Member) (book
   pub config : book.config ≡ book0.config
   pub places : map place_of_member team ≡ map place_of_member team0
   pub size : length team ≡ length team0
-  pub once : NoVoteTwice book0.posts → NoVoteTwice book.posts
-  pub desk : (i : ℕ) → own_in i book0.config.n book.posts ≡ own_in i book0.config.n book0.posts
+  pub once : NoVoteTwice book0.config book0.posts → NoVoteTwice book0.config book.posts
+  pub desk : (i : ℕ) → own_in book0.config i book0.config.n book.posts ≡ own_in book0.config i book0.config.n book0.posts
   pub grown : (j : ℕ) → j < length book0.posts → slice_get book.posts j ≡ slice_get book0.posts j
   pub longer : length book0.posts ≤ length book.posts
   pub goes_on : (q : ℕ) (m : Member) → slice_get team q ≡ Some m → (m0 : Member) × (slice_get team0 q ≡ Some m0) × GoesOn m0 m
@@ -111,21 +107,6 @@ pub stands_read : (posts read : List Post) (k : ℕ) (post : Post) → read ≡ 
 stands_read posts read k post same within is =
     slice_get-get_or posts k post within
     ∙ ap (λ (p : Post). Some p) (ap (λ (ps : List Post). get_or ps k post) (sym same) ∙ sym is)
-
--- an actor that received the post
-pub Delivers-received : (k : ℕ) (book book' : BookView) (old new : Member) → old.fate ≡ Running → IsMember book'.config book'.posts new → AddsReceived k old new → Moved old.node old.actor book book'
-    → (NoVoteTwice book.posts → NoVoteTwice book'.posts) → (old.actor ≡ book.config.n → book'.posts ≡ book.posts) → Delivers k book book' old new
-Delivers-received k book book' old new running member adds moved once desk = record {
-  node = adds.node;
-  actor = adds.actor;
-  member = member;
-  moved = moved;
-  once = once;
-  desk = desk;
-  kept = λ j now stands. subst (λ (ks : List ℕ). Contains ks j) (sym (adds.got now)) (Contains-append_left old.got.items (k ∷ []) j stands);
-  worked = λ _. running;
-  received = HasReceived-pushed book.config book.posts k old new adds.got;
-}
 
 GoesOn-refl : (m : Member) → GoesOn m m
 GoesOn-refl m = record { node = refl; actor = refl; worked = λ running. running; kept = λ j running stands. stands }
@@ -195,35 +176,45 @@ HasReceived-back : (book0 book : BookView) (k : ℕ) (m : Member) → book.confi
 HasReceived-back book0 book k m config same received post stands reached running =
     received post (same ∙ stands) (ap (λ (c : Numbers). reaches c.n post m.node m.actor) config ∙ reached) running
 
--- no desk posts
-desk_same : (book book' : BookView) (i x j : ℕ) → Moved i x book book' → (x ≡ book.config.n → book'.posts ≡ book.posts) → own_in j book.config.n book'.posts ≡ own_in j book.config.n book.posts
-desk_same book book' i x j moved desk = elim (cases_Bool (x == book.config.n)) [
-  | inl same ↦ ap (own_in j book.config.n) (desk (eqb-true x book.config.n same))
+-- desks cast nothing
+desk_same : (book book' : BookView) (old new : Member) (j : ℕ) → Acts book book' old new → is_in book.config.liars old.node ≡ false
+    → own_in book.config j book.config.n book'.posts ≡ own_in book.config j book.config.n book.posts
+desk_same book book' old new j acts honest = elim (cases_Bool (old.node == j)) [
+  | inl same ↦
+      let node : old.node ≡ j = eqb-true old.node j same in
+      elim (cases_Bool (old.actor == book.config.n)) [
+        | inl is ↦
+            let desk : old.actor ≡ book.config.n = eqb-true old.actor book.config.n is in
+            rw (node, desk) at (acts.desk desk)
+        | inr other ↦
+            own-others book.config old.node old.actor j book.config.n book.posts book'.posts acts.moved.extended
+            (λ _. (honest, λ actor. absurd (cc (sym other ∙ eq-eqb old.actor book.config.n (sym actor)))))
+      ]
   | inr other ↦
-      ap (own_in j book.config.n) moved.extended.is ∙ own_in-append j book.config.n book.posts moved.extended.added
-      ∙ ap (λ (vs : List Vote). own_in j book.config.n book.posts ++ vs)
-      (own_in-others i x j book.config.n moved.extended.added moved.extended.mine (λ node actor. absurd (cc (sym other ∙ eq-eqb x book.config.n (sym actor)))))
-      ∙ append-nil (own_in j book.config.n book.posts)
+      own-others book.config old.node old.actor j book.config.n book.posts book'.posts acts.moved.extended
+      (λ node. absurd (cc (sym other ∙ eq-eqb old.node j (sym node))))
 ]
 
 -- delivered to the actor at p
 pub IsDelivering-step : (k : ℕ) (book0 : BookView) (team0 : List Member) (book : BookView) (team : List Member) (p : ℕ) (old new : Member) (book' : BookView)
-    → k < length book0.posts → IsDelivering k book0 team0 book team p → p < length team → old ≡ get_or team p old → Delivers k book book' old new
+    → k < length book0.posts → IsDelivering k book0 team0 book team p → p < length team → old ≡ get_or team p old → Receives k book book' old new
     → IsDelivering k book0 team0 book' (set team p new) (p + 1)
-IsDelivering-step k book0 team0 book team p old new book' within0 delivering within is delivers =
+IsDelivering-step k book0 team0 book team p old new book' within0 delivering within is receives =
     let stands : slice_get team p ≡ Some old = slice_get-get_or team p old within ∙ ap (λ (o : Member). Some o) (sym is) in
-    let goes : GoesOn old new = record { node = delivers.node; actor = delivers.actor; worked = delivers.worked; kept = delivers.kept } in
+    let acts : Acts book book' old new = receives.acts in
+    let goes : GoesOn old new = record { node = acts.node; actor = acts.actor; worked = receives.worked; kept = receives.kept } in
+    let honest : is_in book.config.liars old.node ≡ false = (delivering.is_team.members p old stands).seated.honest in
     record {
       is_team = record {
         members = λ q m now.
             let was : WasAt team p new q m = was_at team p old new q m stands goes now in
             elim (cases_Bool (q == p)) [
-              | inl same ↦ subst (λ (o : Member). IsMember book'.config book'.posts o) (sym (was.here (eqb-true q p same))) delivers.member
+              | inl same ↦ subst (λ (o : Member). IsMember book'.config book'.posts o) (sym (was.here (eqb-true q p same))) receives.member
               | inr other ↦
                   let apart : q ≢ p = λ e. absurd (cc (sym other ∙ eq-eqb q p e)) in
                   let at : slice_get team q ≡ Some m = was.stands ∙ ap (λ (o : Member). Some o) (sym (was.there apart)) in
-                  IsMember-others book book' old.node old.actor m delivers.moved (delivering.is_team.members q m at)
-                  (delivering.is_team.apart p q old m stands at (λ e. apart (sym e)))
+                  IsMember-others book book' old.node old.actor m acts.moved
+                  (λ node. (honest, delivering.is_team.apart p q old m stands at (λ e. apart (sym e)) node)) (delivering.is_team.members q m at)
             ];
         apart = λ a b m o at_a at_b apart node actor.
             let was_a : WasAt team p new a m = was_at team p old new a m stands goes at_a in
@@ -231,15 +222,15 @@ IsDelivering-step k book0 team0 book team p old new book' within0 delivering wit
             delivering.is_team.apart a b was_a.old was_b.old was_a.stands was_b.stands apart
             (sym was_b.goes_on.node ∙ node ∙ was_a.goes_on.node) (sym was_b.goes_on.actor ∙ actor ∙ was_a.goes_on.actor);
       };
-      config = delivers.moved.config ∙ delivering.config;
+      config = acts.moved.config ∙ delivering.config;
       places = map-set_same_place place_of_member team p old new stands (place_same old new goes) ∙ delivering.places;
       size = length-set team p new ∙ delivering.size;
-      once = λ once. delivers.once (delivering.once once);
-      desk = λ i. subst (λ (c : Numbers). own_in i c.n book'.posts ≡ own_in i c.n book.posts) delivering.config (desk_same book book' old.node old.actor i delivers.moved delivers.desk) ∙ delivering.desk i;
+      once = λ once. subst (λ (c : Numbers). NoVoteTwice c book.posts → NoVoteTwice c book'.posts) delivering.config acts.once (delivering.once once);
+      desk = λ i. subst (λ (c : Numbers). own_in c i c.n book'.posts ≡ own_in c i c.n book.posts) delivering.config (desk_same book book' old new i acts honest) ∙ delivering.desk i;
       grown = λ j below.
-          ap (λ (posts : List Post). slice_get posts j) delivers.moved.extended.is
-          ∙ slice_get-front book.posts delivers.moved.extended.added j (omega (arith, below, delivering.longer)) ∙ delivering.grown j below;
-      longer = omega (arith, delivering.longer, ap (λ (posts : List Post). length posts) delivers.moved.extended.is, length-append book.posts delivers.moved.extended.added);
+          ap (λ (posts : List Post). slice_get posts j) acts.moved.extended.is
+          ∙ slice_get-front book.posts acts.moved.extended.added j (omega (arith, below, delivering.longer)) ∙ delivering.grown j below;
+      longer = omega (arith, delivering.longer, ap (λ (posts : List Post). length posts) acts.moved.extended.is, length-append book.posts acts.moved.extended.added);
       goes_on = λ q m now.
           let was : WasAt team p new q m = was_at team p old new q m stands goes now in
           let before = delivering.goes_on q was.old was.stands in
@@ -248,7 +239,7 @@ IsDelivering-step k book0 team0 book team p old new book' within0 delivering wit
           let was : WasAt team p new q m = was_at team p old new q m stands goes now in
           elim (cases_Bool (q == p)) [
             | inl same ↦ subst (λ (o : Member). HasReceived book0.config book0.posts k o) (sym (was.here (eqb-true q p same)))
-                (HasReceived-back book0 book k new delivering.config (delivering.grown k within0) delivers.received)
+                (HasReceived-back book0 book k new delivering.config (delivering.grown k within0) receives.received)
             | inr other ↦
                 let apart : q ≢ p = λ e. absurd (cc (sym other ∙ eq-eqb q p e)) in
                 let at : slice_get team q ≡ Some m = was.stands ∙ ap (λ (o : Member). Some o) (sym (was.there apart)) in
@@ -264,10 +255,10 @@ pub IsRun-next : (k : ℕ) (value : List ℕ) (book0 : BookView) (team0 : List M
     → IsDelivering k book0 team0 book team p → IsRun book0.config value book0.posts team0 k → IsRun book.config value book.posts team (k + 1)
 IsRun-next k value book0 team0 book team p within all delivering run = record {
   is_team = delivering.is_team;
-  places = delivering.places ∙ run.places ∙ ap actors (sym delivering.config);
-  once = delivering.once run.once;
+  places = delivering.places ∙ run.places ∙ ap broadcast_actors (sym delivering.config);
+  once = subst (λ (c : Numbers). NoVoteTwice c book.posts) (sym delivering.config) (delivering.once run.once);
   proposed = subst (λ (c : Numbers). HasProposed c value book.posts) (sym delivering.config) (proposed run.proposed);
-  silent = λ i apart. subst (λ (c : Numbers). own_in i c.n book.posts ≡ []) (sym delivering.config) (delivering.desk i ∙ run.silent i apart);
+  silent = λ i apart. subst (λ (c : Numbers). own_in c i c.n book.posts ≡ []) (sym delivering.config) (delivering.desk i ∙ run.silent i apart);
   received = λ q m stands j below post at reached running.
       let before = delivering.goes_on q m stands in
       let reached0 : reaches book0.config.n post m.node m.actor ≡ true = ap (λ (c : Numbers). reaches c.n post m.node m.actor) (sym delivering.config) ∙ reached in

@@ -3,9 +3,10 @@ use Rattle.std.proofs.Common.{inl, inr, ◌⊎◌, ◌≡◌, ◌≢◌, ℕ, Bo
 use Rattle.std.specs.List.{list_any}
 use Rattle.std.specs.Io.KnownBytes.{Consumes, IsAtEnd}
 use Rattle.std.proofs.lemmas.Bool.{cases_eq}
-use Rattle.value_rules.specs.declared.report.End.{End}
-use Rattle.value_rules.specs.declared.report.Report.{Report}
-use Rattle.value_rules.specs.Report.{status_of, is_memory_fate, is_full_fate}
+use Rattle.hb_rules.specs.declared.report.End.{End}
+use Rattle.hb_rules.specs.declared.report.Report.{Report}
+use Rattle.hb_rules.specs.Report.{is_memory_fate}
+use Rattle.hb_app.specs.Quiet.{is_full_fate, status_by}
 use Rattle.hb_app.specs.declared.top.Outcome.TheVariants.{Ran}
 use Rattle.hb_app.specs.Input.{most_taken}
 use Rattle.hb_app.specs.Scenario.{scenario_of}
@@ -17,7 +18,7 @@ use Rattle.hb_app.specs.Top.{Scene, SaysRun, Comes, RunAnswers}
 abbrev IsRunStatus : ℕ → Type 0
 IsRunStatus status = (status ≡ 0) ⊎ ((status ≡ 4) ⊎ (status ≡ 9))
 
-status_of_run : (ends : List End) → IsRunStatus (status_of ends)
+status_of_run : (ends : List End) → IsRunStatus (status_by ends)
 status_of_run ends = by (list_any (λ e. is_memory_fate e.fate) ends) (list_any (λ e. is_full_fate e.fate) ends)
   where
     by : (memory full : Bool) → IsRunStatus (if memory then 9 else (if full then 4 else 0))

@@ -3,18 +3,19 @@ use Rattle.std.proofs.Common.{◌≡◌, ◌≢◌, ℕ, zero, suc, ◌+◌, ◌
 use Rattle.std.specs.List.{flat_map, range_with_len}
 use Rattle.hb_base.specs.Numbers.{Numbers}
 use Rattle.hb_base.specs.NodeSet.{is_in}
-use Rattle.value_rules.specs.declared.post.Post.{Post}
-use Rattle.value_rules.specs.declared.vote.Vote.TheVariants.{Propose}
-use Rattle.value_rules.specs.Hearing.{own_in}
-use Rattle.value_rules.specs.Book.{BookView, Moved}
-use Rattle.value_rules.specs.BookLaws.{own_in-append, own_in-others}
-use Rattle.value_rules.specs.Report.{actors_of, NoVoteTwice}
+use Rattle.hb_wire.specs.declared.post.Post.{Post}
+use Rattle.hb_wire.specs.declared.vote.Vote.TheVariants.{Propose}
+use Rattle.hb_rules.specs.Hearing.{own_in}
+use Rattle.hb_rules.specs.Book.{BookView, AreTwo, mine_in, Moved}
+use Rattle.hb_rules.specs.BookLaws.{mine_in-append, mine_in-others}
+use Rattle.hb_app.specs.Quiet.{actors_at, NoVoteTwice}
 use Rattle.hb_app.specs.Team.{correct_actors, IsGathering, IsRun, HasProposed}
 use Rattle.std.proofs.lemmas.Bool.{eqb-true, false_from_ne_true}
 use Rattle.std.proofs.lemmas.Grind.{flat_map-append}
 use Rattle.std.proofs.lemmas.List.{map-append}
 use Rattle.hb_app.specs.declared.member.Member.{Member}
 use Rattle.hb_app.specs.Member.{IsMember, IsTeam}
+use Rattle.hb_app.proofs.Casts.{own-others}
 use Rattle.hb_app.proofs.Runs.{place_of_member}
 
 -- an element of a list with one more
@@ -82,7 +83,7 @@ IsGathering-liar c posts team node lies gathering = record {
   is_team = gathering.is_team;
   below = λ p m at. omega (arith, gathering.below p m at);
   places = gathering.places ∙ sym (places-more c (flat_map (correct_actors c) (range_with_len 0 node)) node refl
-      ∙ ap (λ (b : Bool). flat_map (correct_actors c) (range_with_len 0 node) ++ (if b then [] else actors_of c node)) lies
+      ∙ ap (λ (b : Bool). flat_map (correct_actors c) (range_with_len 0 node) ++ (if b then [] else actors_at c node)) lies
       ∙ append-nil (flat_map (correct_actors c) (range_with_len 0 node)));
   fresh = gathering.fresh;
 }
@@ -107,15 +108,21 @@ IsGathering-lane c posts team node new correct behind gathering member at_node a
         let apart : (i == 0) ≡ false = false_from_ne_true (i == 0) (λ same. absurd (omega (arith, behind, eqb-true i 0 same))) in
         rw (correct, at_node, at_actor, apart) refl
 
--- what actors other than node 0's desk have said after the proposal: nothing
-pub own_of_others : (book0 book : BookView) (i x a y : ℕ) → book0.posts ≡ [] → Moved i x book0 book → (a ≡ i → y ≢ x) → own_in a y book.posts ≡ []
-own_of_others book0 book i x a y empty moved apart =
-    ap (own_in a y) moved.extended.is ∙ own_in-append a y book0.posts moved.extended.added
-    ∙ ap (λ (posts : List Post). own_in a y posts ++ own_in a y moved.extended.added) empty
-    ∙ own_in-others i x a y moved.extended.added moved.extended.mine apart
+-- what actors other than node 0's desk have posted after its proposal, and what they have cast: nothing
+pub mine_of_others : (book0 book : BookView) (a y : ℕ) → book0.posts ≡ [] → Moved 0 book0.config.n book0 book → AreTwo book0.config 0 book0.config.n a y
+    → mine_in book0.config a y book.posts ≡ []
+mine_of_others book0 book a y empty moved apart =
+    ap (mine_in book0.config a y) moved.extended.is ∙ mine_in-append book0.config a y book0.posts moved.extended.added
+    ∙ ap (λ (posts : List Post). mine_in book0.config a y posts ++ mine_in book0.config a y moved.extended.added) empty
+    ∙ mine_in-others book0.config 0 book0.config.n a y moved.extended.added moved.extended.mine apart
+
+own_of_others : (book0 book : BookView) (a y : ℕ) → book0.posts ≡ [] → Moved 0 book0.config.n book0 book → AreTwo book0.config 0 book0.config.n a y
+    → own_in book0.config a y book.posts ≡ []
+own_of_others book0 book a y empty moved apart =
+    own-others book0.config 0 book0.config.n a y book0.posts book.posts moved.extended apart ∙ ap (own_in book0.config a y) empty
 
 -- node 0 has its lane and its desk
-pub IsGathering-start : (c : Numbers) (posts : List Post) (lane desk : Member) → is_in c.liars 0 ≡ false → 1 ≤ c.n → ((i : ℕ) → own_in i 0 posts ≡ [])
+pub IsGathering-start : (c : Numbers) (posts : List Post) (lane desk : Member) → is_in c.liars 0 ≡ false → 1 ≤ c.n → ((i : ℕ) → is_in c.liars i ≡ false → mine_in c i 0 posts ≡ [])
     → IsMember c posts lane → lane.node ≡ 0 → lane.actor ≡ 0 → IsMember c posts desk → desk.node ≡ 0 → desk.actor ≡ c.n → IsGathering c posts (lane ∷ desk ∷ []) 1
 IsGathering-start c posts lane desk correct some fresh lane_member lane_node lane_actor desk_member desk_node desk_actor = record {
   is_team = IsTeam-push c posts (lane ∷ []) desk (IsTeam-push c posts [] lane (IsTeam-nil c posts) lane_member (λ p m at. absurd (cc (at)))) desk_member
@@ -135,8 +142,8 @@ IsGathering-start c posts lane desk correct some fresh lane_member lane_node lan
 }
 
 -- all are there, and nothing is delivered yet
-pub IsRun-start : (c : Numbers) (value : List ℕ) (posts : List Post) (team : List Member) (node : ℕ) → c.n ≤ node → node ≤ c.n → NoVoteTwice posts → HasProposed c value posts
-    → ((i : ℕ) → i ≢ 0 → own_in i c.n posts ≡ []) → IsGathering c posts team node → IsRun c value posts team 0
+pub IsRun-start : (c : Numbers) (value : List ℕ) (posts : List Post) (team : List Member) (node : ℕ) → c.n ≤ node → node ≤ c.n → NoVoteTwice c posts → HasProposed c value posts
+    → ((i : ℕ) → i ≢ 0 → own_in c i c.n posts ≡ []) → IsGathering c posts team node → IsRun c value posts team 0
 IsRun-start c value posts team node all within once proposed silent gathering = record {
   is_team = gathering.is_team;
   places = let e : node ≡ c.n = omega (arith, all, within) in gathering.places ∙ ap (λ (n : ℕ). flat_map (correct_actors c) (range_with_len 0 n)) e;
@@ -151,32 +158,32 @@ pub record IsAssembling (c : Numbers) (value : List ℕ) (book : BookView) (team
   pub config : book.config ≡ c
   pub behind : 1 ≤ node
   pub gathering : IsGathering book.config book.posts team node
-  pub once : NoVoteTwice book.posts
+  pub once : NoVoteTwice book.config book.posts
   pub proposed : HasProposed book.config value book.posts
-  pub silent : (i : ℕ) → i ≢ 0 → own_in i book.config.n book.posts ≡ []
+  pub silent : (i : ℕ) → i ≢ 0 → own_in book.config i book.config.n book.posts ≡ []
 
-NoVoteTwice-nil : (posts : List Post) → posts ≡ [] → NoVoteTwice posts
-NoVoteTwice-nil posts empty = subst (λ (ps : List Post). NoVoteTwice ps) (sym empty) (λ i x. tt)
+NoVoteTwice-nil : (c : Numbers) (posts : List Post) → posts ≡ [] → NoVoteTwice c posts
+NoVoteTwice-nil c posts empty = subst (λ (ps : List Post). NoVoteTwice c ps) (sym empty) (λ i x. tt)
 
 -- the actors of node 0
 pub IsAssembling-start : (value : List ℕ) (book0 book : BookView) (lane desk : Member) (team : List Member) → book0.posts ≡ [] → is_in book0.config.liars 0 ≡ false → 1 ≤ book0.config.n
-    → Moved 0 book0.config.n book0 book → (NoVoteTwice book0.posts → NoVoteTwice book.posts)
-    → ((own_in 0 book0.config.n book.posts ≡ []) ⊎ (own_in 0 book0.config.n book.posts ≡ Propose 0 value ∷ []))
+    → Moved 0 book0.config.n book0 book → (NoVoteTwice book0.config book0.posts → NoVoteTwice book0.config book.posts)
+    → ((own_in book0.config 0 book0.config.n book.posts ≡ []) ⊎ (own_in book0.config 0 book0.config.n book.posts ≡ Propose 0 value ∷ []))
     → IsMember book.config book.posts desk → (desk.node ≡ 0) × (desk.actor ≡ book0.config.n) → IsMember book.config book.posts lane → (lane.node ≡ 0) × (lane.actor ≡ 0)
     → team ≡ lane ∷ desk ∷ [] → IsAssembling book0.config value book team 1
-IsAssembling-start value book0 book lane desk team empty correct some moved once proposes desk_member desk_place lane_member lane_place is =
-    let n_is : book.config.n ≡ book0.config.n = ap (λ (c : Numbers). c.n) moved.config in
-    record {
-      config = moved.config;
-      behind = omega arith;
-      gathering = subst (λ (members : List Member). IsGathering book.config book.posts members 1) (sym is)
-          (IsGathering-start book.config book.posts lane desk (ap (λ (c : Numbers). is_in c.liars 0) moved.config ∙ correct) (omega (arith, some, n_is))
-          (λ i. own_of_others book0 book 0 book0.config.n i 0 empty moved (λ node actor. omega (arith, actor, some)))
-          lane_member lane_place.0 lane_place.1 desk_member desk_place.0 (desk_place.1 ∙ sym n_is));
-      once = once (NoVoteTwice-nil book0.posts empty);
-      proposed = subst (λ (n : ℕ). (own_in 0 n book.posts ≡ []) ⊎ (own_in 0 n book.posts ≡ Propose 0 value ∷ [])) (sym n_is) proposes;
-      silent = λ i apart. own_of_others book0 book 0 book0.config.n i book.config.n empty moved (λ node actor. apart node);
-    }
+IsAssembling-start value book0 book lane desk team empty honest some moved once proposes desk_member desk_place lane_member lane_place is = record {
+  config = moved.config;
+  behind = omega arith;
+  gathering = subst (λ (c : Numbers). IsGathering c book.posts team 1) (sym moved.config)
+      (subst (λ (members : List Member). IsGathering book0.config book.posts members 1) (sym is)
+      (IsGathering-start book0.config book.posts lane desk honest some
+      (λ i correct. mine_of_others book0 book i 0 empty moved (λ node. (honest, λ actor. omega (arith, actor, some))))
+      (rw moved.config at lane_member) lane_place.0 lane_place.1 (rw moved.config at desk_member) desk_place.0 desk_place.1));
+  once = subst (λ (c : Numbers). NoVoteTwice c book.posts) (sym moved.config) (once (NoVoteTwice-nil book0.config book0.posts empty));
+  proposed = subst (λ (c : Numbers). HasProposed c value book.posts) (sym moved.config) proposes;
+  silent = λ i apart. subst (λ (c : Numbers). own_in c i c.n book.posts ≡ []) (sym moved.config)
+      (own_of_others book0 book i book0.config.n empty moved (λ node. absurd (apart node)));
+}
 
 -- a node more
 pub IsAssembling-step : (c : Numbers) (value : List ℕ) (book book' : BookView) (team team' : List Member) (node : ℕ) → IsAssembling c value book team node → book' ≡ book

@@ -1,308 +1,84 @@
--- The totality of a run: where the sender and n - f nodes are running, each running node has delivered the value.
-use Rattle.std.proofs.Common.{◌≡◌, ◌≢◌, ℕ, zero, suc, ◌+◌, ◌-◌, ◌*◌, ◌<◌, ◌≤◌, Bool, true, false, not, ◌⊎◌, ◌&&◌, ◌||◌, ◌==◌, nat_lt, nat_le, inl, inr, List, [], ◌∷◌, ◌++◌, map, Contains, length, Option, None, Some, if◌then◌else◌, is_some, slice_get, refl, sym, ap, ◌∙◌, subst, arith}
-use Rattle.std.specs.List.{list_any, list_all, filter_map, flat_map, cons_option, range_with_len, AllByRecursion}
-use Rattle.std.specs.Option.{option_or}
-use Rattle.std.proofs.lemmas.Bool.{cases_Bool, false_from_ne_true, eqb-true, eq-eqb, lt-ltb, le-ltb, le-leb, ltb-true, and_parts, or_cases, or_left, or_right}
-use Rattle.std.proofs.lemmas.List.Elements.{Contains-append_left, Contains-append_right, Contains-append_cases, Contains-push, Contains-push_cases, Contains-get_or}
-use Rattle.std.proofs.lemmas.List.Folds.{Any-from_list_any}
-use Rattle.std.proofs.lemmas.List.FromFn.{length-range_with_len, get_or-range_with_len}
-use Rattle.std.proofs.lemmas.Option.{slice_get-get_or}
+-- The totality of a run: where node 0 and n - f nodes are alive, each node that is alive has delivered the value.
+use Rattle.std.proofs.Common.{◌≡◌, ◌≢◌, ℕ, zero, suc, ◌+◌, ◌-◌, ◌*◌, ◌<◌, ◌≤◌, Bool, true, false, not, ◌&&◌, ◌||◌, ◌==◌, nat_lt, nat_le, List, [], ◌∷◌, ◌++◌, Contains, Option, None, Some, if◌then◌else◌, is_some, refl, sym, ap, ◌∙◌, subst, arith}
+use Rattle.std.specs.List.{list_any}
+use Rattle.std.specs.Option.{option_map, option_or, option_and_then}
 use Rattle.std.proofs.lemmas.Slice.Eq.{bytes_eq-Decides}
+use Rattle.std.proofs.lemmas.Bool.{eqb-true, eq-eqb, lt-ltb, le-ltb, le-leb, and_parts, and_from, or_left, or_right}
 use Rattle.hb_base.specs.Counting.{count_nodes}
-use Rattle.hb_base.specs.Numbers.{Numbers, AreSound}
-use Rattle.hb_base.specs.NodeSet.{is_in}
-use Rattle.value_rules.specs.declared.vote.To.{To}
-use Rattle.value_rules.specs.declared.vote.Vote.{Vote}
-use Rattle.value_rules.specs.declared.vote.Vote.TheVariants.{Propose, Val, Echo, Ready, Delivered}
-use Rattle.value_rules.specs.declared.post.Post.{Post}
-use Rattle.value_rules.specs.declared.report.Fate.{Fate}
-use Rattle.value_rules.specs.declared.report.Fate.TheVariants.{Running, Memory, Full}
-use Rattle.value_rules.specs.declared.report.End.{End}
-use Rattle.value_rules.specs.declared.report.Report.{Report}
-use Rattle.value_rules.specs.Vote.{address_of, epoch_of, is_any_proposal, proposed, sent, echoed, readied, delivered, is_value, is_proposal, is_val, is_echo, is_ready}
-use Rattle.value_rules.specs.Hearing.{Hearing, leads_to, heeds, hearing_of, vote_by, own_in, heard_from, count_of}
-use Rattle.value_rules.specs.History.{IsLegal}
-use Rattle.value_rules.specs.Book.{post_of}
-use Rattle.value_rules.specs.Owing.{Slot, IsIdle, each, first_of, claimed_by, passing, readies, delivers, named, val_slot, echo_slot, ready_slot, delivery_slot, lane_slots, desk_slots}
-use Rattle.value_rules.specs.Report.{works, runs, is_running, status_of, is_running_fate, is_memory_fate, is_full_fate, actors_of, actors, heard_of, submitted_at, slots_of, IsDue, IsSettled, IsQuiet}
-use Rattle.value_rules.proofs.Counts.{count_nodes-mono}
-use Rattle.value_rules.proofs.Passing.{IsSettledAt, settled_parts}
-use Rattle.value_rules.proofs.Slots.{AllByRecursion-parts}
-use Rattle.value_rules.proofs.Sayings.{said, list_any-from, Found, Found-from, AreAddressed}
-use Rattle.value_rules.proofs.Shapes.{proposal_is, val_is, echo_is, ready_is}
-use Rattle.value_rules.proofs.Validity.{IsSourced, broadcast_validity}
-use Rattle.value_broadcast.proofs.Standing.{AreSettled, AreSettled-idle}
-use Rattle.value_broadcast.proofs.Owed.{none_from_map}
+use Rattle.merkle_branch.specs.declared.Branch.{Branch}
+use Rattle.merkle_branch.specs.Digests.{tree_root}
+use Rattle.merkle_branch.specs.Branches.{is_branch}
+use Rattle.merkle_branch.proofs.Tested.{is_branch-from}
+use Rattle.rs_shards.specs.Completing.{encoded, IsEncoding}
+use Rattle.rs_shards.proofs.Encodings.{encoding-only}
+use Rattle.hb_wire.specs.declared.vote.Vote.{Vote}
+use Rattle.hb_wire.specs.declared.vote.Vote.TheVariants.{Propose, Val, Echo, Ready, Delivered}
+use Rattle.hb_rules.specs.declared.report.Fate.{Fate}
+use Rattle.hb_rules.specs.declared.report.Fate.TheVariants.{Running, Memory, Journal, Full}
+use Rattle.hb_rules.specs.declared.report.End.{End}
+use Rattle.hb_rules.specs.declared.report.Report.{Report}
+use Rattle.hb_rules.specs.Claims.{proposed, readied, delivered, is_any_proposal, is_val_to, is_any_echo, is_any_ready, is_any_delivery, is_echo, is_shard_echo, is_ready}
+use Rattle.hb_rules.specs.Code.{data_count, echo_count, ready_count}
+use Rattle.hb_rules.specs.Hearing.{Hearing, hearing, own_in, heard_in, heard_of, heard_by, said_in}
+use Rattle.hb_rules.specs.Slots.{IsIdle, each, first_of}
+use Rattle.hb_rules.specs.BroadcastRows.{proposal_in, val_of, val_slot, echo_in, echo_slot, named, value_of, is_made_ready, ready_made, ready_slot, delivery_made, delivery_slot}
+use Rattle.hb_rules.specs.Owing.{broadcast_slots}
+use Rattle.hb_rules.specs.Report.{works, none_ended, is_running_fate, is_memory_fate, submitted_at}
+use Rattle.hb_rules.proofs.Among.{any_stands, heard_by-among, is_shard_echo-away}
+use Rattle.hb_rules.proofs.BroadcastSlots.{proposed-is, readied-is}
+use Rattle.hb_rules.proofs.Counts.{count_nodes-mono}
+use Rattle.hb_rules.proofs.Lists.{Contains-first, Contains-later, list_any-from}
+use Rattle.rbc_core.proofs.Firsts.{first_none}
+use Rattle.hb_rules.proofs.Addressed.{legal_addressed}
+use Rattle.hb_rules.proofs.Said.{heard-said}
+use Rattle.rbc_world.proofs.Backed.{ready_backed, IsProposedRoot, quorum_proposed}
+use Rattle.hb_rules.proofs.FirstShards.{data_count-some, data_count-within, few_nodes}
+use Rattle.hb_app.specs.Quiet.{first_proposal, is_full_fate, status_by, is_alive}
 use Rattle.hb_app.specs.Run.{AllDeliver}
-use Rattle.hb_app.proofs.Quiet.{one_epoch}
+use Rattle.hb_app.proofs.Deliveries.{is_delivery}
+use Rattle.hb_app.proofs.Receiving.{AreAmong-received}
+use Rattle.hb_app.proofs.Rebuilt.{value_rebuilt}
+use Rattle.hb_app.proofs.Sent.{IsOfValue, val_of_value, echo_of_value, shown_of_value, delivers_proposed}
+use Rattle.hb_app.proofs.Alive.{Premises, IsAlive, IsUp, is_up, Rests, lane_rests, desk_rests, lane_zero, hears_cast, filled, lane_settled, chosen, none_from_map}
 
--- ---- elements of lists
+-- ---- votes by their kinds
 
-put_first : {B : Type 0} (o : Option B) (ys : List B) (y : B) → o ≡ Some y → Contains (cons_option o ys) y
-put_first None ys y gives = absurd (cc (gives))
-put_first (Some z) ys y gives =
-    let same : z ≡ y = cc in
-    Contains-append_left (z ∷ []) ys y (subst (λ w. Contains (w ∷ []) y) (sym same) (Contains-push [] y))
+record IsValTo (m : ℕ) (own : List Vote) : Type 0 where
+  root : List ℕ
+  shard : List ℕ
+  branch : Branch
+  stands : Contains own (Val 0 m root shard branch)
 
-put_behind : {B : Type 0} (o : Option B) (ys : List B) (y : B) → Contains ys y → Contains (cons_option o ys) y
-put_behind None ys y stands = stands
-put_behind (Some z) ys y stands = Contains-append_right (z ∷ []) ys y stands
-
--- the first element, or one of the others
-Contains-cons_cases : {A : Type 0} (z : A) (zs : List A) (x : A) → Contains (z ∷ zs) x → (P : Type 0) → (z ≡ x → P) → (Contains zs x → P) → P
-Contains-cons_cases z zs x stands P first later = elim (Contains-append_cases (z ∷ []) zs x stands) [
-  | inl here ↦ elim (Contains-push_cases [] z x here) [
-    | inl none ↦ absurd (omega (arith, none.1))
-    | inr is ↦ first is
-  ]
-  | inr rest ↦ later rest
-]
-
-Contains-filter_map : {A B : Type 0} (f : A → Option B) (xs : List A) (x : A) (y : B) → Contains xs x → f x ≡ Some y → Contains (filter_map f xs) y
-Contains-filter_map f [] x y stands gives = absurd (omega (arith, stands.1))
-Contains-filter_map f (z ∷ zs) x y stands gives = Contains-cons_cases z zs x stands (Contains (filter_map f (z ∷ zs)) y)
-    (λ is. put_first (f z) (filter_map f zs) y (ap f is ∙ gives))
-    (λ later. put_behind (f z) (filter_map f zs) y (Contains-filter_map f zs x y later gives))
-
-Contains-flat_map : {A B : Type 0} (f : A → List B) (xs : List A) (x : A) (y : B) → Contains xs x → Contains (f x) y → Contains (flat_map f xs) y
-Contains-flat_map f [] x y stands has = absurd (omega (arith, stands.1))
-Contains-flat_map f (z ∷ zs) x y stands has = Contains-cons_cases z zs x stands (Contains (flat_map f (z ∷ zs)) y)
-    (λ is. Contains-append_left (f z) (flat_map f zs) y (subst (λ w. Contains (f w) y) (sym is) has))
-    (λ later. Contains-append_right (f z) (flat_map f zs) y (Contains-flat_map f zs x y later has))
-
--- an element of a map comes from an element
-record IsMapped {A B : Type 0} (f : A → B) (xs : List A) (y : B) : Type 0 where
-  pub element : A
-  pub stands : Contains xs element
-  pub is : f element ≡ y
-
-IsMapped-from : {A B : Type 0} (f : A → B) (xs : List A) (y : B) → Contains (map f xs) y → IsMapped f xs y
-IsMapped-from f [] y stands = absurd (omega (arith, stands.1))
-IsMapped-from {A} {B} f (x ∷ xs) y stands = Contains-cons_cases (f x) (map f xs) y stands (IsMapped f (x ∷ xs) y)
-    (λ is. record { element = x; stands = Contains-append_left (x ∷ []) xs x (Contains-push [] x); is = is })
-    (λ later.
-    let rest : IsMapped f xs y = IsMapped-from f xs y later in
-    record { element = rest.element; stands = Contains-append_right (x ∷ []) xs rest.element rest.stands; is = rest.is })
-
-passes_too : {A : Type 0} (test : A → Bool) (xs : List A) (x : A) → list_all test xs ≡ true → Contains xs x → test x ≡ true
-passes_too test [] x all stands = absurd (omega (arith, stands.1))
-passes_too test (z ∷ zs) x all stands =
-    let parts = and_parts (test z) (list_all test zs) all in
-    Contains-cons_cases z zs x stands (test x ≡ true) (λ is. ap test (sym is) ∙ parts.0) (λ later. passes_too test zs x parts.1 later)
-
--- what gives something is not overlooked
-first_gives : {A B : Type 0} (f : A → Option B) (xs : List A) (x : A) (y : B) → Contains xs x → f x ≡ Some y → first_of f xs ≡ None → ⊥
-first_gives f [] x y stands gives none = absurd (omega (arith, stands.1))
-first_gives {A} {B} f (z ∷ zs) x y stands gives none = Contains-cons_cases z zs x stands ⊥
-    (λ is. absurd (cc (sym (ap (λ (o : Option B). option_or o (first_of f zs)) (ap f is ∙ gives)) ∙ none)))
-    (λ later. by (f z) none (first_gives f zs x y later gives))
+val_in : (m : ℕ) (own : List Vote) → list_any (is_val_to 0 m) own ≡ true → IsValTo m own
+val_in m own some = let found = any_stands (is_val_to 0 m) own some in by found.0 found.1 found.2
   where
-    by : (o : Option B) → option_or o (first_of f zs) ≡ None → (first_of f zs ≡ None → ⊥) → ⊥
-    by None none some = some none
-    by (Some w) none some = absurd (cc (none))
+    by : (vote : Vote) → Contains own vote → is_val_to 0 m vote ≡ true → IsValTo m own
+    by (Val d t root shard branch) stands passes =
+        let parts = and_parts (d == 0) (t == m) passes in
+        record { root = root; shard = shard; branch = branch; stands = rw (eqb-true d 0 parts.0, eqb-true t m parts.1) at stands }
+    by vote stands passes = absurd (cc (passes))
 
--- ---- what actors have cast, and its posts
+record IsEchoIn (own : List Vote) : Type 0 where
+  root : List ℕ
+  shard : List ℕ
+  branch : Branch
+  stands : Contains own (Echo 0 root shard branch)
 
--- a value that an element claims is the value, if all claimed ones are
-valued : (claim : Vote → Option (List ℕ)) (value : List ℕ) (own : List Vote) → ((v : List ℕ) → list_any (λ w. is_value v (claim w)) own ≡ true → v ≡ value)
-    → list_any (λ w. is_some (claim w)) own ≡ true → list_any (λ w. is_value value (claim w)) own ≡ true
-valued claim value own only some =
-    let found = Any-from_list_any (λ (w : Vote). is_some (claim w)) own some in
-    by found.1 (claim found.1) refl found.4 (found.0, found.2, found.3)
+echo_in_own : (own : List Vote) → list_any (is_any_echo 0) own ≡ true → IsEchoIn own
+echo_in_own own some = let found = any_stands (is_any_echo 0) own some in by found.0 found.1 found.2
   where
-    by : (w : Vote) (o : Option (List ℕ)) → claim w ≡ o → is_some (claim w) ≡ true → Contains own w → list_any (λ w. is_value value (claim w)) own ≡ true
-    by w None is some stands = absurd (cc (sym (ap (λ (o : Option (List ℕ)). is_some o) is) ∙ some))
-    by w (Some v) is some stands =
-        let claims : is_value v (claim w) ≡ true = ap (is_value v) is ∙ (bytes_eq-Decides v v).1 refl in
-        let same : v ≡ value = only v (list_any-from (λ w. is_value v (claim w)) own w stands claims) in
-        list_any-from (λ w. is_value value (claim w)) own w stands (subst (λ (u : List ℕ). is_value u (claim w) ≡ true) same claims)
+    by : (vote : Vote) → Contains own vote → is_any_echo 0 vote ≡ true → IsEchoIn own
+    by (Echo d root shard branch) stands passes =
+        record { root = root; shard = shard; branch = branch; stands = rw (eqb-true d 0 passes) at stands }
+    by vote stands passes = absurd (cc (passes))
 
--- the first claimed value is the value, if all claimed ones are
-first_valued : (claim : Vote → Option (List ℕ)) (value : List ℕ) (own : List Vote) → ((v : List ℕ) → list_any (λ w. is_value v (claim w)) own ≡ true → v ≡ value)
-    → list_any (λ w. is_some (claim w)) own ≡ true → first_of claim own ≡ Some value
-first_valued claim value [] only some = absurd (cc (some))
-first_valued claim value (w ∷ own) only some =
-    by (claim w) refl some (first_valued claim value own (λ v h. only v (or_right (is_value v (claim w)) (list_any (λ w. is_value v (claim w)) own) h)))
-  where
-    by : (o : Option (List ℕ)) → claim w ≡ o → list_any (λ w. is_some (claim w)) (w ∷ own) ≡ true → (list_any (λ w. is_some (claim w)) own ≡ true → first_of claim own ≡ Some value)
-        → option_or o (first_of claim own) ≡ Some value
-    by None is some later = later (sym (ap (λ (o : Option (List ℕ)). is_some o || list_any (λ w. is_some (claim w)) own) is) ∙ some)
-    by (Some v) is some later =
-        let claims : is_value v (claim w) ≡ true = ap (is_value v) is ∙ (bytes_eq-Decides v v).1 refl in
-        ap (λ (u : List ℕ). Some u) (only v (or_left (is_value v (claim w)) (list_any (λ w. is_value v (claim w)) own) claims))
-
--- the post of a vote that an actor has cast
-record IsPosted (i x : ℕ) (history : List Post) (v : Vote) : Type 0 where
-  pub number : ℕ
-  pub stands : slice_get history number ≡ Some (post_of i x v)
-
-chosen : {A : Type 0} (b : Bool) (x y : A) → (if b then Some x else None) ≡ Some y → (b ≡ true) × (x ≡ y)
-chosen true x y h = (refl, cc)
-chosen false x y h = absurd (cc (h))
-
-is_post_of : (post : Post) (i x : ℕ) (v : Vote) → post.from ≡ i → post.actor ≡ x → post.to ≡ address_of post.vote → post.vote ≡ v → post ≡ post_of i x v
-is_post_of post i x v from actor to vote = by post.from post.actor post.to post.vote from actor to vote
-  where
-    made : ℕ → ℕ → To → Vote → Post
-    made from actor to vote = record { from = from; actor = actor; to = to; vote = vote }
-
-    by : (from actor : ℕ) (to : To) (vote : Vote) → from ≡ i → actor ≡ x → to ≡ address_of vote → vote ≡ v → made from actor to vote ≡ post_of i x v
-    by from actor to vote is_from is_actor is_to is_vote = rw (is_from, is_actor, is_to, is_vote) refl
-
-posted : (c : Numbers) (test : Vote → Bool) (i x : ℕ) (history : List Post) (v : Vote) → AreAddressed c history → is_in c.liars i ≡ false → ((w : Vote) → test w ≡ true → w ≡ v)
-    → said test i x history ≡ true → IsPosted i x history v
-posted c test i x history v addressed correct only says =
-    let found : Found (vote_by i x) test history = Found-from (vote_by i x) test history says in
-    let parts = chosen ((found.element.from == i) && (found.element.actor == x)) found.element.vote found.value found.gives in
-    let mine = and_parts (found.element.from == i) (found.element.actor == x) parts.0 in
-    let from : found.element.from ≡ i = eqb-true found.element.from i mine.0 in
-    let to : found.element.to ≡ address_of found.element.vote = addressed found.element found.stands (ap (is_in c.liars) from ∙ correct) in
-    let is : found.element ≡ post_of i x v =
-    is_post_of found.element i x v from (eqb-true found.element.actor x mine.1) to (parts.1 ∙ only found.value found.passes) in
-    record {
-      number = found.stands.0;
-      stands = slice_get-get_or history found.stands.0 found.element found.stands.1 ∙ ap (λ (p : Post). Some p) (found.stands.2 ∙ is);
-    }
-
--- ---- actors that work
-
--- a quiet run of one broadcast of a value, in which no node lies
-pub record Premises (report : Report) (value : List ℕ) : Type 0 where
-  pub sound : AreSound report.config
-  pub one : report.config.epochs ≡ 1
-  pub correct : (i : ℕ) → is_in report.config.liars i ≡ false
-  pub legal : IsLegal report.config report.history.items
-  pub quiet : IsQuiet report
-  pub submitted : submitted_at 0 report.submit.items ≡ Some value
-  pub source : (e : ℕ) (v : List ℕ) → said (is_proposal e v) 0 report.config.n report.history.items ≡ true → v ≡ value
-
--- and of which the sender and n - f nodes are running
-record IsAlive (report : Report) (value : List ℕ) : Type 0 where
-  pub run : Premises report value
-  pub sender : is_running report 0 ≡ true
-  pub enough : report.config.n - report.config.f ≤ count_nodes report.config.n (is_running report)
-
--- an actor that works has received all that it has to, and owes nothing
-record Rests (report : Report) (i x : ℕ) : Type 0 where
-  pub works : works report.ends.items i x ≡ true
-  pub got : List ℕ
-  pub received : (k : ℕ) → IsDue report i x k → Contains got k
-  pub idle : IsIdle (slots_of report.config report.submit.items i x) (own_in i x report.history.items) (heard_of report.config i x report.history.items got)
-
-rests_at : (report : Report) (end : End) (i x : ℕ) → Contains report.ends.items end → end.fate ≡ Running → end.node ≡ i → end.actor ≡ x → IsSettled report end → Rests report i x
-rests_at report end i x stands running node actor settled =
-    subst (λ (a : ℕ). Rests report a x) node (subst (λ (y : ℕ). Rests report end.node y) actor (record {
-      works = list_any-from (λ (e : End). ((e.node == end.node) && (e.actor == end.actor)) && is_running_fate e.fate) report.ends.items end stands
-          (rw (eq-eqb end.node end.node refl, eq-eqb end.actor end.actor refl, running) refl);
-      got = end.got.items;
-      received = settled.received;
-      idle = settled.idle;
-    }))
-
--- an actor of a node that runs has not ended
-fate_of : (ends : List End) (end : End) (i : ℕ) → runs ends i ≡ true → Contains ends end → end.node ≡ i → end.fate ≡ Running
-fate_of ends end i all stands node = by end.fate refl
-    (or_cases (not (end.node == i)) (is_running_fate end.fate)
-    (passes_too (λ (e : End). not (e.node == i) || is_running_fate e.fate) ends end all stands))
-  where
-    by : (fate : Fate) → end.fate ≡ fate → (not (end.node == i) ≡ true) ⊎ (is_running_fate end.fate ≡ true) → end.fate ≡ Running
-    by fate is (inl other) = absurd (cc (rw (eq-eqb end.node i node) at other))
-    by Running is (inr runs) = is
-    by Memory is (inr runs) = absurd (cc (rw is at runs))
-    by Full is (inr runs) = absurd (cc (rw is at runs))
-
-runs_if : (report : Report) (i : ℕ) → is_running report i ≡ true → runs report.ends.items i ≡ true
-runs_if report i running =
-    let correct = and_parts (nat_lt i report.config.n) (not (is_in report.config.liars i) && runs report.ends.items i) running in
-    (and_parts (not (is_in report.config.liars i)) (runs report.ends.items i) correct.1).1
-
-rests : (report : Report) (value : List ℕ) (i x : ℕ) → IsAlive report value → is_running report i ≡ true → Contains (actors report.config) (i, x) → Rests report i x
-rests report value i x alive runs stands =
-    let mapped : IsMapped (λ (e : End). (e.node, e.actor)) report.ends.items (i, x) =
-    IsMapped-from (λ (e : End). (e.node, e.actor)) report.ends.items (i, x) (subst (λ (places : List (ℕ × ℕ)). Contains places (i, x)) (sym alive.run.quiet.ends) stands) in
-    let node : mapped.element.node ≡ i = ap (λ (p : ℕ × ℕ). p.0) mapped.is in
-    let running : mapped.element.fate ≡ Running = fate_of report.ends.items mapped.element i (runs_if report i runs) mapped.stands node in
-    rests_at report mapped.element i x mapped.stands running node (ap (λ (p : ℕ × ℕ). p.1) mapped.is)
-    (alive.run.quiet.settled mapped.element mapped.stands running)
-
-node_stands : (n i : ℕ) → i < n → Contains (range_with_len 0 n) i
-node_stands n i below =
-    let within : i < length (range_with_len 0 n) = omega (arith, below, length-range_with_len 0 n) in
-    let same : 0 + i ≡ i = omega arith in
-    subst (λ (k : ℕ). Contains (range_with_len 0 n) k) (get_or-range_with_len 0 n i 0 below ∙ same) (Contains-get_or (range_with_len 0 n) i 0 within)
-
-actor_stands : (c : Numbers) (i x : ℕ) → i < c.n → is_in c.liars i ≡ false → Contains (actors_of c i) (i, x) → Contains (actors c) (i, x)
-actor_stands c i x below correct has =
-    Contains-flat_map {B = ℕ × ℕ} (λ (a : ℕ). if is_in c.liars a then [] else actors_of c a) (range_with_len 0 c.n) i (i, x) (node_stands c.n i below)
-    (subst (λ (b : Bool). Contains (if b then [] else actors_of c i) (i, x)) (sym correct) has)
-
-node_below : (report : Report) (i : ℕ) → is_running report i ≡ true → i < report.config.n
-node_below report i running = ltb-true i report.config.n (and_parts (nat_lt i report.config.n) (not (is_in report.config.liars i) && runs report.ends.items i) running).0
-
-lane_rests : (report : Report) (value : List ℕ) (i : ℕ) → IsAlive report value → is_running report i ≡ true → Rests report i 0
-lane_rests report value i alive runs =
-    rests report value i 0 alive runs (actor_stands report.config i 0 (node_below report i runs) (alive.run.correct i)
-    (Contains-append_left ((i, 0) ∷ []) (if i == 0 then (i, report.config.n) ∷ [] else []) (i, 0) (Contains-push [] (i, 0))))
-
-desk_rests : (report : Report) (value : List ℕ) → IsAlive report value → Rests report 0 report.config.n
-desk_rests report value alive =
-    rests report value 0 report.config.n alive alive.sender (actor_stands report.config 0 report.config.n (omega (arith, alive.run.sound.nodes.0)) (alive.run.correct 0)
-    (Contains-push ((0, 0) ∷ []) (0, report.config.n)))
-
--- what is posted to an actor that works, it has heard
-hears_posted : (report : Report) (i x a y : ℕ) (v : Vote) (rest : Rests report i x) → works report.ends.items a y ≡ true → IsPosted a y report.history.items v
-    → leads_to report.config.n a y (address_of v) i x ≡ true → heeds report.config.n i x a y v ≡ true → nat_lt (epoch_of v) report.config.epochs ≡ true → (x == report.config.n) ≡ false
-    → Contains (heard_of report.config i x report.history.items rest.got) (record { from = a; vote = v })
-hears_posted report i x a y v rest at_work post leads heeded early lane =
-    let due : IsDue report i x post.number =
-    record { post = post_of a y v; stands = post.stands; reaches = leads; works = or_right (is_in report.config.liars a) (works report.ends.items a y) at_work } in
-    let read : Contains (filter_map (slice_get report.history.items) rest.got) (post_of a y v) =
-    Contains-filter_map (slice_get report.history.items) rest.got post.number (post_of a y v) (rest.received post.number due) post.stands in
-    Contains-filter_map (hearing_of report.config i x) (filter_map (slice_get report.history.items) rest.got) (post_of a y v) (record { from = a; vote = v }) read
-    (rw (leads, heeded, early, lane) refl)
-
--- ---- what lanes owe
-
--- a lane that rests has settled each of its slots
-lane_settled : (report : Report) (value : List ℕ) (i : ℕ) → IsAlive report value → (rest : Rests report i 0)
-    → AreSettled (record { config = report.config; node = i; lane = 0; epoch = 0 }) (own_in i 0 report.history.items) (heard_of report.config i 0 report.history.items rest.got)
-lane_settled report value i alive rest =
-    let lane : nat_lt 0 report.config.n ≡ true = lt-ltb 0 report.config.n (omega (arith, alive.run.sound.nodes.0)) in
-    let slots : IsIdle (lane_slots report.config i 0) (own_in i 0 report.history.items) (heard_of report.config i 0 report.history.items rest.got) =
-    subst (λ (b : Bool). IsIdle (if b then lane_slots report.config i 0 else desk_slots (submitted_at i report.submit.items)) (own_in i 0 report.history.items)
-    (heard_of report.config i 0 report.history.items rest.got)) lane rest.idle in
-    AreSettled-idle (record { config = report.config; node = i; lane = 0; epoch = 0 }) (own_in i 0 report.history.items) (heard_of report.config i 0 report.history.items rest.got)
-    (subst (λ (slots : List (Slot Vote Hearing)). IsIdle slots (own_in i 0 report.history.items) (heard_of report.config i 0 report.history.items rest.got))
-    (one_epoch report.config i 0 report.config.epochs alive.run.one) slots)
-
--- a slot that is settled and has a choice is filled
-filled : (slot : Slot Vote Hearing) (own : List Vote) (heard : List Hearing) → IsSettledAt slot own heard → (slot.choice own heard ≡ None → ⊥) → slot.is_cast own ≡ true
-filled slot own heard settled some = settled_parts slot own heard settled (slot.is_cast own ≡ true) (λ cast. cast) (λ none. absurd (some none))
-
-each_at : (P : Slot Vote Hearing → Type 0) (slots : ℕ → List (Slot Vote Hearing)) (k m : ℕ) → m < k → AllByRecursion P (each k slots) → AllByRecursion P (slots m)
-each_at P slots zero m below all = absurd (omega (arith, below))
-each_at P slots (suc k) m below all =
-    let parts = AllByRecursion-parts P (each k slots) (slots k) all in
-    elim (cases_Bool (m == k)) [
-      | inl same ↦ subst (λ (j : ℕ). AllByRecursion P (slots j)) (sym (eqb-true m k same)) parts.1
-      | inr other ↦
-          let apart : m ≢ k = λ e. absurd (cc (sym other ∙ eq-eqb m k e)) in
-          each_at P slots k m (omega (arith, below, apart)) parts.0
-    ]
+some_of : {A : Type 0} (o : Option A) → is_some o ≡ true → (x : A) × (o ≡ Some x)
+some_of None h = absurd (cc (h))
+some_of (Some x) h = (x, refl)
 
 -- ---- step by step, in lane 0 of epoch 0
 
-lane_zero : (report : Report) (value : List ℕ) → IsAlive report value → (nat_lt 0 report.config.n ≡ true) × ((0 == report.config.n) ≡ false) × (nat_lt 0 report.config.epochs ≡ true)
-lane_zero report value alive = (
-  lt-ltb 0 report.config.n (omega (arith, alive.run.sound.nodes.0)),
-  false_from_ne_true (0 == report.config.n) (λ same. omega (arith, eqb-true 0 report.config.n same, alive.run.sound.nodes.0)),
-  lt-ltb 0 report.config.epochs (omega (arith, alive.run.one)),
-)
-
-sourced : (report : Report) (value : List ℕ) → IsAlive report value → IsSourced report.config 0 report.history.items
-sourced report value alive = broadcast_validity report.config 0 alive.run.sound (omega (arith, alive.run.sound.nodes.0)) (alive.run.correct 0) report.history.items alive.run.legal
-
-desk_owes : (own : List Vote) (heard : List Hearing) (value : List ℕ) → IsIdle (desk_slots (Some value)) own heard → list_any (is_any_proposal 0) own ≡ true
+desk_owes : (own : List Vote) (heard : List Hearing) (value : List ℕ) → IsIdle (first_proposal (value ∷ [])) own heard → list_any (is_any_proposal 0) own ≡ true
 desk_owes own heard value idle = by (list_any (is_any_proposal 0) own) refl idle
   where
     by : (b : Bool) → list_any (is_any_proposal 0) own ≡ b → (if b then [] else Propose 0 value ∷ []) ++ [] ≡ [] → list_any (is_any_proposal 0) own ≡ true
@@ -310,109 +86,205 @@ desk_owes own heard value idle = by (list_any (is_any_proposal 0) own) refl idle
     by false is none = absurd (cc (none))
 
 -- the desk of node 0 has proposed the value
-proposal_cast : (report : Report) (value : List ℕ) → IsAlive report value → said (is_proposal 0 value) 0 report.config.n report.history.items ≡ true
-proposal_cast report value alive =
-    let rest : Rests report 0 report.config.n = desk_rests report value alive in
-    let own : List Vote = own_in 0 report.config.n report.history.items in
-    let heard : List Hearing = heard_of report.config 0 report.config.n report.history.items rest.got in
-    let desk : IsIdle (desk_slots (submitted_at 0 report.submit.items)) own heard =
-    subst (λ (b : Bool). IsIdle (if b then lane_slots report.config 0 report.config.n else desk_slots (submitted_at 0 report.submit.items)) own heard)
-    (le-ltb report.config.n report.config.n (omega arith)) rest.idle in
-    valued (proposed 0) value own (alive.run.source 0)
-    (desk_owes own heard value (subst (λ (o : Option (List ℕ)). IsIdle (desk_slots o) own heard) alive.run.submitted desk))
+proposal_is_cast : (report : Report) (value : List ℕ) → IsAlive report value → Contains (own_in report.config 0 report.config.n report.history.items) (Propose 0 value)
+proposal_is_cast report value alive =
+    let c = report.config in
+    let rest : Rests report 0 c.n = desk_rests report value alive in
+    let own = own_in c 0 c.n report.history.items in
+    let heard = heard_of c 0 c.n report.history.items rest.got in
+    let desk : IsIdle (first_proposal (submitted_at report.script 0)) own heard =
+    subst (λ (b : Bool). IsIdle (if b then broadcast_slots c 0 c.n 0 else first_proposal (submitted_at report.script 0)) own heard) (le-ltb c.n c.n (omega arith)) rest.idle in
+    let found = any_stands (is_any_proposal 0) own (desk_owes own heard value (subst (λ (txs : List (List ℕ)). IsIdle (first_proposal txs) own heard) alive.run.submitted desk)) in
+    let some = some_of (proposed 0 found.0) found.2 in
+    let stands : Contains own (Propose 0 some.0) = subst (λ (vote : Vote). Contains own vote) (proposed-is 0 found.0 some.0 some.1) found.1 in
+    subst (λ (w : List ℕ). Contains own (Propose 0 w)) ((alive.run.sources 0).only 0 some.0 stands) stands
 
--- lane 0 of node 0 has sent it to each node
-val_cast : (report : Report) (value : List ℕ) (m : ℕ) → IsAlive report value → m < report.config.n → said (is_val 0 m value) 0 0 report.history.items ≡ true
+-- lane 0 of node 0 has sent each node its shard
+val_is_cast : (report : Report) (value : List ℕ) (m : ℕ) → IsAlive report value → m < report.config.n → IsValTo m (own_in report.config 0 0 report.history.items)
 unfolding val_slot
-val_cast report value m alive below =
+val_is_cast report value m alive below =
+    let c = report.config in
     let at = lane_zero report value alive in
-    let source : IsSourced report.config 0 report.history.items = sourced report value alive in
     let rest : Rests report 0 0 = lane_rests report value 0 alive alive.sender in
-    let own : List Vote = own_in 0 0 report.history.items in
-    let heard : List Hearing = heard_of report.config 0 0 report.history.items rest.got in
-    let proposal : Contains heard (record { from = 0; vote = Propose 0 value }) =
-    hears_posted report 0 0 0 report.config.n (Propose 0 value) rest (desk_rests report value alive).works
-    (posted report.config (is_proposal 0 value) 0 report.config.n report.history.items (Propose 0 value) source.addressed (alive.run.correct 0) (proposal_is 0 value) (proposal_cast report value alive))
-    (rw (at.0, eq-eqb report.config.n report.config.n refl) (or_right _ _ refl)) (rw (at.0, eq-eqb report.config.n report.config.n refl) refl) at.2 at.1 in
-    let settled = each_at (λ slot. IsSettledAt slot own heard) (λ m. val_slot 0 0 0 m ∷ []) report.config.n m below (lane_settled report value 0 alive rest).vals in
-    valued (sent 0 m) value own (λ v says. alive.run.source 0 v (source.vals 0 m v says))
-    (filled (val_slot 0 0 0 m) own heard settled.0
-    (λ none. first_gives (claimed_by 0 (proposed 0)) heard (record { from = 0; vote = Propose 0 value }) value proposal refl
-    (none_from_map (Val 0 m) (first_of (claimed_by 0 (proposed 0)) heard) none)))
+    let own = own_in c 0 0 report.history.items in
+    let heard = heard_of c 0 0 report.history.items rest.got in
+    let proposal : Contains heard (hearing 0 (Propose 0 value)) =
+    hears_cast report value 0 0 c.n (Propose 0 value) alive rest (desk_rests report value alive).works (proposal_is_cast report value alive)
+    (rw (at.0, eq-eqb c.n c.n refl) (or_right (nat_lt c.n c.n && (0 == c.n)) true refl)) (rw (at.0, eq-eqb c.n c.n refl) refl) (rw at.2 refl) in
+    val_in m own (filled (val_slot c 0 0 0 m) own heard ((lane_settled report value 0 alive rest).vals m below)
+    (λ none.
+    let given : proposal_in 0 0 (hearing 0 (Propose 0 value)) ≡ None =
+    first_none (proposal_in 0 0) heard (none_from_map (λ (w : List ℕ). val_of 0 m (encoded c.n (data_count c) w)) (first_of (proposal_in 0 0) heard) none) (hearing 0 (Propose 0 value)) proposal in
+    absurd (cc (given))))
 
--- each running node has echoed it
-echo_cast : (report : Report) (value : List ℕ) (i : ℕ) → IsAlive report value → is_running report i ≡ true → said (is_echo 0 value) i 0 report.history.items ≡ true
+-- each node that is alive has echoed it
+echo_is_cast : (report : Report) (value : List ℕ) (i : ℕ) → IsAlive report value → is_alive report i ≡ true → IsEchoIn (own_in report.config i 0 report.history.items)
 unfolding echo_slot
-echo_cast report value i alive runs =
+echo_is_cast report value i alive up =
+    let c = report.config in
     let at = lane_zero report value alive in
-    let source : IsSourced report.config 0 report.history.items = sourced report value alive in
-    let rest : Rests report i 0 = lane_rests report value i alive runs in
-    let own : List Vote = own_in i 0 report.history.items in
-    let heard : List Hearing = heard_of report.config i 0 report.history.items rest.got in
-    let val : Contains heard (record { from = 0; vote = Val 0 i value }) =
-    hears_posted report i 0 0 0 (Val 0 i value) rest (lane_rests report value 0 alive alive.sender).works
-    (posted report.config (is_val 0 i value) 0 0 report.history.items (Val 0 i value) source.addressed (alive.run.correct 0) (val_is 0 i value) (val_cast report value i alive (node_below report i runs)))
-    (rw (eq-eqb i i refl) refl) (rw (at.0, eq-eqb i i refl) refl) at.2 at.1 in
-    valued (echoed 0) value own (λ v says. alive.run.source 0 v (source.echoes 0 v i (alive.run.correct i) says))
-    (filled (echo_slot i 0 0) own heard (lane_settled report value i alive rest).echo
-    (λ none. first_gives (claimed_by 0 (sent 0 i)) heard (record { from = 0; vote = Val 0 i value }) value val (rw (eq-eqb i i refl) refl)
-    (none_from_map (Echo 0) (first_of (claimed_by 0 (sent 0 i)) heard) none)))
+    let rest : Rests report i 0 = lane_rests report value i alive up in
+    let own = own_in c i 0 report.history.items in
+    let heard = heard_of c i 0 report.history.items rest.got in
+    let sent : IsValTo i (own_in c 0 0 report.history.items) = val_is_cast report value i alive (is_up report i up).below in
+    let of : IsOfValue c value i sent.root sent.shard sent.branch = val_of_value c value 0 0 i sent.root sent.shard sent.branch report.history.items (alive.run.sources 0) sent.stands in
+    let vote = Val 0 i sent.root sent.shard sent.branch in
+    let val : Contains heard (hearing 0 vote) =
+    hears_cast report value i 0 0 vote alive rest (lane_rests report value 0 alive alive.sender).works sent.stands
+    (rw (eq-eqb i i refl) refl) (rw (at.0, eq-eqb i i refl) refl) (rw at.2 refl) in
+    let valid : is_branch sent.root c.n i sent.shard sent.branch ≡ true = is_branch-from sent.root c.n i sent.shard sent.branch of.valid in
+    echo_in_own own (filled (echo_slot c i 0 0) own heard (lane_settled report value i alive rest).echo
+    (λ none.
+    let given : echo_in c.n 0 i 0 (hearing 0 vote) ≡ None = first_none (echo_in c.n 0 i 0) heard none (hearing 0 vote) val in
+    let made : echo_in c.n 0 i 0 (hearing 0 vote) ≡ Some (Echo 0 sent.root sent.shard sent.branch) = rw (eq-eqb i i refl, valid) refl in
+    absurd (cc (sym given ∙ made))))
 
--- an Echo or a Ready of a node has reached each
-heard_of_all : (report : Report) (value : List ℕ) (v : Vote) (test : Vote → Bool) (i a : ℕ) → IsAlive report value → (rest : Rests report i 0) → is_running report a ≡ true
-    → ((w : Vote) → test w ≡ true → w ≡ v) → said test a 0 report.history.items ≡ true → leads_to report.config.n a 0 (address_of v) i 0 ≡ true → heeds report.config.n i 0 a 0 v ≡ true
-    → nat_lt (epoch_of v) report.config.epochs ≡ true → Contains (heard_of report.config i 0 report.history.items rest.got) (record { from = a; vote = v })
-heard_of_all report value v test i a alive rest runs only says leads heeded early =
-    hears_posted report i 0 a 0 v rest (lane_rests report value a alive runs).works
-    (posted report.config test a 0 report.history.items v (sourced report value alive).addressed (alive.run.correct a) only says) leads heeded early (lane_zero report value alive).1
+-- what was heard of an Echo of a node that is alive
+record IsEchoHeard (report : Report) (value : List ℕ) (heard : List Hearing) (a : ℕ) : Type 0 where
+  shard : List ℕ
+  branch : Branch
+  stands : Contains heard (hearing a (Echo 0 (tree_root (encoded report.config.n (data_count report.config) value)) shard branch))
+  valid : is_branch (tree_root (encoded report.config.n (data_count report.config) value)) report.config.n a shard branch ≡ true
+  encoding : IsEncoding report.config.n (data_count report.config) value (encoded report.config.n (data_count report.config) value)
 
--- what was heard from each running node is counted as often as there are some
-counted : (report : Report) (test : Vote → Bool) (v : Vote) (heard : List Hearing) → test v ≡ true → ((a : ℕ) → is_running report a ≡ true → Contains heard (record { from = a; vote = v }))
-    → count_nodes report.config.n (is_running report) ≤ count_of report.config.n test heard
-counted report test v heard passes all =
-    count_nodes-mono report.config.n (is_running report) (heard_from test heard) (λ a below runs.
-    list_any-from (λ (h : Hearing). (h.from == a) && test h.vote) heard (record { from = a; vote = v }) (all a runs) (rw (eq-eqb a a refl, passes) refl))
+echo_heard : (report : Report) (value : List ℕ) (i a : ℕ) → IsAlive report value → (rest : Rests report i 0) → is_alive report a ≡ true
+    → IsEchoHeard report value (heard_of report.config i 0 report.history.items rest.got) a
+echo_heard report value i a alive rest up =
+    let c = report.config in
+    let at = lane_zero report value alive in
+    let heard = heard_of c i 0 report.history.items rest.got in
+    let echo : IsEchoIn (own_in c a 0 report.history.items) = echo_is_cast report value a alive up in
+    let of : IsOfValue c value a echo.root echo.shard echo.branch = echo_of_value c value 0 0 a echo.root echo.shard echo.branch report.history.items (alive.run.sources 0) echo.stands in
+    let stands : Contains heard (hearing a (Echo 0 echo.root echo.shard echo.branch)) =
+    hears_cast report value i a 0 (Echo 0 echo.root echo.shard echo.branch) alive rest (lane_rests report value a alive up).works echo.stands refl at.0 (rw at.2 refl) in
+    record {
+      shard = echo.shard;
+      branch = echo.branch;
+      stands = subst (λ (root : List ℕ). Contains heard (hearing a (Echo 0 root echo.shard echo.branch))) (sym of.root_is) stands;
+      valid = ap (λ (root : List ℕ). is_branch root c.n a echo.shard echo.branch) of.root_is ∙ is_branch-from echo.root c.n a echo.shard echo.branch of.valid;
+      encoding = of.encoding;
+    }
 
--- each running node is ready for it
-ready_cast : (report : Report) (value : List ℕ) (i : ℕ) → IsAlive report value → is_running report i ≡ true → said (is_ready 0 value) i 0 report.history.items ≡ true
+-- n - f nodes have shown Echoes that rebuild to the value
+record HasEnough (report : Report) (value : List ℕ) (heard : List Hearing) : Type 0 where
+  echoes : report.config.n - report.config.f ≤ echo_count report.config.n 0 (tree_root (encoded report.config.n (data_count report.config) value)) (heard_by heard)
+  value_is : value_of report.config 0 heard (tree_root (encoded report.config.n (data_count report.config) value)) ≡ Some value
+
+enough_heard : (report : Report) (value : List ℕ) (i : ℕ) → IsAlive report value → is_alive report i ≡ true → (rest : Rests report i 0)
+    → HasEnough report value (heard_of report.config i 0 report.history.items rest.got)
+enough_heard report value i alive up rest =
+    let c = report.config in
+    let history = report.history.items in
+    let source = alive.run.sources 0 in
+    let heard = heard_of c i 0 history rest.got in
+    let root = tree_root (encoded c.n (data_count c) value) in
+    let first : IsEchoHeard report value heard 0 = echo_heard report value i 0 alive rest alive.sender in
+    let shows : (a : ℕ) → a < c.n → is_alive report a ≡ true → heard_by heard a (is_echo c.n 0 root a) ≡ true = λ a below up.
+    let echo : IsEchoHeard report value heard a = echo_heard report value i a alive rest up in
+    list_any-from (λ (h : Hearing). (h.from == a) && is_echo c.n 0 root a h.vote) heard (hearing a (Echo 0 root echo.shard echo.branch)) echo.stands
+    (rw (eq-eqb a a refl, lt-ltb a c.n below, echo.valid) ((bytes_eq-Decides root root).1 refl)) in
+    let count : count_nodes c.n (is_alive report) ≤ echo_count c.n 0 root (heard_by heard) =
+    count_nodes-mono c.n (is_alive report) (λ a. heard_by heard a (is_echo c.n 0 root a)) shows in
+    record {
+      echoes = omega (arith, count, alive.enough);
+      value_is = value_rebuilt c value root 0 heard source.sound source.short first.encoding refl
+          (λ a shard h.
+          let all : heard_by (heard_in c i 0 history) a (is_shard_echo c.n 0 root a shard) ≡ true =
+          heard_by-among heard (heard_in c i 0 history) a (is_shard_echo c.n 0 root a shard) (AreAmong-received c i 0 history rest.got) h in
+          let said : said_in c 0 history a (is_shard_echo c.n 0 root a shard) ≡ true =
+          (heard-said c i 0 history (legal_addressed c history source.legal) (is_up report 0 alive.sender).below (source.honest i)).grows a (is_shard_echo c.n 0 root a shard)
+          (is_shard_echo-away c.n 0 root a shard) all in
+          (shown_of_value c value 0 0 a root shard history source said).1.shard_is)
+          (omega (arith, count, alive.enough));
+    }
+
+-- what names the root in an Echo that was heard
+named_by_echo : (n a : ℕ) (root shard : List ℕ) (branch : Branch) → a < n → is_branch root n a shard branch ≡ true → named n 0 (hearing a (Echo 0 root shard branch)) ≡ Some root
+named_by_echo n a root shard branch below valid = rw (lt-ltb a n below, valid) refl
+
+-- each node that is alive is ready for it
+ready_is_cast : (report : Report) (value : List ℕ) (i : ℕ) → IsAlive report value → is_alive report i ≡ true
+    → Contains (own_in report.config i 0 report.history.items) (Ready 0 (tree_root (encoded report.config.n (data_count report.config) value)))
 unfolding ready_slot
-ready_cast report value i alive runs =
-    let at = lane_zero report value alive in
-    let rest : Rests report i 0 = lane_rests report value i alive runs in
-    let own : List Vote = own_in i 0 report.history.items in
-    let heard : List Hearing = heard_of report.config i 0 report.history.items rest.got in
-    let same : is_echo 0 value (Echo 0 value) ≡ true = (bytes_eq-Decides value value).1 refl in
-    let echo : (a : ℕ) → is_running report a ≡ true → Contains heard (record { from = a; vote = Echo 0 value }) = λ a within.
-    heard_of_all report value (Echo 0 value) (is_echo 0 value) i a alive rest within (echo_is 0 value) (echo_cast report value a alive within) refl at.0 at.2 in
-    let count : count_nodes report.config.n (is_running report) ≤ count_of report.config.n (is_echo 0 value) heard = counted report (is_echo 0 value) (Echo 0 value) heard same echo in
-    let enough : readies report.config 0 heard value ≡ true =
-    or_left (nat_le (report.config.n - report.config.f) (count_of report.config.n (is_echo 0 value) heard)) (nat_le (report.config.f + 1) (count_of report.config.n (is_ready 0 value) heard))
-    (le-leb (report.config.n - report.config.f) (count_of report.config.n (is_echo 0 value) heard) (omega (arith, count, alive.enough))) in
-    valued (readied 0) value own (λ v says. alive.run.source 0 v ((sourced report value alive).readies 0 v i (alive.run.correct i) says))
-    (filled (ready_slot report.config 0) own heard (lane_settled report value i alive rest).ready
-    (λ none. first_gives (λ h. passing (readies report.config 0 heard) (named 0 h)) heard (record { from = 0; vote = Echo 0 value }) value
-    (echo 0 alive.sender) (rw enough refl)
-    (none_from_map (Ready 0) (first_of (λ h. passing (readies report.config 0 heard) (named 0 h)) heard) none)))
+ready_is_cast report value i alive up =
+    let c = report.config in
+    let history = report.history.items in
+    let source = alive.run.sources 0 in
+    let rest : Rests report i 0 = lane_rests report value i alive up in
+    let own = own_in c i 0 history in
+    let heard = heard_of c i 0 history rest.got in
+    let root = tree_root (encoded c.n (data_count c) value) in
+    let enough : HasEnough report value heard = enough_heard report value i alive up rest in
+    let first : IsEchoHeard report value heard 0 = echo_heard report value i 0 alive rest alive.sender in
+    let echo = hearing 0 (Echo 0 root first.shard first.branch) in
+    let made : is_made_ready c 0 heard root ≡ true =
+    or_left (nat_le (c.n - c.f) (echo_count c.n 0 root (heard_by heard)) && is_some (value_of c 0 heard root)) (nat_le (c.f + 1) (ready_count c.n 0 root (heard_by heard)))
+    (and_from (nat_le (c.n - c.f) (echo_count c.n 0 root (heard_by heard))) (is_some (value_of c 0 heard root))
+    (le-leb (c.n - c.f) (echo_count c.n 0 root (heard_by heard)) enough.echoes) (ap (λ (o : Option (List ℕ)). is_some o) enough.value_is)) in
+    let cast : list_any (is_any_ready 0) own ≡ true =
+    filled (ready_slot c 0) own heard (lane_settled report value i alive rest).ready
+    (λ none.
+    let given : option_and_then (ready_made c 0 heard) (named c.n 0 echo) ≡ None =
+    first_none (λ (h : Hearing). option_and_then (ready_made c 0 heard) (named c.n 0 h)) heard none echo first.stands in
+    let makes : option_and_then (ready_made c 0 heard) (named c.n 0 echo) ≡ Some (Ready 0 root) =
+    ap (option_and_then (ready_made c 0 heard)) (named_by_echo c.n 0 root first.shard first.branch (is_up report 0 alive.sender).below first.valid)
+    ∙ chosen (is_made_ready c 0 heard root) (Ready 0 root) made in
+    absurd (cc (sym given ∙ makes))) in
+    let found = any_stands (is_any_ready 0) own cast in
+    let some = some_of (readied 0 found.0) found.2 in
+    let stands : Contains own (Ready 0 some.0) = subst (λ (vote : Vote). Contains own vote) (readied-is 0 found.0 some.0 some.1) found.1 in
+    let from : IsProposedRoot c 0 0 some.0 history =
+    quorum_proposed c 0 0 some.0 history source.sound source.legal (source.honest 0) (ready_backed c 0 0 i some.0 source.sound history source.legal (source.honest i) stands) in
+    let encoding : IsEncoding c.n (data_count c) value from.shards =
+    subst (λ (w : List ℕ). IsEncoding c.n (data_count c) w from.shards) (source.only 0 from.value from.proposed) from.encoding in
+    let is : from.shards ≡ encoded c.n (data_count c) value =
+    encoding-only c.n (data_count c) value from.shards (data_count-some c source.sound) (data_count-within c) (few_nodes c source.sound) encoding in
+    subst (λ (r : List ℕ). Contains own (Ready 0 r)) (sym from.root_is ∙ ap tree_root is) stands
 
--- each running node has delivered it
-delivered_everywhere : (report : Report) (value : List ℕ) (i : ℕ) → IsAlive report value → is_running report i ≡ true → first_of (delivered 0) (own_in i 0 report.history.items) ≡ Some value
+-- a list of votes that delivers, and only the value, delivers it first
+first_delivers : (value : List ℕ) (own : List Vote) → ((v : List ℕ) → Contains own (Delivered 0 v) → v ≡ value) → list_any (is_any_delivery 0) own ≡ true → first_of (delivered 0) own ≡ Some value
+first_delivers value [] only some = absurd (cc (some))
+first_delivers value (w ∷ own) only some =
+    by (delivered 0 w) refl some (first_delivers value own (λ v stands. only v (Contains-later w own (Delivered 0 v) stands)))
+  where
+    by : (o : Option (List ℕ)) → delivered 0 w ≡ o → list_any (is_any_delivery 0) (w ∷ own) ≡ true → (list_any (is_any_delivery 0) own ≡ true → first_of (delivered 0) own ≡ Some value)
+        → option_or o (first_of (delivered 0) own) ≡ Some value
+    by None is some later = later (sym (ap (λ (o : Option (List ℕ)). is_some o || list_any (is_any_delivery 0) own) is) ∙ some)
+    by (Some v) is some later =
+        let vote : w ≡ Delivered 0 v = sym (is_delivery 0 w v is) in
+        ap (λ (u : List ℕ). Some u) (only v (subst (λ (u : Vote). Contains (w ∷ own) u) vote (Contains-first w own)))
+
+-- each node that is alive has delivered it
+delivered_everywhere : (report : Report) (value : List ℕ) (i : ℕ) → IsAlive report value → is_alive report i ≡ true
+    → first_of (delivered 0) (own_in report.config i 0 report.history.items) ≡ Some value
 unfolding delivery_slot
-delivered_everywhere report value i alive runs =
+delivered_everywhere report value i alive up =
+    let c = report.config in
+    let history = report.history.items in
+    let source = alive.run.sources 0 in
     let at = lane_zero report value alive in
-    let rest : Rests report i 0 = lane_rests report value i alive runs in
-    let own : List Vote = own_in i 0 report.history.items in
-    let heard : List Hearing = heard_of report.config i 0 report.history.items rest.got in
-    let same : is_ready 0 value (Ready 0 value) ≡ true = (bytes_eq-Decides value value).1 refl in
-    let ready : (a : ℕ) → is_running report a ≡ true → Contains heard (record { from = a; vote = Ready 0 value }) = λ a within.
-    heard_of_all report value (Ready 0 value) (is_ready 0 value) i a alive rest within (ready_is 0 value) (ready_cast report value a alive within) refl at.0 at.2 in
-    let count : count_nodes report.config.n (is_running report) ≤ count_of report.config.n (is_ready 0 value) heard = counted report (is_ready 0 value) (Ready 0 value) heard same ready in
-    let enough : delivers report.config 0 heard value ≡ true =
-    le-leb (2 * report.config.f + 1) (count_of report.config.n (is_ready 0 value) heard) (omega (arith, count, alive.enough, alive.run.sound.enough)) in
-    first_valued (delivered 0) value own (λ v says. alive.run.source 0 v ((sourced report value alive).deliveries 0 v i (alive.run.correct i) says))
-    (filled (delivery_slot report.config 0) own heard (lane_settled report value i alive rest).delivery
-    (λ none. first_gives (λ h. passing (delivers report.config 0 heard) (readied 0 h.vote)) heard (record { from = 0; vote = Ready 0 value }) value
-    (ready 0 alive.sender) (rw enough refl)
-    (none_from_map (Delivered 0) (first_of (λ h. passing (delivers report.config 0 heard) (readied 0 h.vote)) heard) none)))
+    let rest : Rests report i 0 = lane_rests report value i alive up in
+    let own = own_in c i 0 history in
+    let heard = heard_of c i 0 history rest.got in
+    let root = tree_root (encoded c.n (data_count c) value) in
+    let enough : HasEnough report value heard = enough_heard report value i alive up rest in
+    let ready : (a : ℕ) → is_alive report a ≡ true → Contains heard (hearing a (Ready 0 root)) = λ a other.
+    hears_cast report value i a 0 (Ready 0 root) alive rest (lane_rests report value a alive other).works (ready_is_cast report value a alive other) refl at.0 (rw at.2 refl) in
+    let count : count_nodes c.n (is_alive report) ≤ ready_count c.n 0 root (heard_by heard) =
+    count_nodes-mono c.n (is_alive report) (λ a. heard_by heard a (is_ready 0 root)) (λ a below other.
+    list_any-from (λ (h : Hearing). (h.from == a) && is_ready 0 root h.vote) heard (hearing a (Ready 0 root)) (ready a other)
+    (rw (eq-eqb a a refl) ((bytes_eq-Decides root root).1 refl))) in
+    let many : nat_le (2 * c.f + 1) (ready_count c.n 0 root (heard_by heard)) ≡ true =
+    le-leb (2 * c.f + 1) (ready_count c.n 0 root (heard_by heard)) (omega (arith, count, alive.enough, source.sound.enough)) in
+    let cast : list_any (is_any_delivery 0) own ≡ true =
+    filled (delivery_slot c 0) own heard (lane_settled report value i alive rest).delivery
+    (λ none.
+    let given : option_and_then (delivery_made c 0 heard) (named c.n 0 (hearing 0 (Ready 0 root))) ≡ None =
+    first_none (λ (h : Hearing). option_and_then (delivery_made c 0 heard) (named c.n 0 h)) heard none (hearing 0 (Ready 0 root)) (ready 0 alive.sender) in
+    let makes : delivery_made c 0 heard root ≡ Some (Delivered 0 value) =
+    ap (λ (b : Bool). if b then option_map (Delivered 0) (value_of c 0 heard root) else None) many ∙ ap (option_map (Delivered 0)) enough.value_is in
+    absurd (cc (sym given ∙ makes))) in
+    first_delivers value own (λ v stands. delivers_proposed c value 0 0 i v history source stands) cast
 
 -- ---- where no actor has ended
 
@@ -423,36 +295,40 @@ count_all (suc n) test all =
     let last : test n ≡ true = all n (omega arith) in
     rw last (ap (λ (k : ℕ). k + 1) rest ∙ omega arith)
 
-runs_from : (i : ℕ) (ends : List End) → list_any (λ (e : End). is_memory_fate e.fate) ends ≡ false → list_any (λ (e : End). is_full_fate e.fate) ends ≡ false → runs ends i ≡ true
-runs_from i [] memory full = refl
-runs_from i (e ∷ es) memory full = by e.fate refl memory full (runs_from i es)
+-- an actor without journal that found memory, and room in the book, has not ended
+none_from : (i : ℕ) (ends : List End) → ((end : End) → Contains ends end → end.fate ≢ Journal) → list_any (λ (end : End). is_memory_fate end.fate) ends ≡ false
+    → list_any (λ (end : End). is_full_fate end.fate) ends ≡ false → none_ended ends i ≡ true
+none_from i [] journal memory full = refl
+none_from i (e ∷ es) journal memory full = by e.fate refl memory full (none_from i es (λ end stands. journal end (Contains-later e es end stands)))
   where
-    by : (fate : Fate) → e.fate ≡ fate → list_any (λ (e : End). is_memory_fate e.fate) (e ∷ es) ≡ false → list_any (λ (e : End). is_full_fate e.fate) (e ∷ es) ≡ false
-        → (list_any (λ (e : End). is_memory_fate e.fate) es ≡ false → list_any (λ (e : End). is_full_fate e.fate) es ≡ false → runs es i ≡ true) → runs (e ∷ es) i ≡ true
+    by : (fate : Fate) → e.fate ≡ fate → list_any (λ (end : End). is_memory_fate end.fate) (e ∷ es) ≡ false → list_any (λ (end : End). is_full_fate end.fate) (e ∷ es) ≡ false
+        → (list_any (λ (end : End). is_memory_fate end.fate) es ≡ false → list_any (λ (end : End). is_full_fate end.fate) es ≡ false → none_ended es i ≡ true) → none_ended (e ∷ es) i ≡ true
     by Running is memory full rest =
         let first : (not (e.node == i) || is_running_fate e.fate) ≡ true = or_right (not (e.node == i)) (is_running_fate e.fate) (rw is refl) in
-        let others : runs es i ≡ true = rest (rw is at memory) (rw is at full) in
-        ap (λ (b : Bool). b && runs es i) first ∙ others
+        let others : none_ended es i ≡ true = rest (rw is at memory) (rw is at full) in
+        ap (λ (b : Bool). b && none_ended es i) first ∙ others
     by Memory is memory full rest = absurd (cc (rw is at memory))
+    by Journal is memory full rest = absurd (journal e (Contains-first e es) is)
     by Full is memory full rest = absurd (cc (rw is at full))
 
 -- where the status is 0 no actor of a node has ended
-runs_if_ok : (ends : List End) (i : ℕ) → status_of ends ≡ 0 → runs ends i ≡ true
-runs_if_ok ends i ok = by (list_any (λ (e : End). is_memory_fate e.fate) ends) (list_any (λ (e : End). is_full_fate e.fate) ends) refl refl ok
+none_if_ok : (ends : List End) (i : ℕ) → ((end : End) → Contains ends end → end.fate ≢ Journal) → status_by ends ≡ 0 → none_ended ends i ≡ true
+none_if_ok ends i journal ok = by (list_any (λ (end : End). is_memory_fate end.fate) ends) (list_any (λ (end : End). is_full_fate end.fate) ends) refl refl ok
   where
-    by : (memory full : Bool) → list_any (λ (e : End). is_memory_fate e.fate) ends ≡ memory → list_any (λ (e : End). is_full_fate e.fate) ends ≡ full
-        → ◌≡◌ {A = ℕ} (if memory then 9 else (if full then 4 else 0)) 0 → runs ends i ≡ true
+    by : (memory full : Bool) → list_any (λ (end : End). is_memory_fate end.fate) ends ≡ memory → list_any (λ (end : End). is_full_fate end.fate) ends ≡ full
+        → ◌≡◌ {A = ℕ} (if memory then 9 else (if full then 4 else 0)) 0 → none_ended ends i ≡ true
     by true full is_memory is_full ok = absurd (cc (ok))
     by false true is_memory is_full ok = absurd (cc (ok))
-    by false false is_memory is_full ok = runs_from i ends is_memory is_full
+    by false false is_memory is_full ok = none_from i ends journal is_memory is_full
 
--- the running nodes have delivered the value
-pub all_deliver : (report : Report) (value : List ℕ) → Premises report value → report.status ≡ status_of report.ends.items → AllDeliver value report
-all_deliver report value run status = record {
-  running = λ sender enough i runs. delivered_everywhere report value i (record { run = run; sender = sender; enough = enough }) runs;
+-- the nodes that are alive have delivered the value
+pub all_deliver : (report : Report) (value : List ℕ) → Premises report value → ((end : End) → Contains report.ends.items end → end.fate ≢ Journal)
+    → report.status ≡ status_by report.ends.items → AllDeliver value report
+all_deliver report value run journal status = record {
+  alive = λ sender enough i up. delivered_everywhere report value i (record { run = run; sender = sender; enough = enough }) up;
   ok = λ zero i below.
-      let is : (a : ℕ) → a < report.config.n → is_running report a ≡ true = λ a within.
-      rw (lt-ltb a report.config.n within, run.correct a) (runs_if_ok report.ends.items a (sym status ∙ zero)) in
+      let is : (a : ℕ) → a < report.config.n → is_alive report a ≡ true = λ a within.
+      rw (lt-ltb a report.config.n within, (run.sources 0).honest a) (none_if_ok report.ends.items a journal (sym status ∙ zero)) in
       delivered_everywhere report value i
-      (record { run = run; sender = is 0 (omega (arith, run.sound.nodes.0)); enough = omega (arith, count_all report.config.n (is_running report) is) }) (is i below);
+      (record { run = run; sender = is 0 (omega (arith, below)); enough = omega (arith, count_all report.config.n (is_alive report) is) }) (is i below);
 }

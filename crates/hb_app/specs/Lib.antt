@@ -1,6 +1,7 @@
 pub mod Casting
 pub mod Input
 pub mod Member
+pub mod Quiet
 pub mod Run
 pub mod Scenario
 pub mod Streams

@@ -9,7 +9,7 @@ use Rattle.hex.specs.declared.error.FromHexError.{FromHexError}
 use Rattle.hex.specs.Hex.{decode_of}
 use Rattle.hb_base.specs.Limits.{most_nodes, most_faulty, most_rounds, most_batch, longest_transaction, longest_scenario}
 use Rattle.hb_base.specs.Numbers.{numbers}
-use Rattle.value_rules.specs.declared.report.Submit.{Submit}
+use Rattle.net_script.specs.declared.script.Submit.{Submit}
 use Rattle.hb_app.specs.declared.scenario.Scenario.{Scenario}
 use Rattle.hb_app.specs.declared.scenario.ScenarioFault.{ScenarioFault}
 use Rattle.hb_app.specs.declared.scenario.ScenarioFault.TheVariants.{NotBuilt, Memory}

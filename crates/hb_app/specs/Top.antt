@@ -1,7 +1,7 @@
 -- What the program answers, and what it leaves.
 use Rattle.std.specs.Prelude.{◌≡◌, ◌≢◌, ◌⊎◌, ℕ, String, List, [], ◌∷◌, codes, map, Option, None, Some, string_bytes}
 use Rattle.hb_base.specs.Outside.{Rose}
-use Rattle.value_rules.specs.declared.report.Report.{Report}
+use Rattle.hb_rules.specs.declared.report.Report.{Report}
 use Rattle.hb_app.specs.declared.scenario.Scenario.{Scenario}
 use Rattle.hb_app.specs.declared.top.Outcome.{Outcome}
 use Rattle.hb_app.specs.declared.top.Outcome.TheVariants.{Refused, ReadFailed, Memory, WriteFailed, Ran}

@@ -2,6 +2,8 @@
 #![tactic(auto)]
 
 mod driver;
+mod ends;
+mod hearing;
 mod input;
 mod line;
 mod member;

@@ -1,19 +1,21 @@
-ghost use Rattle.std.specs.Prelude.{◌≡◌, ℕ, ◌<◌, ◌≤◌, ◌⊎◌, Bool, true, List, [], ◌∷◌, ◌++◌, length, OnOk, OnErr, IfOk, IfErr, Err, slice_get, Some, Contains, if◌then◌else◌, ◌==◌};
-ghost use Rattle.std.specs.List.{list_any};
+ghost use Rattle.std.specs.Prelude.{◌≡◌, ◌≢◌, ℕ, ◌<◌, ◌≤◌, ◌⊎◌, true, false, List, [], ◌∷◌, ◌++◌, length, OnOk, OnErr, IsOk, IfOk, Err};
+ghost use Rattle.hb_base.specs.ByteLists.{AreBytes};
+ghost use Rattle.hb_base.specs.Limits.{longest_value};
+ghost use Rattle.hb_base.specs.NodeSet.{is_in};
 ghost use Rattle.hb_base.specs.Numbers.{AreSound};
-ghost use Rattle.value_rules.specs.declared.vote.Vote.{Vote};
-ghost use Rattle.value_rules.specs.declared.vote.Vote.TheVariants.{Propose};
-ghost use Rattle.value_rules.specs.Hearing.{Hearing, own_in, heard_in};
-ghost use Rattle.value_rules.specs.Rules.{MayCast};
-ghost use Rattle.value_rules.specs.Book.{IsSeatOf, Moved};
-ghost use Rattle.value_rules.specs.declared.report.Fate.TheVariants.{Running, Full};
-ghost use Rattle.value_rules.specs.Report.{NoVoteTwice, IsReceived, heard_of};
-ghost use Rattle.hb_app.specs.Casting.{MayCastAll, HasCastFront};
-ghost use Rattle.hb_app.specs.Member.{IsFull, IsReady, IsMember, HearsIn, KnowsNode, IsPlaced, Listens, AddsReceived, TakesIn};
+ghost use Rattle.hb_wire.specs.declared.vote.Vote.TheVariants.{Propose};
+ghost use Rattle.hb_rules.specs.Hearing.{own_in};
+ghost use Rattle.hb_rules.specs.Book.{IsSeatOf, Moved, mine_in};
+ghost use Rattle.hb_rules.specs.declared.report.Fate.TheVariants.{Running, Journal, Full};
+ghost use Rattle.hb_app.specs.Quiet.{NoVoteTwice};
+ghost use Rattle.hb_app.specs.Casting.{AreCastableAfter, HasCastFront};
+ghost use Rattle.hb_app.specs.Member.{IsFull, IsReached, IsSeated, IsReadyAfter, IsMember, MayHear, HearsIn, Acts, Receives};
 
-use hb_base::{Bytes, Config};
-use value_rules::{Book, BookFault, Due, Fate, PlainBook, PlainSeat, Post, Vote, hears};
-use value_broadcast::Rbc;
+use crate::hearing::{Heard, hear};
+use hb_base::Bytes;
+use hb_rules::{Book, BookFault, Due, Fate, PlainBook, PlainSeat};
+use hb_wire::{Vote, reaches};
+use rbc_core::Rbc;
 use std::alloc::{AllocError, Global};
 
 /// What an actor does with the votes that it hears.
@@ -37,7 +39,7 @@ pub struct Member {
 }
 
 impl Member {
-    /// A lane that has cast nothing and heard nothing.
+    /// A lane of a correct node, that has cast nothing and heard nothing.
     pub fn lane(
         alloc: Global,
         book: &mut PlainBook,
@@ -45,7 +47,8 @@ impl Member {
         lane: u8,
     ) -> Result<Member, AllocError>
         requires known { (node < book.old.config.n) × (lane < book.old.config.n) }
-        requires fresh { own_in node lane book.old.posts ≡ [] }
+        requires honest { is_in book.old.config.liars node ≡ false }
+        requires fresh { mine_in book.old.config node lane book.old.posts ≡ [] }
         ensures book { book.new ≡ book.old }
         ensures member { IfOk result (IsMember book.old.config book.old.posts) }
         ensures place { IfOk result (λ m. (m.node ≡ node) × (m.actor ≡ lane)) }
@@ -64,174 +67,143 @@ impl Member {
 
     /// The desk of node 0, which makes its proposal at once.
     pub fn desk(alloc: Global, book: &mut PlainBook, value: &Bytes) -> Member
-        requires known { 0 < book.old.config.n }
-        requires fresh { own_in 0 book.old.config.n book.old.posts ≡ [] }
+        requires sound { AreSound book.old.config }
+        requires honest { is_in book.old.config.liars 0 ≡ false }
+        requires fresh { book.old.posts ≡ [] }
+        requires short { length value.now ≤ longest_value }
+        requires bytes { AreBytes value.now }
         ensures member { IsMember book.new.config book.new.posts result }
         ensures place { (result.node ≡ 0) × (result.actor ≡ book.old.config.n) }
         ensures moved { Moved 0 book.old.config.n book.old book.new }
-        ensures once { NoVoteTwice book.old.posts → NoVoteTwice book.new.posts }
-        ensures proposes { (own_in 0 book.old.config.n book.new.posts ≡ [])
-            ⊎ (own_in 0 book.old.config.n book.new.posts ≡ Propose 0 value.now ∷ []) }
+        ensures once { NoVoteTwice book.old.config book.old.posts → NoVoteTwice book.old.config book.new.posts }
+        ensures proposes { (own_in book.old.config 0 book.old.config.n book.new.posts ≡ [])
+            ⊎ (own_in book.old.config 0 book.old.config.n book.new.posts ≡ Propose 0 value.now ∷ []) }
     {
         let actor = book.config().n();
         let mut seat = book.seat(0, actor);
-        let fate = match propose(alloc, book, &mut seat, value) {
-            Ok(()) => Fate::Running,
-            Err(fault) => fate_of(fault),
-        };
+        let proposed = propose(book, &mut seat, value);
         Member {
             node: 0,
             actor,
             seat,
             core: Core::Desk,
             got: Vec::new(alloc),
-            fate,
+            fate: fate_after(proposed),
         }
     }
 
-    /// Receives a post that reaches the actor, and casts what it makes due. An actor that finds no memory, or the book
-    /// full, ends there.
+    /// Receives post k, if the actor works and the post reaches it: hears it, and casts what becomes due. An actor that finds
+    /// no memory, or the book full, ends there.
     pub fn receive(&mut self, alloc: Global, book: &mut PlainBook, k: u32)
         requires member { IsMember book.old.config book.old.posts self.old }
-        requires working { self.old.fate ≡ Running }
-        requires received { IsReceived book.old.config book.old.posts self.old.node self.old.actor k }
-        ensures member { IsMember book.new.config book.new.posts self.new }
-        ensures adds { AddsReceived k self.old self.new }
-        ensures moved { Moved self.old.node self.old.actor book.old book.new }
-        ensures once { NoVoteTwice book.old.posts → NoVoteTwice book.new.posts }
-        ensures desk { self.old.actor ≡ book.old.config.n → book.new.posts ≡ book.old.posts }
+        requires stands { k < length book.old.posts }
+        ensures { Receives k book.old book.new self.old self.new }
     {
-        if let Err(fault) = self.take_in(alloc, book, k) {
-            self.fate = fate_of(fault);
+        let n = book.config().n();
+        if self.fate != Fate::Running {
+            return;
         }
+        if !reaches(n, &book.history()[k as usize], self.node, self.actor) {
+            return;
+        }
+        let taken = self.take(alloc, book, k);
+        self.fate = fate_after(taken);
     }
 
-    fn take_in(&mut self, alloc: Global, book: &mut PlainBook, k: u32) -> Result<(), BookFault>
+    // Takes in post k. After an error the actor is no more ready.
+    fn take(&mut self, alloc: Global, book: &mut PlainBook, k: u32) -> Result<(), BookFault>
         requires member { IsMember book.old.config book.old.posts self.old }
         requires working { self.old.fate ≡ Running }
-        requires received { IsReceived book.old.config book.old.posts self.old.node self.old.actor k }
-        ensures taken { TakesIn k book.old book.new self.old self.new }
-        ensures ready { OnOk result (IsReady book.new.config self.new.node self.new.actor (own_in self.new.node self.new.actor book.new.posts)
-            (heard_of book.new.config self.new.node self.new.actor book.new.posts self.new.got.items) self.new.core) }
+        requires reached { IsReached book.old.config book.old.posts self.old.node self.old.actor k }
+        ensures acts { Acts book.old book.new self.old self.new }
+        ensures seated { IsSeated book.new.config book.new.posts self.new }
+        ensures fate { self.new.fate ≡ self.old.fate }
+        ensures ready { OnOk result (IsReadyAfter book.new.config book.new.posts self.new) }
         ensures got { OnOk result (self.new.got.items ≡ self.old.got.items ++ k ∷ []) }
         ensures full { result ≡ Err BookFault.Full → IsFull book.new.posts }
     {
-        let due = listen(&mut self.core, alloc, book, self.node, self.actor, k)?;
-        note(&mut self.got, k)?;
+        let config = book.config();
+        // The liars of a config are told with its numbers, which are sound.
+        let _liars = config.liars();
+        let post = &book.history()[k as usize];
+        let heard = hear(alloc, &config, post, self.node, self.actor)?;
+        let due = self.core.hear(alloc, heard)?;
+        self.got.push(k)?;
         cast(book, &mut self.seat, due.votes())
     }
 }
 
-// Hears post k, if it concerns the actor, and gives the votes that it makes due.
-fn listen(
-    core: &mut Core,
-    alloc: Global,
-    book: &PlainBook,
-    node: u8,
-    actor: u8,
-    k: u32,
-) -> Result<Due, BookFault>
-    requires received { IsReceived book.now.config book.now.posts node actor k }
-    requires placed { IsPlaced book.now.config actor core.old }
-    ensures ok { IfOk result (λ due. Listens book.now.config node actor book.now.posts k due core.old core.new) }
-    ensures err { IfErr result (λ fault. fault ≡ BookFault.Memory) }
-{
-    let config = book.config();
-    let n = config.n();
-    let post = &book.history()[k as usize];
-    if !hears(&config, post, node, actor) {
-        return Ok(Due::new(alloc));
-    }
-    let from = sender_of(n, actor, post);
-    match hear(core, alloc, from, &post.vote) {
-        Ok(due) => Ok(due),
-        Err(_) => Err(BookFault::Memory),
-    }
-}
-
-// Who an actor hears a post from: a lane a node, a desk a lane.
-fn sender_of(n: u8, actor: u8, post: &Post) -> u8
-    ensures { result ≡ (if actor == n then post.now.actor else post.now.from) }
-{
-    if actor == n { post.actor } else { post.from }
-}
-
-// Hears a vote, and gives the votes that it makes due.
-fn hear(core: &mut Core, alloc: Global, from: u8, vote: &Vote) -> Result<Due, AllocError>
-    requires { KnowsNode from core.old }
-    ensures { IfOk result (λ due. HearsIn (record { from = from; vote = vote.now }) due core.old core.new) }
-{
-    let mut due = Due::new(alloc);
-    match core {
-        Core::Lane(rbc) => {
-            rbc.hear(alloc, from, vote, &mut due)?;
-            Ok(due)
+impl Core {
+    // Hears a vote, if there is one, and gives the votes that it makes due.
+    fn hear(&mut self, alloc: Global, heard: Option<Heard>) -> Result<Due, AllocError>
+        requires { MayHear heard self.old }
+        ensures { IfOk result (λ due. HearsIn heard due.votes self.old self.new) }
+    {
+        let mut due = Due::new(alloc);
+        if let Some(heard) = heard {
+            if let Core::Lane(rbc) = self {
+                rbc.hear(alloc, heard.from, &heard.vote, &mut due)?;
+            }
         }
-        Core::Desk => Ok(due),
+        Ok(due)
     }
-}
-
-// Adds the number of a post that was received.
-fn note(got: &mut Vec<u32>, k: u32) -> Result<(), BookFault>
-    ensures ok { OnOk result (got.new.items ≡ got.old.items ++ k ∷ []) }
-    ensures err { IfErr result (λ fault. (fault ≡ BookFault.Memory) × (got.new.items ≡ got.old.items)) }
-{
-    got.push(k).map_err(|_| BookFault::Memory)
 }
 
 // Posts the proposal of a value for epoch 0.
-fn propose(
-    alloc: Global,
-    book: &mut PlainBook,
-    seat: &mut PlainSeat,
-    value: &Bytes,
-) -> Result<(), BookFault>
+fn propose(book: &mut PlainBook, seat: &mut PlainSeat, value: &Bytes) -> Result<(), BookFault>
     requires seat { IsSeatOf book.old seat.old }
     requires desk { (seat.old.node ≡ 0) × (seat.old.actor ≡ book.old.config.n) }
-    requires fresh { own_in 0 book.old.config.n book.old.posts ≡ [] }
+    requires sound { AreSound book.old.config }
+    requires honest { is_in book.old.config.liars 0 ≡ false }
+    requires fresh { book.old.posts ≡ [] }
+    requires short { length value.now ≤ longest_value }
+    requires bytes { AreBytes value.now }
     ensures seat { IsSeatOf book.new seat.new }
     ensures same { (seat.new.node ≡ seat.old.node) × (seat.new.actor ≡ seat.old.actor) }
     ensures moved { Moved 0 book.old.config.n book.old book.new }
-    ensures once { NoVoteTwice book.old.posts → NoVoteTwice book.new.posts }
-    ensures ok { OnOk result (own_in 0 book.old.config.n book.new.posts ≡ Propose 0 value.now ∷ []) }
-    ensures err { OnErr result (own_in 0 book.old.config.n book.new.posts ≡ []) }
+    ensures once { NoVoteTwice book.old.config book.old.posts → NoVoteTwice book.old.config book.new.posts }
+    ensures ok { OnOk result (own_in book.old.config 0 book.old.config.n book.new.posts ≡ Propose 0 value.now ∷ []) }
+    ensures err { OnErr result (own_in book.old.config 0 book.old.config.n book.new.posts ≡ []) }
     ensures full { result ≡ Err BookFault.Full → IsFull book.new.posts }
 {
-    let mut votes = Due::new(alloc);
-    let value = value.clone().map_err(|_| BookFault::Memory)?;
-    votes
-        .push(Vote::Propose { epoch: 0, value })
-        .map_err(|_| BookFault::Memory)?;
-    cast(book, seat, votes.votes())
+    let value = value.clone()?;
+    cast(book, seat, &[Vote::Propose { epoch: 0, value }])
 }
 
-fn fate_of(fault: BookFault) -> Fate
-    ensures ended { (result ≡ Running) → ⊥ }
-    ensures full { result ≡ Full → fault ≡ BookFault.Full }
+// How an actor fares whose calls came to this.
+fn fate_after(outcome: Result<(), BookFault>) -> Fate
+    ensures running { result ≡ Running → IsOk outcome }
+    ensures full { result ≡ Full → outcome ≡ Err BookFault.Full }
+    ensures no_journal { result ≢ Journal }
+    ensures works { IsOk outcome → result ≡ Running }
 {
-    match fault {
-        BookFault::Full => Fate::Full,
-        BookFault::Memory => Fate::Memory,
+    match outcome {
+        Ok(()) => Fate::Running,
+        Err(BookFault::Full) => Fate::Full,
+        Err(BookFault::Memory) => Fate::Memory,
     }
 }
 
 // Posts these votes, one after another. A refusal leaves the votes before it posted.
 fn cast(book: &mut PlainBook, seat: &mut PlainSeat, votes: &[Vote]) -> Result<(), BookFault>
     requires seat { IsSeatOf book.old seat.old }
-    requires allowed { MayCastAll book.old.config seat.old.node seat.old.actor book.old.posts votes.now }
+    requires honest { is_in book.old.config.liars seat.old.node ≡ false }
+    requires castable { AreCastableAfter book.old.config seat.old.node seat.old.actor book.old.posts votes.now }
     ensures seat { IsSeatOf book.new seat.new }
     ensures same { (seat.new.node ≡ seat.old.node) × (seat.new.actor ≡ seat.old.actor) }
     ensures moved { Moved seat.old.node seat.old.actor book.old book.new }
-    ensures once { NoVoteTwice book.old.posts → NoVoteTwice book.new.posts }
-    ensures ok { OnOk result (own_in seat.old.node seat.old.actor book.new.posts
-        ≡ own_in seat.old.node seat.old.actor book.old.posts ++ votes.now) }
-    ensures err { OnErr result (HasCastFront (own_in seat.old.node seat.old.actor book.old.posts) votes.now
-        (own_in seat.old.node seat.old.actor book.new.posts)) }
+    ensures once { NoVoteTwice book.old.config book.old.posts → NoVoteTwice book.old.config book.new.posts }
+    ensures ok { OnOk result (own_in book.old.config seat.old.node seat.old.actor book.new.posts
+        ≡ own_in book.old.config seat.old.node seat.old.actor book.old.posts ++ votes.now) }
+    ensures err { OnErr result (HasCastFront (own_in book.old.config seat.old.node seat.old.actor book.old.posts) votes.now
+        (own_in book.old.config seat.old.node seat.old.actor book.new.posts)) }
     ensures full { result ≡ Err BookFault.Full → IsFull book.new.posts }
 {
     book.posts(seat);
     for vote in votes {
         book.post(seat, vote)?;
+        // That the history is legal tells which vote the post spells.
+        let _history = book.history();
     }
     Ok(())
 }

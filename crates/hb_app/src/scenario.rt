@@ -3,6 +3,7 @@ ghost use Rattle.serde_json.specs.Find.{get, as_object};
 ghost use Rattle.serde_json.specs.Read.{read};
 ghost use Rattle.serde_json.specs.View.{view, items_view, members_view};
 ghost use Rattle.hex.specs.Hex.{decode_of};
+ghost use Rattle.hb_base.specs.ByteLists.{AreBytes};
 ghost use Rattle.hb_base.specs.Limits.{most_nodes, most_faulty, most_rounds, most_batch, longest_transaction};
 ghost use Rattle.hb_base.specs.Numbers.{numbers};
 ghost use Rattle.hb_app.specs.Scenario.{Gives, is_key, number_at, number_in, is_object_of, has_only, some_bytes, only_item, transaction_at, submit_of, submit_at, scenario_at, scenario_of};
@@ -12,7 +13,7 @@ use hb_base::limits::{
     LONGEST_SCENARIO, LONGEST_TRANSACTION, MOST_BATCH, MOST_FAULTY, MOST_NODES, MOST_ROUNDS,
 };
 use hb_base::{Bytes, Config, NodeSet};
-use value_rules::Submit;
+use net_script::Submit;
 use serde_json::{Map, Value};
 use std::alloc::{AllocError, Global};
 
@@ -138,7 +139,7 @@ fn config_of(n: u8, f: u8, epochs: u8) -> Option<Config>
 
 fn submit_at(alloc: Global, value: &Value) -> Result<Submit, ScenarioFault>
     ensures gives { Gives result (submit_at (view value.now)) }
-    ensures plain { IfOk result (λ submit. (submit.node ≡ 0) × (length submit.tx ≤ longest_transaction)) }
+    ensures plain { IfOk result (λ submit. (submit.node ≡ 0) × (length submit.tx ≤ longest_transaction) × AreBytes submit.tx) }
 {
     let list = value.get("submit").and_then(Value::as_array);
     match list.and_then(only_item) {
@@ -161,7 +162,7 @@ fn only_item(list: &Vec<Value>) -> Option<&Value>
 #[tactic(auto, unfolding(crate::specs::Scenario::submit_of))]
 fn submit_of(alloc: Global, value: &Value) -> Result<Submit, ScenarioFault>
     ensures gives { Gives result (submit_of (view value.now)) }
-    ensures plain { IfOk result (λ submit. (submit.node ≡ 0) × (length submit.tx ≤ longest_transaction)) }
+    ensures plain { IfOk result (λ submit. (submit.node ≡ 0) × (length submit.tx ≤ longest_transaction) × AreBytes submit.tx) }
 {
     if !is_object_of(value, &["node", "tx"]) {
         return Err(ScenarioFault::NotBuilt);
@@ -173,7 +174,7 @@ fn submit_of(alloc: Global, value: &Value) -> Result<Submit, ScenarioFault>
 
 fn transaction_at(alloc: Global, value: &Value) -> Result<Bytes, ScenarioFault>
     ensures gives { Gives result (transaction_at (view value.now)) }
-    ensures short { IfOk result (λ bytes. length bytes ≤ longest_transaction) }
+    ensures short { IfOk result (λ bytes. (length bytes ≤ longest_transaction) × AreBytes bytes) }
 {
     let Some(text) = value.get("tx").and_then(Value::as_str) else {
         return Err(ScenarioFault::NotBuilt);
@@ -184,13 +185,20 @@ fn transaction_at(alloc: Global, value: &Value) -> Result<Bytes, ScenarioFault>
 // The bytes of a hex text, 1 to 256 of them.
 fn decode(alloc: Global, text: &str) -> Result<Bytes, ScenarioFault>
     ensures gives { Gives result (some_bytes (decode_of text.now)) }
-    ensures short { IfOk result (λ bytes. length bytes ≤ longest_transaction) }
+    ensures short { IfOk result (λ bytes. (length bytes ≤ longest_transaction) × AreBytes bytes) }
 {
     match hex::decode(alloc, text) {
         Ok(bytes) if 1 <= bytes.len() && bytes.len() <= LONGEST_TRANSACTION => {
-            Ok(Bytes::from_vec(bytes)?)
+            Ok(bytes_of(bytes)?)
         }
         Err(hex::FromHexError::OutOfMemory) => Err(ScenarioFault::Memory),
         _ => Err(ScenarioFault::NotBuilt),
     }
+}
+
+#[tactic(auto, using(crate::proofs::Scenarios::known_bytes))]
+fn bytes_of(bytes: Vec<u8>) -> Result<Bytes, AllocError>
+    ensures { IfOk result (λ b. (b ≡ bytes.items) × AreBytes b) }
+{
+    Bytes::from_vec(bytes)
 }

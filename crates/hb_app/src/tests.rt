@@ -1,10 +1,11 @@
 //! What no clause says: that calls find memory, and that the definitions say what was meant.
+use crate::ends::no_disk;
 use crate::input::{Input, read_input};
 use crate::scenario::{ScenarioFault, read_scenario};
 use crate::text::print_run;
 use hb_base::limits::LONGEST_SCENARIO;
 use hb_base::{Bytes, Config, MemorySink, MemorySource, NodeSet};
-use value_rules::{End, Fate, Report};
+use hb_rules::{End, Fate, Report};
 use std::alloc::{AllocError, Global};
 use std::test::Fail;
 
@@ -61,8 +62,10 @@ fn inputs_in_pieces(rt: HostRuntime) -> Result<(), Fail> {
 fn nodes_that_ended(rt: HostRuntime) -> Result<(), Fail> {
     let alloc = rt.alloc();
     let mut ends = Vec::new(alloc);
+    let note = no_disk(alloc);
     for (node, actor, fate) in [
         (0, 0, Fate::Memory),
+        (0, 1, Fate::Journal),
         (0, 2, Fate::Full),
         (1, 0, Fate::Running),
     ] {
@@ -72,6 +75,7 @@ fn nodes_that_ended(rt: HostRuntime) -> Result<(), Fail> {
             actor,
             fate,
             got,
+            note,
         })?;
     }
     let mut report = Report::empty(alloc);
@@ -81,7 +85,7 @@ fn nodes_that_ended(rt: HostRuntime) -> Result<(), Fail> {
     let mut sink = MemorySink::new(alloc, vec![in alloc]?);
     print_run(&report, &mut sink)?;
     let text =
-        b"run nodes 2 faulty 0 version 1 epochs 1\nnode 0 ended\nactor 0 memory\nactor 2 full\nnode 1 running\nend 9\n";
+        b"run nodes 2 faulty 0 version 1 epochs 1\nnode 0 ended\nactor 0 memory\nactor 1 journal\nactor 2 full\nnode 1 running\nend 9\n";
     assert_eq!(rt; sink.held(), text.as_slice());
     Ok(())
 }

@@ -1,11 +1,13 @@
 ghost use Rattle.std.specs.Prelude.{◌≡◌, ◌≤◌, length, IfSome, option_map};
 ghost use Rattle.std.specs.List.{flat_map};
 ghost use Rattle.hb_base.specs.Limits.{longest_transaction};
-ghost use Rattle.hb_app.specs.Text.{Prints, AreShort, run_line, running_line, ended_line, memory_end_line, full_end_line, delivered_line, status_line, fate_text, end_text, state_text, delivered_by, delivered_at, value_text, node_text, nodes_text, run_text};
+ghost use Rattle.hb_app.specs.Text.{Prints, AreShort, run_line, running_line, ended_line, memory_end_line, journal_end_line, full_end_line, delivered_line, status_line, fate_text, end_text, state_text, delivered_by, delivered_at, value_text, node_text, nodes_text, run_text};
 
+use crate::ends::runs;
 use crate::line::Line;
 use hb_base::{Config, Failed, Sink};
-use value_rules::{End, Fate, Post, Report, Vote, runs};
+use hb_rules::{End, Fate, Report};
+use hb_wire::{Post, VoteView, view};
 
 /// What `hb_ledger` says of words that it doesn't know.
 pub const USAGE: &[u8; 55] = b"usage: hb_ledger run|soak N|trace|audit|observe|accuse\n";
@@ -25,7 +27,7 @@ pub const NO_MEMORY: &[u8; 10] = b"no memory\n";
 /// Prints the text of a run, each line by one put. It takes no memory.
 #[tactic(auto, using(crate::proofs::Prints::prints_then, crate::proofs::Prints::prints_front), unfolding(crate::specs::Text::run_text))]
 pub fn print_run<O: Sink>(report: &Report, out: &mut O) -> Result<(), Failed>
-    requires { AreShort report.now.history.items }
+    requires { AreShort report.now.config report.now.history.items }
     ensures { Prints (O.held out.old) (O.held out.new) (O.faults out.old) (O.faults out.new) result (run_text report.now) }
 {
     put_run(&report.config, out)?;
@@ -35,7 +37,7 @@ pub fn print_run<O: Sink>(report: &Report, out: &mut O) -> Result<(), Failed>
 
 #[tactic(auto, using(crate::proofs::Prints::prints_nothing, crate::proofs::Prints::prints_step, crate::proofs::Prints::prints_stop, crate::proofs::Prints::range_at, crate::proofs::Prints::take_range))]
 fn put_nodes<O: Sink>(report: &Report, out: &mut O) -> Result<(), Failed>
-    requires { AreShort report.now.history.items }
+    requires { AreShort report.now.config report.now.history.items }
     ensures { Prints (O.held out.old) (O.held out.new) (O.faults out.old) (O.faults out.new) result (nodes_text report.now report.now.config.n) }
 {
     for node in 0..report.config.n() {
@@ -46,34 +48,34 @@ fn put_nodes<O: Sink>(report: &Report, out: &mut O) -> Result<(), Failed>
 
 #[tactic(auto, using(crate::proofs::Prints::prints_then, crate::proofs::Prints::prints_front, crate::proofs::Deliveries::short_delivered), unfolding(crate::specs::Text::node_text))]
 fn put_node<O: Sink>(report: &Report, node: u8, out: &mut O) -> Result<(), Failed>
-    requires { AreShort report.now.history.items }
+    requires { AreShort report.now.config report.now.history.items }
     ensures { Prints (O.held out.old) (O.held out.new) (O.faults out.old) (O.faults out.new) result (node_text report.now node) }
 {
     put_state(report.ends.as_slice(), node, out)?;
-    put_value(delivered_at(&report.history, node), out)
+    put_value(delivered_at(&report.config, &report.history, node), out)
 }
 
 // The value that lane 0 of a node handed to its desk in epoch 0.
 #[tactic(auto, using(crate::proofs::Deliveries::delivered_at_drop))]
-fn delivered_at(history: &Vec<Post>, node: u8) -> Option<&[u8]>
-    ensures { option_map (λ value. value.now) result ≡ delivered_at node history.now.items }
+fn delivered_at<'a>(config: &Config, history: &'a Vec<Post>, node: u8) -> Option<&'a [u8]>
+    ensures { option_map (λ value. value.now) result ≡ delivered_at config.now node history.now.items }
 {
     for post in history {
-        if let Some(value) = delivered_by(post, node) {
+        if let Some(value) = delivered_by(config, post, node) {
             return Some(value);
         }
     }
     None
 }
 
-fn delivered_by(post: &Post, node: u8) -> Option<&[u8]>
-    ensures { option_map (λ value. value.now) result ≡ delivered_by node post.now }
+fn delivered_by<'a>(config: &Config, post: &'a Post, node: u8) -> Option<&'a [u8]>
+    ensures { option_map (λ value. value.now) result ≡ delivered_by config.now node post.now }
 {
     if post.from != node || post.actor != 0 {
         return None;
     }
-    match &post.vote {
-        Vote::Delivered { epoch: 0, value } => Some(value.as_slice()),
+    match view(config.n(), config.version(), post.bytes.as_slice()) {
+        Some(VoteView::Delivered { epoch: 0, value }) => Some(value),
         _ => None,
     }
 }
@@ -127,6 +129,7 @@ fn put_fate<O: Sink>(actor: u8, fate: Fate, out: &mut O) -> Result<(), Failed>
     match fate {
         Fate::Running => Ok(()),
         Fate::Memory => put_memory_end(actor, out),
+        Fate::Journal => put_journal_end(actor, out),
         Fate::Full => put_full_end(actor, out),
     }
 }
@@ -178,6 +181,17 @@ fn put_memory_end<O: Sink>(actor: u8, out: &mut O) -> Result<(), Failed>
     line.text("actor ");
     line.number(actor);
     line.text(" memory\n");
+    out.put(line.as_slice())
+}
+
+#[tactic(auto, unfolding(crate::specs::Text::journal_end_line))]
+fn put_journal_end<O: Sink>(actor: u8, out: &mut O) -> Result<(), Failed>
+    ensures { Prints (O.held out.old) (O.held out.new) (O.faults out.old) (O.faults out.new) result (journal_end_line actor) }
+{
+    let mut line = Line::new();
+    line.text("actor ");
+    line.number(actor);
+    line.text(" journal\n");
     out.put(line.as_slice())
 }
 

@@ -11,7 +11,7 @@ use crate::input::{Input, read_input};
 use crate::scenario::{Scenario, ScenarioFault, read_scenario};
 use crate::text::{NO_MEMORY, READ_FAILED, REFUSED, USAGE, WRITE_FAILED, print_run};
 use hb_base::{Sink, Source};
-use value_rules::Report;
+use hb_rules::Report;
 use std::alloc::Global;
 
 // What the input came to.

@@ -1,7 +1,8 @@
 //! Whole calls of the program over memory: what no clause says is that they find memory and that all correct nodes deliver.
 use crate::top::hb_main;
 use hb_base::{Bytes, MemorySink, MemorySource};
-use value_rules::{Post, Report, Vote};
+use hb_rules::Report;
+use hb_wire::Post;
 use std::alloc::{AllocError, Global};
 use std::test::Fail;
 
@@ -87,11 +88,9 @@ fn answers_and_what_they_leave(rt: HostRuntime) -> Result<(), Fail> {
     Ok(())
 }
 
+// Whether a post is the delivery of the two bytes in epoch 0: kind 4, epoch 0, their length in four bytes, and they.
 fn delivers_hi(post: &Post) -> bool {
-    match &post.vote {
-        Vote::Delivered { epoch: 0, value } => value.as_slice() == b"hi".as_slice(),
-        _ => false,
-    }
+    post.bytes.as_slice() == b"\x04\x00\x00\x00\x00\x02hi".as_slice()
 }
 
 #[test]

@@ -6,7 +6,7 @@ mod streams;
 
 use hb_app::{NO_MEMORY, hb_main};
 use hb_base::Sink;
-use value_rules::Report;
+use hb_rules::Report;
 use std::alloc::{AllocError, Global};
 use std::env;
 use std::io::ErrorKind;

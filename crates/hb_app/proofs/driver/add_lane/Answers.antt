@@ -8,6 +8,9 @@ pub returns-then-has-clause-gathering : goal.returns-then-has-clause-gathering
 returns-then-has-clause-gathering c = IsGathering-liar c.args.book.now.config c.args.book.now.posts c.args.team.now.items c.args.node
     (cc (c.requires.liars, c.has.ensures, c.if-has.true)) c.requires.gathering
 
+pub lane-requires-clause-fresh : goal.lane-requires-clause-fresh
+lane-requires-clause-fresh c = c.requires.gathering.fresh c.args.node (cc (c.requires.liars, c.has.ensures, c.if-has.false))
+
 pub returns-clause-gathering : goal.returns-clause-gathering
 returns-clause-gathering c =
     subst (λ (items : List Member). IsGathering c.args.book.now.config c.args.book.now.posts items (c.args.node + 1)) (sym c.in_ok-push.ensures.items)

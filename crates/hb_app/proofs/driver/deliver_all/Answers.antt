@@ -1,7 +1,7 @@
 use Rattle.std.specs.Prelude.{◌≡◌, ℕ, List, length}
 use Rattle.std.proofs.Common.{ap, subst, ◌∙◌}
 use native.Mathlib.Omega.{arith}
-use Rattle.value_rules.specs.declared.post.Post.{Post}
+use Rattle.hb_wire.specs.declared.post.Post.{Post}
 use Rattle.hb_app.specs.Team.{IsRun}
 use Rattle.hb_app.proofs.driver.deliver_all.Goals as goal
 

@@ -4,4 +4,4 @@ use Rattle.hb_app.proofs.text.delivered_at.Given as goal
 
 -- the posts that are left decide as all do
 abbrev pub invariant-loop-post : goal.invariant-loop-post
-invariant-loop-post l = delivered_at l.node (drop l.post-index l.history.items) ≡ delivered_at l.node l.history.items
+invariant-loop-post l = delivered_at l.config l.node (drop l.post-index l.history.items) ≡ delivered_at l.config l.node l.history.items

@@ -1,16 +1,50 @@
-use Rattle.std.proofs.Common.{refl, sym, ap, ◌∙◌, Err}
-use Rattle.value_rules.specs.declared.book.BookFault.{BookFault}
-use Rattle.hb_app.proofs.Taking.{IsMember-after}
+use Rattle.std.proofs.Common.{◌≡◌, ◌∙◌, ◌++◌, ◌∷◌, [], ℕ, ap, refl, rules, sym}
+use Rattle.hb_base.specs.Numbers.{Numbers}
+use Rattle.hb_wire.specs.declared.post.Post.{Post}
+use Rattle.hb_wire.specs.Addresses.{reaches}
+use Rattle.hb_rules.specs.declared.report.Fate.TheVariants.{Running}
+use Rattle.hb_app.specs.Member.{Acts, IsMember}
+use Rattle.hb_app.proofs.Receiving.{IsMember-taken, on_ok}
+use Rattle.hb_app.proofs.Runs.{stands_read, Receives-nothing, Receives-one, HasReceived-apart}
 use Rattle.hb_app.proofs.member.Member.receive.Goals as goal
 
-pub returns-in-Err-clause-member : goal.returns-in-Err-clause-member
-returns-in-Err-clause-member c =
-    IsMember-after c.args.k c.args.book.now c.take_in.new.book c.args.self.now c.take_in.new.self _ c.in-Err.ensures.taken c.requires.member c.requires.received refl refl refl refl
-    (λ running. absurd (c.fate_of-self.ensures.ended running))
-    (λ full. c.take_in.ensures.full (c.in-Err.is ∙ ap (λ (fault : BookFault). Err fault) (c.fate_of-self.ensures.full full)))
+pub returns-then-not-reaches : goal.returns-then-not-reaches
+returns-then-not-reaches c =
+    let m = c.args.self.now in
+    let book = c.args.book.now in
+    let post : Post = c.index-history-k.result in
+    let n : c.n-n.result ≡ book.config.n = c.n-n.ensures.value ∙ ap (λ (config : Numbers). config.n) c.config.ensures in
+    Receives-nothing c.args.k book m c.requires.member
+    (HasReceived-apart book.config book.posts c.args.k m post (stands_read book.posts c.history.result.now c.args.k post c.history.ensures.posts c.requires.stands c.index-history-k.is)
+    (ap (λ (n : ℕ). reaches n post m.node m.actor) (sym n) ∙ sym c.reaches.ensures ∙ c.if-not-reaches.true))
 
-pub returns-in_default-clause-member : goal.returns-in_default-clause-member
-returns-in_default-clause-member c =
-    IsMember-after c.args.k c.args.book.now c.take_in.new.book c.args.self.now c.take_in.new.self c.take_in.new.self c.in_default.ensures.taken c.requires.member c.requires.received refl refl refl refl
-    (λ _. c.in_default.ensures.ready)
-    (λ full. absurd (cc (sym full ∙ c.in_default.ensures.taken.fate ∙ c.requires.working)))
+pub take-taken-requires-clause-reached : goal.take-taken-requires-clause-reached
+take-taken-requires-clause-reached c =
+    let m = c.args.self.now in
+    let book = c.args.book.now in
+    let post : Post = c.index-history-k.result in
+    let n : c.n-n.result ≡ book.config.n = c.n-n.ensures.value ∙ ap (λ (config : Numbers). config.n) c.config.ensures in
+    record {
+      post = post;
+      stands = stands_read book.posts c.history.result.now c.args.k post c.history.ensures.posts c.requires.stands c.index-history-k.is;
+      reaches = ap (λ (n : ℕ). reaches n post m.node m.actor) (sym n) ∙ sym c.reaches.ensures ∙ c.if-not-reaches.false;
+    }
+
+pub returns : goal.returns
+returns c =
+    let m = c.args.self.now in
+    let mid = c.take-taken.new.self in
+    let book' = c.take-taken.new.book in
+    let e = c.take-taken.ensures in
+    let f = c.fate_after-self.ensures in
+    let working : m.fate ≡ Running = search rules in
+    let acts : Acts c.args.book.now book' m (record mid { fate = c.fate_after-self.result }) = record {
+      node = e.acts.node;
+      actor = e.acts.actor;
+      moved = e.acts.moved;
+      once = e.acts.once;
+      desk = e.acts.desk;
+    } in
+    Receives-one c.args.k c.args.book.now book' m (record mid { fate = c.fate_after-self.result }) working acts
+    (IsMember-taken book'.config book'.posts mid (record mid { fate = c.fate_after-self.result }) c.take-taken.result e.seated refl refl refl refl refl e.ready e.full f.running f.full f.no_journal)
+    (λ running. on_ok c.take-taken.result (mid.got.items ≡ m.got.items ++ c.args.k ∷ []) (f.running running) e.got)
