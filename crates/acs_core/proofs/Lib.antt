@@ -1,0 +1,4 @@
+pub mod Firsts
+pub mod Noting
+pub mod Standing
+pub mod Accepting
