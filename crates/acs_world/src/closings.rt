@@ -1,0 +1,46 @@
+//! With which lists desks of correct nodes close epochs.
+
+ghost use Rattle.std.specs.Prelude.{◌≡◌, ℕ, List, length, Some, None, IfSome, IfNone};
+ghost use Rattle.hb_wire.specs.declared.items.Item.{Item};
+ghost use Rattle.hb_wire.specs.Glances.{IsClosedRest};
+ghost use Rattle.acs_world.specs.Closed.{Closure, closing_by, IsShown};
+
+use hb_base::Config;
+use hb_rules::is_correct;
+use hb_wire::{Post, glance};
+
+// The first byte of a closed vote.
+const CLOSED: u8 = 0x12;
+
+/// An epoch that was closed, and what its vote has behind kind and epoch: the list.
+#[derive(Clone, Copy, Debug)]
+pub(crate) struct Closing<'a> {
+    pub(crate) epoch: u8,
+    pub(crate) rest: &'a [u8],
+}
+
+/// What a post closes, if it is of a correct node's desk and its vote closes an epoch.
+pub(crate) fn closing_of<'a>(config: &Config, post: &'a Post) -> Option<Closing<'a>>
+    ensures none { IfNone result (closing_by config.now post.now ≡ None) }
+    ensures some { IfSome result (λ g. (closure : Closure) × (closing_by config.now post.now ≡ Some closure) × IsShown closure g.epoch g.rest.now) }
+{
+    if !is_correct(config, post.from) || post.actor != config.n() {
+        return None;
+    }
+    let glance = glance(config.n(), config.version(), post.bytes.as_slice())?;
+    if glance.kind != CLOSED {
+        return None;
+    }
+    Some(Closing {
+        epoch: glance.epoch,
+        rest: glance.rest,
+    })
+}
+
+/// How many items a closed list has.
+pub(crate) fn count_of(rest: &[u8]) -> u8
+    requires { (items : List Item) × IsClosedRest rest.now items }
+    ensures { (items : List Item) → IsClosedRest rest.now items → result ≡ length items }
+{
+    rest[0]
+}
