@@ -48,14 +48,14 @@ firsts_keep : (votes before : List Vote) (v : Vote) → Contains before v → Co
 firsts_keep [] before v stands = stands
 firsts_keep (w ∷ votes) before v stands = firsts_keep votes (with_vote before w) v (with_keeps before w v stands)
 
-firsts_have : (votes before : List Vote) (v : Vote) → Contains votes v → Contains (fold with_vote before votes) v
+pub firsts_have : (votes before : List Vote) (v : Vote) → Contains votes v → Contains (fold with_vote before votes) v
 firsts_have [] before v stands = absurd (omega (arith, stands.1))
 firsts_have (w ∷ votes) before v stands =
     Contains-cases w votes v stands (Contains (fold with_vote before (w ∷ votes)) v)
     (λ is. firsts_keep votes (with_vote before w) v (subst (λ (x : Vote). Contains (with_vote before w) x) is (with_has before w)))
     (λ later. firsts_have votes (with_vote before w) v later)
 
-firsts_from : (votes before : List Vote) (v : Vote) → Contains (fold with_vote before votes) v → Contains before v ⊎ Contains votes v
+pub firsts_from : (votes before : List Vote) (v : Vote) → Contains (fold with_vote before votes) v → Contains before v ⊎ Contains votes v
 firsts_from [] before v stands = inl stands
 firsts_from (w ∷ votes) before v stands = elim (firsts_from votes (with_vote before w) v stands) [
   | inl front ↦ elim (with_from before w v front) [

@@ -5,3 +5,5 @@ pub mod Theorems
 pub mod Reading
 pub mod Exact
 pub mod Items
+pub mod Counting
+pub mod Running

@@ -1,3 +1,4 @@
 pub mod Agreed
 pub mod Backing
 pub mod Closed
+pub mod Common

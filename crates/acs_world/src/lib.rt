@@ -3,11 +3,13 @@
 
 mod batches;
 mod closings;
+mod common;
 pub mod laws;
 mod proposed;
 #[cfg(test)]
 mod tests;
 
 pub use batches::batches_ok;
+pub use common::common_epochs;
 pub use laws::ledger_laws;
 pub use proposed::unaltered;

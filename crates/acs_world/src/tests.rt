@@ -2,8 +2,9 @@
 //! lies; actor 4 of a node is its desk, and a list has to have three items.
 
 use super::*;
+use disk_model::{MemoryDisk, Plan, Power};
 use hb_base::{Bytes, Config, NodeSet};
-use hb_rules::Report;
+use hb_rules::{End, Fate, Report};
 use hb_wire::{Post, To};
 use std::alloc::{AllocError, Global};
 use std::test::Fail;
@@ -257,6 +258,103 @@ fn proposals(rt: HostRuntime) -> Result<(), Fail> {
         let (wanted, rows) = proposing(case);
         let report = report_of(rt.alloc(), config, rows)?;
         assert_eq!(rt; unaltered(&report), wanted, "case {case}");
+    }
+    Ok(())
+}
+
+const COMMONS: u8 = 10;
+
+// Up to which number of lists the ledgers of running nodes are the same, how many actors of each node work, and the history.
+fn closing(case: u8) -> (u32, [u8; 4], Rows) {
+    match case {
+        // none runs; all do; one has closed one epoch less; one none
+        0 => (0, [0, 0, 0, 0], ONE_EACH),
+        1 => (1, [5, 5, 5, 0], ONE_EACH),
+        2 => (1, [5, 5, 5, 0], TWO_OR_ONE),
+        3 => (0, [5, 5, 5, 0], ONE_OF_THREE),
+        // that one doesn't run, lacks an end, is the liar
+        4 => (2, [5, 0, 5, 0], TWO_OR_ONE),
+        5 => (2, [5, 4, 5, 0], TWO_OR_ONE),
+        6 => (2, [5, 0, 5, 5], TWO_OR_ONE),
+        // posted again; two lists of one epoch; epochs that were left out
+        7 => (
+            1,
+            [5, 0, 0, 0],
+            &[
+                [0, 4, CLOSED, 0, 7, 8, 9, 0],
+                [0, 4, PROPOSE, 1, 7, 0, 0, 0],
+                [0, 4, CLOSED, 0, 7, 8, 9, 0],
+            ],
+        ),
+        8 => (
+            3,
+            [0, 5, 0, 0],
+            &[
+                [1, 4, CLOSED, 1, 7, 8, 9, 0],
+                [1, 4, CLOSED, 0, 7, 8, 9, 0],
+                [1, 4, CLOSED, 0, 7, 8, 9, 6],
+                [1, 4, CLOSED, 0, 7, 8, 9, 0],
+            ],
+        ),
+        _ => (
+            2,
+            [0, 0, 5, 0],
+            &[
+                [2, 4, CLOSED, 31, 7, 8, 9, 0],
+                [2, 3, CLOSED, 1, 7, 8, 9, 0],
+                [2, 4, CLOSED, 2, 7, 8, 9, 0],
+                [1, 4, CLOSED, 3, 7, 8, 9, 0],
+            ],
+        ),
+    }
+}
+
+const ONE_EACH: Rows = &[
+    [0, 4, CLOSED, 0, 7, 8, 9, 0],
+    [1, 4, CLOSED, 0, 7, 8, 9, 0],
+    [2, 4, CLOSED, 0, 7, 8, 9, 0],
+];
+
+const TWO_OR_ONE: Rows = &[
+    [0, 4, CLOSED, 0, 7, 8, 9, 0],
+    [1, 4, CLOSED, 0, 7, 8, 9, 0],
+    [2, 4, CLOSED, 0, 7, 8, 9, 0],
+    [0, 4, CLOSED, 1, 7, 8, 9, 0],
+    [2, 4, CLOSED, 1, 7, 8, 9, 0],
+];
+
+const ONE_OF_THREE: Rows = &[[0, 4, CLOSED, 0, 7, 8, 9, 0]];
+
+// Ends of so many actors of each node, all of them at work, with a disk that was never called.
+fn ends_of(alloc: Global, at_work: [u8; 4]) -> Result<Vec<End>, AllocError> {
+    let plan = Plan {
+        stops: Vec::new(alloc),
+        faults: Vec::new(alloc),
+    };
+    let note = MemoryDisk::new(alloc, plan).note();
+    let mut ends = Vec::new(alloc);
+    for node in 0..4u8 {
+        for actor in 0..at_work[node as usize] {
+            ends.push(End {
+                node,
+                actor,
+                fate: Fate::Running,
+                got: Vec::new(alloc),
+                note,
+            })?;
+        }
+    }
+    Ok(ends)
+}
+
+#[test]
+fn commons(rt: HostRuntime) -> Result<(), Fail> {
+    let config = numbers(2)?;
+    for case in 0..COMMONS {
+        let (wanted, at_work, rows) = closing(case);
+        let mut report = report_of(rt.alloc(), config, rows)?;
+        report.ends = ends_of(rt.alloc(), at_work)?;
+        assert_eq!(rt; common_epochs(&report), wanted, "case {case}");
     }
     Ok(())
 }
