@@ -1,0 +1,49 @@
+-- A hearing, and what it makes due.
+use Rattle.std.proofs.Common.{◌≡◌, ℕ, List, [], ◌∷◌, ◌++◌, None, Some, sym, ap, ◌∙◌, subst, append-nil, arith}
+use Rattle.hb_base.specs.Numbers.{Numbers}
+use Rattle.hb_wire.specs.declared.vote.Vote.{Vote}
+use Rattle.hb_rules.specs.Hearing.{Hearing}
+use Rattle.hb_rules.specs.Room.{DueView}
+use Rattle.hb_rules.specs.Slots.{IsIdle, IsOwed}
+use Rattle.hb_rules.proofs.Passing.{IsOwed-nil}
+use Rattle.aba_core.specs.State.{Place, AbaView, place_of, IsAba}
+use Rattle.aba_core.specs.Standing.{slots_at, Stands, Hears}
+use Rattle.aba_core.specs.Rows.{IsCalm}
+use Rattle.aba_core.specs.Passing.{Notes, Settled}
+use Rattle.aba_core.proofs.Names.{idle_calm, calm_idle}
+
+-- nothing becomes due
+pub Hears-quiet : (old new : AbaView) (h : Hearing) (before after : List Vote) → IsAba old → Notes old new h None → after ≡ before
+    → Hears old new h before after
+Hears-quiet old new h before after sound notes same = record {
+  place = notes.place;
+  votes = [];
+  due = same ∙ sym (append-nil before);
+  owed = λ own heard stands. IsOwed-nil (slots_at (place_of old)) own (heard ++ h ∷ []) (subst (λ (p : Place). IsIdle (slots_at p) own (heard ++ h ∷ [])) notes.place (idle own heard stands));
+  stands = λ own heard stands.
+      subst (λ (votes : List Vote). Stands new votes (heard ++ h ∷ [])) (sym (append-nil own))
+      (record { idle = idle own heard stands; shows = notes.shows own heard stands.shows });
+}
+  where
+    config : new.config ≡ old.config
+    config = ap (λ (p : Place). p.config) notes.place
+
+    idle : (own : List Vote) (heard : List Hearing) → Stands old own heard → IsIdle (slots_at (place_of new)) own (heard ++ h ∷ [])
+    idle own heard stands =
+        calm_idle new own (heard ++ h ∷ []) (notes.shows own heard stands.shows)
+        (omega (arith, sound.sound.rounds.0, ap (λ (c : Numbers). c.rounds) config))
+        (subst (IsCalm new) (ap (λ (c : Numbers). c.rounds) (sym config)) (notes.calm (idle_calm old own heard stands.shows stands.idle old.config.rounds)))
+
+-- all that is owed becomes due
+pub Hears-settled : (old mid new : AbaView) (h : Hearing) (r : ℕ) (before after : DueView) (votes : List Vote) → Notes old mid h (Some r) → Settled r mid new before after
+    → before.votes ≡ votes → Hears old new h votes after.votes
+Hears-settled old mid new h r before after votes notes settled same = record {
+  place = settled.place ∙ notes.place;
+  votes = settled.votes;
+  due = settled.due ∙ ap (λ (vs : List Vote). vs ++ settled.votes) same;
+  owed = λ own heard stands.
+      subst (λ (p : Place). IsOwed (slots_at p) own (heard ++ h ∷ []) settled.votes) notes.place
+      (settled.owed (notes.calm (idle_calm old own heard stands.shows stands.idle r)) own (heard ++ h ∷ []) (notes.shows own heard stands.shows));
+  stands = λ own heard stands.
+      settled.stands (notes.calm (idle_calm old own heard stands.shows stands.idle r)) own (heard ++ h ∷ []) (notes.shows own heard stands.shows);
+}

@@ -1,0 +1,16 @@
+pub mod Counts
+pub mod Alike
+pub mod Resting
+pub mod Names
+pub mod Rooms
+pub mod Casting
+pub mod Passes
+pub mod Replacing
+pub mod Marking
+pub mod Hearing
+pub mod Notes
+pub mod Inputs
+pub mod Hears
+pub mod Building
+pub mod Ranges
+pub mod Noted

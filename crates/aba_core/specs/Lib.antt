@@ -1,0 +1,11 @@
+pub mod Bits
+pub mod Marks
+pub mod Tables
+pub mod Levels
+pub mod Rounds
+pub mod State
+pub mod Standing
+pub mod Rows
+pub mod Passing
+pub mod Noting
+pub mod Inputs

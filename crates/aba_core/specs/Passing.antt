@@ -1,0 +1,58 @@
+-- What calls do to the state of an agreement.
+use Rattle.std.specs.Prelude.{◌≡◌, ℕ, ◌+◌, ◌<◌, ◌≤◌, ◌||◌, List, [], ◌∷◌, ◌++◌, length, Option, unwrap_or, IfSome}
+use Rattle.hb_wire.specs.declared.vote.Vote.{Vote}
+use Rattle.hb_rules.specs.declared.agreement_slot.AgreementSlot.{AgreementSlot}
+use Rattle.hb_rules.specs.Hearing.{Hearing}
+use Rattle.hb_rules.specs.Marks.{Mark, bears}
+use Rattle.hb_rules.specs.Room.{DueView}
+use Rattle.hb_rules.specs.Slots.{pass, passes, IsOwed}
+use Rattle.aba_core.specs.State.{AbaView, place_of, round_in, mark_round, mark_at}
+use Rattle.aba_core.specs.Standing.{slots_at, Shows, Stands}
+use Rattle.aba_core.specs.Rows.{names_of, slots_for, IsCalm, room_of}
+
+-- a vote is marked, and nothing else changes
+pub record Casts (old new : AbaView) (vote : Vote) : Type 0 where
+  pub place : place_of new ≡ place_of old
+  pub marks : (mark : Mark) → mark_round mark < old.config.rounds → mark_at new mark ≡ (bears old.epoch mark vote || mark_at old mark)
+  pub rounds : (r : ℕ) → round_in new r ≡ record (round_in old r) { marks = (round_in new r).marks }
+  pub no_more : new.no_more ≡ old.no_more
+
+-- The state takes in a hearing, and casts nothing. Where the slots before a round rested, or all where none is given, they
+-- still do.
+pub record Notes (old new : AbaView) (h : Hearing) (round : Option ℕ) : Type 0 where
+  pub place : place_of new ≡ place_of old
+  pub known : IfSome round (λ r. r < old.config.rounds)
+  pub shows : (own : List Vote) (heard : List Hearing) → Shows old own heard → Shows new own (heard ++ h ∷ [])
+  pub calm : IsCalm old (unwrap_or round old.config.rounds) → IsCalm new (unwrap_or round old.config.rounds)
+
+-- Votes are cast, for which there is room, and fill as many limits.
+pub record Adds (old new : AbaView) (before after : DueView) (votes : List Vote) : Type 0 where
+  pub place : place_of new ≡ place_of old
+  pub due : after.votes ≡ before.votes ++ votes
+  pub spare : after.spare + length votes ≡ before.spare
+  pub room : room_of new + length votes ≤ room_of old
+  pub shows : (own : List Vote) (heard : List Hearing) → Shows old own heard → Shows new (own ++ votes) heard
+
+-- The slots with these names are gone through once, where all before a round rest.
+pub record Passed (from : ℕ) (old new : AbaView) (names : List AgreementSlot) (before after : DueView) : Type 0 where
+  pub votes : List Vote
+  pub adds : Adds old new before after votes
+  pub calm : IsCalm old from → IsCalm new from
+  pub owed : IsCalm old from → (own : List Vote) (heard : List Hearing) → Shows old own heard → pass (slots_for (place_of old) names) own heard ≡ votes
+
+-- all slots are gone through some times
+pub record PassedTimes (from : ℕ) (old new : AbaView) (before after : DueView) : Type 0 where
+  pub count : ℕ
+  pub votes : List Vote
+  pub adds : Adds old new before after votes
+  pub calm : IsCalm old from → IsCalm new from
+  pub owed : IsCalm old from → (own : List Vote) (heard : List Hearing) → Shows old own heard
+      → passes count (slots_for (place_of old) (names_of old.config)) own heard ≡ votes
+
+-- all that is owed is cast
+pub record Settled (from : ℕ) (old new : AbaView) (before after : DueView) : Type 0 where
+  pub votes : List Vote
+  pub place : place_of new ≡ place_of old
+  pub due : after.votes ≡ before.votes ++ votes
+  pub owed : IsCalm old from → (own : List Vote) (heard : List Hearing) → Shows old own heard → IsOwed (slots_at (place_of old)) own heard votes
+  pub stands : IsCalm old from → (own : List Vote) (heard : List Hearing) → Shows old own heard → Stands new (own ++ votes) heard

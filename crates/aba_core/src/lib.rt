@@ -1,0 +1,18 @@
+//! The binary agreement of one lane and one epoch at one node (after Mostéfaoui, Moumen and Raynal, PODC 2014): a state
+//! that hears votes, counts them round by round, and says which votes become due.
+#![tactic(auto)]
+
+mod aba;
+mod bits;
+mod choosing;
+mod levels;
+mod marks;
+mod noting;
+mod passing;
+mod round;
+mod tables;
+#[cfg(test)]
+mod tests;
+mod voters;
+
+pub use aba::Aba;

@@ -1,0 +1,110 @@
+ghost use Rattle.std.specs.Prelude.{◌≡◌, ℕ, ◌<◌, ◌==◌, ◌&&◌, ◌||◌, false, IfOk};
+ghost use Rattle.hb_base.specs.NodeSet.{is_in};
+ghost use Rattle.hb_base.specs.Limits.{most_nodes};
+ghost use Rattle.hb_rules.specs.Marks.{Claim};
+ghost use Rattle.coin_deal.specs.Heard.{heard_share};
+ghost use Rattle.hb_rules.specs.Claims.{is_bit};
+ghost use Rattle.aba_core.specs.Bits.{holds};
+ghost use Rattle.aba_core.specs.Levels.{levels_of};
+ghost use Rattle.aba_core.specs.Tables.{voters_in, count_in, claims};
+ghost use Rattle.aba_core.specs.Rounds.{IsNew, after_share};
+
+use crate::levels::Levels;
+use crate::marks::Marks;
+use crate::tables::Tables;
+use coin_deal::{Deal, DealtShare};
+use coin_share::Shares;
+use hb_base::Config;
+use hb_wire::Vote;
+use merkle_branch::Branch;
+use std::alloc::{AllocError, Global};
+
+// What a node knows of one round: what its lane has cast there, what was heard, and its own share of the coin.
+#[derive(Drop)]
+pub(crate) struct Round {
+    pub(crate) marks: Marks,
+    pub(crate) tables: Tables,
+    pub(crate) levels: Levels,
+
+    // The good shares that were heard, until they made the coin.
+    pub(crate) shares: Shares,
+    pub(crate) coin: Option<bool>,
+    pub(crate) dealt: DealtShare,
+}
+
+impl Round {
+    // A round of the agreement of a lane and an epoch at a node, in which nothing was cast or heard.
+    pub(crate) fn new(
+        alloc: Global,
+        config: &Config,
+        deal: &Deal,
+        node: u8,
+        lane: u8,
+        epoch: u8,
+        round: u8,
+    ) -> Result<Round, AllocError>
+        requires deal { deal.now ≡ config.now }
+        requires node { node < config.now.n }
+        requires lane { lane < config.now.n }
+        requires epoch { epoch < config.now.epochs }
+        requires round { round < config.now.rounds }
+        ensures { IfOk result (λ x. IsNew config.now node lane epoch round x) }
+    {
+        let dealt = deal.share_of(alloc, epoch, lane, round, node)?;
+        let tables = Tables::none();
+        let levels = Levels::of(config, &tables);
+        Ok(Round {
+            marks: Marks::none(),
+            tables,
+            levels,
+            shares: Shares::new(config.n(), config.f(), deal.root_of(epoch, lane, round)),
+            coin: None,
+            dealt,
+        })
+    }
+
+    // Hears a claim of a node: whether a count then is at another level.
+    pub(crate) fn hear(&mut self, config: &Config, from: u8, vote: &Vote) -> bool
+        requires { from < most_nodes }
+        ensures same { result ≡ false → self.new.levels ≡ self.old.levels }
+        ensures claims { (claim : Claim) (node : ℕ) → is_in (voters_in self.new.tables claim) node
+            ≡ ((claims claim vote.now && (node == from)) || is_in (voters_in self.old.tables claim) node) }
+        ensures levels { self.new.levels ≡ levels_of config.now (count_in self.new.tables) 0 }
+        ensures rest { self.new ≡ record self.old { tables = self.new.tables; levels = self.new.levels } }
+    {
+        let before = self.levels;
+        self.tables.hear(from, vote);
+        self.levels = Levels::of(config, &self.tables);
+        !self.levels.are(&before)
+    }
+
+    // Hears a share of a node: whether it makes the coin known. Once the coin is known no share is looked at.
+    pub(crate) fn hear_share(
+        &mut self,
+        from: u8,
+        share: u8,
+        salt: &[u8; 16],
+        branch: &Branch,
+    ) -> bool
+        requires { from < self.old.shares.n }
+        ensures same { result ≡ false → self.new.coin ≡ self.old.coin }
+        ensures exact { self.new ≡ after_share self.old (heard_share from share salt.now branch.now) }
+    {
+        if self.coin.is_some() {
+            return false;
+        }
+        self.shares.offer(from, share, salt, branch);
+        self.coin = self.shares.coin();
+        self.coin.is_some()
+    }
+
+    // Whether the lane picked the bit alone, and the coin is the bit.
+    pub(crate) fn is_settled(&self, bit: bool) -> bool
+        ensures { result ≡ (holds self.now.marks.picks bit && is_bit bit self.now.coin) }
+    {
+        match self.coin {
+            Some(coin) => self.marks.picks.has(bit) && coin == bit,
+            None => false,
+        }
+    }
+}
