@@ -1,0 +1,10 @@
+pub mod Rows
+pub mod DeskSlots
+pub mod VoteKinds
+pub mod Settling
+pub mod Running
+pub mod Tabled
+pub mod Owed
+pub mod Desk
+pub mod Order
+pub mod ClosingSteps
