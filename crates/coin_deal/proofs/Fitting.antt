@@ -3,7 +3,8 @@ use Rattle.std.proofs.Common.{◌≡◌, ◌≢◌, ℕ, zero, suc, ◌+◌, ◌
 use Rattle.std.proofs.lemmas.List.{get_or-map, get_or_default, length-append, length-replicate, length-map, ext_get_or}
 use Rattle.std.proofs.lemmas.List.Elements.{All-from_recursion, recursion_from_All, All-from_get_or}
 use Rattle.std.specs.List.{All}
-use Rattle.gf_field.specs.Polynomial.{polynomial_at, AreBytes, AreDistinct, Interpolates}
+use Rattle.hb_base.specs.ByteLists.{AreBytes}
+use Rattle.gf_field.specs.Polynomial.{polynomial_at, AreDistinct, Interpolates}
 use Rattle.gf_field.specs.Interpolation.{interpolation_to}
 use Rattle.gf_field.proofs.Interpolation.{interpolation-interpolates}
 use Rattle.gf_field.proofs.Polynomials.{Bytes}

@@ -4,7 +4,8 @@ use Rattle.std.specs.List.{All, Any, Contains}
 use Rattle.std.proofs.lemmas.List.{get_or-map, get_or_append_left, get_or-append-add, length-append, length-map}
 use Rattle.std.proofs.lemmas.List.Elements.{All-nil, All-cons}
 use Rattle.std.proofs.lemmas.List.FromFn.{length-map-range_with_len, get_or-map-range_with_len}
-use Rattle.gf_field.specs.Polynomial.{polynomial_at, AreBytes, Interpolates}
+use Rattle.hb_base.specs.ByteLists.{AreBytes}
+use Rattle.gf_field.specs.Polynomial.{polynomial_at, Interpolates}
 use Rattle.gf_field.proofs.Interpolation.{interpolation-only}
 use Rattle.merkle_branch.specs.Digests.{leaf_digests}
 use Rattle.merkle_branch.specs.Branches.{IsBranch, Collision, branch_of, folded_strings}

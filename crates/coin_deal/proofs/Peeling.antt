@@ -4,7 +4,8 @@ use Rattle.std.proofs.lemmas.List.{drop_more, drop_all, append-nil, take_all}
 use Rattle.std.proofs.lemmas.List.Elements.{All-from_recursion, recursion_from_All}
 use lib.Bits.{xor_comm, xor_zero_r}
 use Rattle.gf_field.specs.Field.{field_sum, field_product}
-use Rattle.gf_field.specs.Polynomial.{polynomial_at, AreBytes}
+use Rattle.hb_base.specs.ByteLists.{AreBytes}
+use Rattle.gf_field.specs.Polynomial.{polynomial_at}
 use Rattle.gf_field.proofs.Products.{zero_product, product_zero}
 use Rattle.gf_field.proofs.Inverses.{product_cancel}
 use Rattle.gf_field.proofs.Polynomials.{Bytes-drop, polynomial_at-bound}

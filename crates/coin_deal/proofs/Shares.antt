@@ -8,7 +8,8 @@ use Rattle.std.proofs.lemmas.List.{get_or-map, get_or-take, get_or_default, leng
 use Rattle.std.proofs.lemmas.List.Elements.{All-push, All-take, recursion_from_All}
 use Rattle.std.proofs.lemmas.List.Folds.{list_any-from_Any}
 use Rattle.std.proofs.lemmas.List.Quantifiers.{all_pairs_push}
-use Rattle.gf_field.specs.Polynomial.{polynomial_at, AreBytes, AreDistinct, Interpolates}
+use Rattle.hb_base.specs.ByteLists.{AreBytes}
+use Rattle.gf_field.specs.Polynomial.{polynomial_at, AreDistinct, Interpolates}
 use Rattle.gf_field.proofs.Polynomials.{polynomial_at-bound}
 use Rattle.merkle_branch.specs.Branches.{is_branch}
 use Rattle.merkle_branch.proofs.Tested.{is_branch-Decides}

@@ -2,7 +2,8 @@
 -- Letters: c is the numbers of a run, e an epoch, j a lane, r a round, m a node.
 use Rattle.std.specs.Prelude.{◌≡◌, ◌≢◌, ℕ, ◌+◌, ◌<◌, ◌==◌, nat_lt, Bool, ◌&&◌, not, if◌then◌else◌, List, [], ◌∷◌, ◌++◌, length, map, All, AllPairs, Contains}
 use Rattle.std.specs.List.{list_any}
-use Rattle.gf_field.specs.Polynomial.{polynomial_at, AreBytes, Interpolates}
+use Rattle.hb_base.specs.ByteLists.{AreBytes}
+use Rattle.gf_field.specs.Polynomial.{polynomial_at, Interpolates}
 use Rattle.gf_field.specs.Interpolation.{interpolation}
 use Rattle.merkle_branch.specs.declared.Branch.{Branch}
 use Rattle.merkle_branch.specs.Digests.{leaf_digests, tree_strings}

@@ -1,7 +1,8 @@
 -- Shares of a secret (Shamir, How to Share a Secret, CACM 1979): the values of a polynomial, of which the secret is that at 0.
 use Rattle.std.specs.Prelude.{◌≡◌, ◌≢◌, ℕ, ◌+◌, ◌<◌, List, length, All, AllPairs}
 use Rattle.hb_base.specs.Limits.{most_nodes}
-use Rattle.gf_field.specs.Polynomial.{polynomial_at, AreBytes}
+use Rattle.hb_base.specs.ByteLists.{AreBytes}
+use Rattle.gf_field.specs.Polynomial.{polynomial_at}
 use Rattle.coin_deal.specs.declared.others.NodeShare.{NodeShare}
 
 -- they are of different nodes of a run

@@ -2,7 +2,8 @@
 use Rattle.std.proofs.Common.{◌≡◌, ℕ, ◌+◌, ◌<◌, ◌≤◌, List, length, get_or, take, refl, sym, ap, ◌∙◌, subst, arith}
 use Rattle.std.specs.List.{All}
 use Rattle.std.proofs.lemmas.List.{get_or-map, get_or-take, length-map, length-take-le, take-map, take-take}
-use Rattle.gf_field.specs.Polynomial.{polynomial_at, AreBytes, AreDistinct, Interpolates, AreWeightsAt, sum_of_products}
+use Rattle.hb_base.specs.ByteLists.{AreBytes}
+use Rattle.gf_field.specs.Polynomial.{polynomial_at, AreDistinct, Interpolates, AreWeightsAt, sum_of_products}
 use Rattle.gf_field.proofs.Interpolation.{weighted}
 use Rattle.hb_base.specs.Numbers.{Numbers}
 use Rattle.coin_deal.specs.Heard.{HeardShare, heard_share, AreGood, IsChoice, points, values}

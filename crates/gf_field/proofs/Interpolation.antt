@@ -7,7 +7,8 @@ use Rattle.std.proofs.lemmas.List.Elements.{All-from_recursion, recursion_from_A
 use Rattle.std.proofs.lemmas.List.Edits.{get_or-remove_below, get_or-remove_above, length-remove}
 use lib.Bits.{xor_zero_r, xor_assoc}
 use Rattle.gf_field.specs.Field.{field_product, field_inverse}
-use Rattle.gf_field.specs.Polynomial.{polynomial_at, AreBytes, AreDistinct, Interpolates, unit_values, AreWeightsAt, sum_of_products, product_of_differences}
+use Rattle.hb_base.specs.ByteLists.{AreBytes}
+use Rattle.gf_field.specs.Polynomial.{polynomial_at, AreDistinct, Interpolates, unit_values, AreWeightsAt, sum_of_products, product_of_differences}
 use Rattle.gf_field.specs.Interpolation.{polynomial_multiple, with_roots, basis_polynomial, interpolation_to, interpolation}
 use Rattle.gf_field.proofs.Products.{product_zero, product_one, product_comm}
 use Rattle.gf_field.proofs.Inverses.{inverse-bound, product-inverse, product_cancel}

@@ -1,15 +1,12 @@
 -- Polynomials over the field, as lists of their coefficients, the lowest first.
-use Rattle.std.specs.Prelude.{◌≡◌, ◌≢◌, ℕ, ◌<◌, ◌≤◌, List, [], ◌∷◌, length, All, AllPairs, slice_index, slice_set, replicate}
+use Rattle.std.specs.Prelude.{◌≡◌, ◌≢◌, ℕ, ◌<◌, ◌≤◌, List, [], ◌∷◌, length, AllPairs, slice_index, slice_set, replicate}
+use Rattle.hb_base.specs.ByteLists.{AreBytes}
 use Rattle.gf_field.specs.Field.{field_sum, field_product}
 
 -- the value at x: c0 + x * (c1 + x * (c2 + ..))
 unfoldable pub polynomial_at : List ℕ → ℕ → ℕ
 polynomial_at [] x = 0
 polynomial_at (c ∷ cs) x = field_sum c (field_product x (polynomial_at cs x))
-
--- each is an element of the field
-abbrev pub AreBytes : List ℕ → Type 0
-AreBytes xs = All (λ x. x < 256) xs
 
 -- no two are equal
 abbrev pub AreDistinct : List ℕ → Type 0

@@ -2,7 +2,8 @@
 
 ghost use Rattle.std.specs.Prelude.{◌≡◌, ℕ, ◌<◌, List, length, slice_index};
 ghost use Rattle.gf_field.specs.Field.{field_sum, field_product, field_inverse};
-ghost use Rattle.gf_field.specs.Polynomial.{polynomial_at, AreBytes, AreDistinct, HasDegreeBelow, Interpolates, AreWeightsAt, sum_of_products};
+ghost use Rattle.hb_base.specs.ByteLists.{AreBytes};
+ghost use Rattle.gf_field.specs.Polynomial.{polynomial_at, AreDistinct, HasDegreeBelow, Interpolates, AreWeightsAt, sum_of_products};
 ghost use Rattle.gf_field.specs.Interpolation.{interpolation};
 
 /// The bytes are a field, with 0 and 1 as its zero and its one.

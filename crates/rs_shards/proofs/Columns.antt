@@ -4,7 +4,8 @@ use Rattle.std.specs.List.{All}
 use Rattle.std.proofs.Math.Nat.{zero-add}
 use Rattle.std.proofs.lemmas.List.{length-map, get_or-map, get_or_default}
 use Rattle.std.proofs.lemmas.List.FromFn.{length-map-range_with_len, get_or-map-range_with_len, fill_by_all}
-use Rattle.gf_field.specs.Polynomial.{polynomial_at, AreBytes, AreDistinct, AreWeightsAt, Interpolates, sum_of_products}
+use Rattle.hb_base.specs.ByteLists.{AreBytes}
+use Rattle.gf_field.specs.Polynomial.{polynomial_at, AreDistinct, AreWeightsAt, Interpolates, sum_of_products}
 use Rattle.gf_field.specs.Interpolation.{interpolation}
 use Rattle.gf_field.proofs.Interpolation.{interpolation-interpolates, weighted}
 use Rattle.rs_shards.specs.Rebuilding.{AreShards}

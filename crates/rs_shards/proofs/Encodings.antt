@@ -6,7 +6,7 @@ use Rattle.std.proofs.lemmas.Nat.{le-div}
 use Rattle.std.proofs.lemmas.List.{take_all, take-take, length-take-le, get_or_default, get_or-take, take_at, drop_at, drop_more, take-append-drop}
 use Rattle.std.proofs.lemmas.List.Folds.{concat-append}
 use Rattle.std.proofs.lemmas.Option.{slice_get-get_or}
-use Rattle.gf_field.specs.Polynomial.{AreBytes}
+use Rattle.hb_base.specs.ByteLists.{AreBytes}
 use Rattle.hb_base.specs.Limits.{longest_value, longest_shard}
 use Rattle.rs_shards.specs.Codeword.{data_of, width_of}
 use Rattle.rs_shards.specs.Frame.{frame, with_length, padding}

@@ -6,7 +6,7 @@ use Rattle.std.proofs.lemmas.List.{take_more, append-nil, length-take}
 use Rattle.std.proofs.lemmas.List.Elements.{All-from_recursion, recursion_from_All}
 use Rattle.std.proofs.lemmas.Bool.{leb-true, ltb-true, le-leb, lt-ltb, false≢true}
 use Rattle.hb_base.specs.Limits.{longest_value}
-use Rattle.gf_field.specs.Polynomial.{AreBytes}
+use Rattle.hb_base.specs.ByteLists.{AreBytes}
 use Rattle.gf_field.proofs.Polynomials.{Bytes-take, Bytes-drop}
 use Rattle.rs_shards.specs.Frame.{is_frame, value_in, stated_length}
 

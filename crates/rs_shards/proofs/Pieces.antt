@@ -8,7 +8,7 @@ use Rattle.std.proofs.lemmas.List.FromFn.{length-map-range_with_len, get_or-map-
 use Rattle.std.proofs.lemmas.List.Elements.{All-from_recursion, recursion_from_All}
 use Rattle.std.proofs.lemmas.Option.{get_or_from_slice_get}
 use Rattle.std.specs.List.{AllByRecursion, All, concat, slice_get}
-use Rattle.gf_field.specs.Polynomial.{AreBytes}
+use Rattle.hb_base.specs.ByteLists.{AreBytes}
 use Rattle.rs_shards.specs.Codeword.{data_of}
 use Rattle.rs_shards.specs.Frame.{frame, with_length, padding}
 use Rattle.rs_shards.specs.Column.{shard_at, AreEven}

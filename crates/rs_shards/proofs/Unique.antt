@@ -4,7 +4,8 @@ use Rattle.std.specs.List.{All, slice_get}
 use Rattle.std.proofs.lemmas.List.{same_lists, get_or_default}
 use Rattle.std.proofs.lemmas.List.Elements.{recursion_from_All}
 use Rattle.std.proofs.lemmas.Option.{slice_get-get_or, get_or_from_slice_get}
-use Rattle.gf_field.specs.Polynomial.{polynomial_at, AreBytes, AreDistinct}
+use Rattle.hb_base.specs.ByteLists.{AreBytes}
+use Rattle.gf_field.specs.Polynomial.{polynomial_at, AreDistinct}
 use Rattle.gf_field.proofs.Polynomials.{polynomial_at-bound}
 use Rattle.gf_field.proofs.Roots.{values_agree}
 use Rattle.rs_shards.specs.Codeword.{IsCodeword, byte_at, width_of}

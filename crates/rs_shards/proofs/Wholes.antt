@@ -7,7 +7,7 @@ use Rattle.std.proofs.lemmas.List.{length-append, length-take-le, length-drop, t
 use Rattle.std.proofs.lemmas.List.Elements.{All-from_recursion, recursion_from_All}
 use Rattle.std.specs.List.{concat}
 use Rattle.std.specs.Int.{w32, to_be_bytes}
-use Rattle.gf_field.specs.Polynomial.{AreBytes}
+use Rattle.hb_base.specs.ByteLists.{AreBytes}
 use Rattle.gf_field.proofs.Polynomials.{Bytes, Bytes-take}
 use Rattle.hb_base.specs.Limits.{longest_value}
 use Rattle.rs_shards.specs.Codeword.{IsCodeword, data_of, width_of}

@@ -1,6 +1,6 @@
 use Rattle.std.proofs.Common.{◌≡◌, ℕ, ◌<◌, [], length, get_or, sym, ap, ◌∙◌, subst, arith, below_more, Fits, w8, Some}
 use Rattle.std.proofs.lemmas.List.{get_or_default}
-use Rattle.gf_field.specs.Polynomial.{AreBytes}
+use Rattle.hb_base.specs.ByteLists.{AreBytes}
 use Rattle.rs_shards.specs.Column.{shard_at}
 use Rattle.rs_shards.proofs.Columns.{AreBytes-of, shard_at-read}
 use Rattle.rs_shards.proofs.Lengths.{none_differs, one_differs, first_length}

@@ -1,5 +1,5 @@
 use Rattle.std.proofs.Common.{◌≡◌, ℕ, ◌<◌, length}
-use Rattle.gf_field.specs.Polynomial.{AreBytes}
+use Rattle.hb_base.specs.ByteLists.{AreBytes}
 use Rattle.rs_shards.specs.Column.{shard_at}
 use Rattle.rs_shards.proofs.unequal_lengths.Given as goal
 

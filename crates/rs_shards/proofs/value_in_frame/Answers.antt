@@ -1,5 +1,5 @@
 use Rattle.std.proofs.Common.{◌≡◌, ◌+◌, ◌-◌, take, drop, sym, ap, ◌∙◌, subst, arith}
-use Rattle.gf_field.specs.Polynomial.{AreBytes}
+use Rattle.hb_base.specs.ByteLists.{AreBytes}
 use Rattle.rs_shards.proofs.Columns.{AreBytes-of}
 use Rattle.rs_shards.proofs.Frames.{value_in-true, value_in-false, value_in-bytes}
 use Rattle.rs_shards.proofs.value_in_frame.Goals as goal

@@ -2,7 +2,8 @@ use Rattle.std.proofs.Common.{◌≡◌, ℕ, suc, ◌+◌, ◌<◌, [], ◌∷�
 use Rattle.std.proofs.lemmas.List.{take_all, take_more, get_or-drop, length-drop, length-map}
 use Rattle.std.proofs.lemmas.List.Elements.{All-from_get_or}
 use Rattle.gf_field.specs.Field.{field_sum, field_product}
-use Rattle.gf_field.specs.Polynomial.{polynomial_at, AreBytes, AreDistinct, Interpolates}
+use Rattle.hb_base.specs.ByteLists.{AreBytes}
+use Rattle.gf_field.specs.Polynomial.{polynomial_at, AreDistinct, Interpolates}
 use Rattle.coin_deal.specs.declared.others.NodeShare.{NodeShare}
 use Rattle.coin_deal.specs.Sharing.{HasShares}
 use Rattle.coin_deal.proofs.Peeling.{at_zero, drop-bytes, value_left, written}

@@ -1,6 +1,7 @@
 use Rattle.std.proofs.Common.{◌≡◌, ℕ, ◌+◌, ◌<◌, length, take, drop, get_or}
 use Rattle.coin_deal.proofs.Fitting.{points_of, values_of, polynomial_of}
-use Rattle.gf_field.specs.Polynomial.{polynomial_at, AreBytes}
+use Rattle.hb_base.specs.ByteLists.{AreBytes}
+use Rattle.gf_field.specs.Polynomial.{polynomial_at}
 use Rattle.coin_deal.specs.Sharing.{HasShares}
 use Rattle.coin_deal.proofs.others.others_fit.Given as goal
 

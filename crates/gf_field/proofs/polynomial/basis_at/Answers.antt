@@ -2,7 +2,8 @@ use Rattle.std.proofs.Common.{◌≡◌, ℕ, suc, ◌+◌, ◌-◌, ◌<◌, Li
 use Rattle.std.proofs.lemmas.List.{take_all, length-drop}
 use Rattle.std.specs.List.{remove}
 use Rattle.gf_field.specs.Field.{field_product}
-use Rattle.gf_field.specs.Polynomial.{AreBytes, AreDistinct, product_of_differences, unit_values}
+use Rattle.hb_base.specs.ByteLists.{AreBytes}
+use Rattle.gf_field.specs.Polynomial.{AreDistinct, product_of_differences, unit_values}
 use Rattle.gf_field.specs.Interpolation.{basis_polynomial}
 use Rattle.gf_field.proofs.Interpolation.{AreBytes-from_fits, others_at, others_at-some, parts-product, scaled-is, basis-interpolates, interpolants_agree}
 use Rattle.gf_field.proofs.polynomial.basis_at.Goals as goal

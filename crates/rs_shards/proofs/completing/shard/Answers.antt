@@ -2,7 +2,8 @@ use Rattle.std.proofs.Common.{◌≡◌, ℕ, ◌<◌, [], length, get_or, Resul
 use Rattle.std.specs.Result.{IfOk}
 use Rattle.std.proofs.lemmas.List.{get_or_default}
 use Rattle.std.proofs.lemmas.Result.{MatchResult-weaker}
-use Rattle.gf_field.specs.Polynomial.{AreBytes, AreDistinct, AreWeightsAt, sum_of_products}
+use Rattle.hb_base.specs.ByteLists.{AreBytes}
+use Rattle.gf_field.specs.Polynomial.{AreDistinct, AreWeightsAt, sum_of_products}
 use Rattle.rs_shards.specs.Column.{indices_of, shard_at, column_of}
 use Rattle.rs_shards.specs.Completing.{completed_shard}
 use Rattle.rs_shards.proofs.Columns.{AreBytes-of, index_at, length-indices, get_or-indices_of, given-shard, combined-shard}
