@@ -20,9 +20,8 @@ use Rattle.hb_rules.specs.FirstShown.{has_node}
 use Rattle.hb_rules.specs.Hearing.{Hearing, heard_by}
 use Rattle.hb_rules.specs.Slots.{when}
 use Rattle.hb_rules.specs.BroadcastRows.{shards_of, value_of}
-use Rattle.hb_rules.proofs.Counts.{count_nodes-mono, count_nodes-same}
+use Rattle.hb_rules.proofs.Counts.{count_nodes-mono, count_nodes-same, count_nodes-above}
 use Rattle.hb_rules.proofs.FirstShards.{IsShown, shards_of-shown, shards_of-shards, data_count-some, few_nodes}
-use Rattle.rbc_core.proofs.Counts.{count_nodes-above}
 use Rattle.rbc_core.proofs.Shown.{has_node-is}
 use Rattle.hb_app.proofs.Sent.{value_read}
 

@@ -3,7 +3,6 @@
 
 mod driver;
 mod ends;
-mod hearing;
 mod input;
 mod line;
 mod member;

@@ -11,9 +11,8 @@ ghost use Rattle.hb_app.specs.Quiet.{NoVoteTwice};
 ghost use Rattle.hb_app.specs.Casting.{AreCastableAfter, HasCastFront};
 ghost use Rattle.hb_app.specs.Member.{IsFull, IsReached, IsSeated, IsReadyAfter, IsMember, MayHear, HearsIn, Acts, Receives};
 
-use crate::hearing::{Heard, hear};
 use hb_base::Bytes;
-use hb_rules::{Book, BookFault, Due, Fate, PlainBook, PlainSeat};
+use hb_rules::{Book, BookFault, Due, Fate, Heard, PlainBook, PlainSeat, hear};
 use hb_wire::{Vote, reaches};
 use rbc_core::Rbc;
 use std::alloc::{AllocError, Global};

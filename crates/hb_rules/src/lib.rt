@@ -8,6 +8,7 @@ pub mod book;
 #[cfg(test)]
 mod book_tests;
 pub mod due;
+pub mod hearing;
 pub mod lanes;
 pub mod laws;
 pub mod outbox;
@@ -17,11 +18,13 @@ pub mod posts;
 pub mod report;
 #[cfg(test)]
 mod tests;
+pub mod voters;
 
 pub use actor::{Actor, ActorFault};
 pub use agreement_slot::AgreementSlot;
 pub use book::{Book, BookFault};
 pub use due::Due;
+pub use hearing::{Heard, hear};
 pub use lanes::{is_correct, posting_lane};
 pub use laws::{
     agreement_slot_laws, broadcast_slot_laws, desk_slot_laws, lane_slot_laws, row_laws, slot_laws,
@@ -32,3 +35,4 @@ pub use plain_book::{PlainBook, plain_book_laws};
 pub use plain_seat::PlainSeat;
 pub use posts::{Posts, spell};
 pub use report::{End, Fate, Report, running};
+pub use voters::Voters;

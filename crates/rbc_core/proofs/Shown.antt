@@ -17,12 +17,11 @@ use Rattle.hb_rules.specs.Hearing.{Hearing, heard_by}
 use Rattle.hb_rules.specs.Code.{data_count, echo_count, ready_count}
 use Rattle.hb_rules.specs.FirstShown.{has_node, with_first}
 use Rattle.hb_rules.specs.BroadcastRows.{shard_of, shards_of, value_through, value_of, named, ready_made, delivery_made}
-use Rattle.hb_rules.proofs.Counts.{count_nodes-same}
+use Rattle.hb_rules.proofs.Counts.{count_nodes-same, count_nodes-above}
 use Rattle.rbc_core.specs.Broadcast.{names, ShowsHeard, IsHeard}
 use Rattle.rbc_core.specs.Due.{ready_by, delivery_by}
 use Rattle.rbc_core.specs.RootViews.{RootView, unheard, first_with}
 use Rattle.rbc_core.specs.Roots.{RootsView, found, view_at, IsRootView, after_echo, after_ready, Finds}
-use Rattle.rbc_core.proofs.Counts.{count_nodes-above}
 use Rattle.rbc_core.proofs.Hearings.{same_bytes, heard_by-push, heard_by-other, shard_none, shards_of-none, kinds_apart, IsSilent, silent_of_others, echo-silent, ready-silent, shards-silent, shards_of-some}
 use Rattle.rbc_core.proofs.RootStates.{is_in-set, view-finds}
 use Rattle.rbc_core.proofs.Standing.{AreHeard}

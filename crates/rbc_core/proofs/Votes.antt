@@ -21,7 +21,7 @@ use Rattle.rbc_core.specs.Broadcast.{RbcView, Hears}
 use Rattle.rbc_core.specs.Due.{is_ready_by}
 use Rattle.rbc_core.specs.RootViews.{RootView, unheard}
 use Rattle.rbc_core.specs.Roots.{RootsView, found, view_at, IsRootView, value_with, after_echo, after_ready, Finds}
-use Rattle.rbc_core.proofs.Counts.{count_nodes-one}
+use Rattle.hb_rules.proofs.Counts.{count_nodes-one}
 use Rattle.rbc_core.proofs.Hearings.{kinds_apart}
 use Rattle.rbc_core.proofs.RootStates.{is_in-set, none_marked, IsRootView-echo, IsRootView-ready}
 use Rattle.rbc_core.proofs.Shown.{ShowsShard, ShowsReady, named-shard, named-ready, shows-echo, shows-echo_again, shows-ready, shows-ready_again}

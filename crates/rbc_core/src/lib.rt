@@ -9,7 +9,6 @@ mod root_state;
 mod roots;
 #[cfg(test)]
 mod tests;
-mod voters;
 
 pub use answer::Check;
 pub use checking::check;

@@ -4,8 +4,8 @@ ghost use Rattle.hb_base.specs.Limits.{most_nodes};
 ghost use Rattle.hb_base.specs.NodeSet.{is_in};
 ghost use Rattle.rbc_core.specs.RootViews.{root_view, unheard, with_echo};
 
-use crate::voters::Voters;
 use hb_base::Bytes;
+use hb_rules::Voters;
 use std::alloc::{AllocError, Global};
 
 // How many nodes echoed a root validly and how many are ready for it, and whether one node did and is.
@@ -36,8 +36,8 @@ impl RootState {
         ensures { root_view result ≡ unheard }
     {
         RootState {
-            echoes: Voters::new(),
-            readies: Voters::new(),
+            echoes: Voters::none(),
+            readies: Voters::none(),
             shards: Vec::new(alloc),
             value: None,
         }

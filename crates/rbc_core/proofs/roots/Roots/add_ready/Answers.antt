@@ -12,12 +12,6 @@ use Rattle.rbc_core.proofs.Tables.{found-shown, view-some, view-none, Puts, Puts
 use Rattle.rbc_core.proofs.Adding.{Finds-ready, AreRootViews-ready}
 use Rattle.rbc_core.proofs.roots.Roots.add_ready.Goals as goal
 
-pub add-requires-clause-new : goal.add-requires-clause-new
-add-requires-clause-new c =
-    let new = rw (← c.self.view_is) at c.requires.new in
-    ap (λ (v : RootView). is_in v.readies c.args.node)
-    (sym (view-some c.self.inside.config c.self.inside.by_root c.args.root.now c.in-Some.state.now (sym c.in-Some.ensures.value))) ∙ new
-
 pub returns-in-Some-clause-ok : goal.returns-in-Some-clause-ok
 returns-in-Some-clause-ok c =
     let m = c.self.inside.by_root in

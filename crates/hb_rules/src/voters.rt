@@ -6,9 +6,10 @@ ghost use Rattle.hb_base.specs.Limits.{most_nodes};
 use hb_base::NodeSet;
 use std::marker::Model;
 
-/// Nodes that have voted, and how many they are, so that no count goes through the nodes. Clauses see the set.
+/// Nodes that make a claim, and how many they are, so that no count goes through the nodes. Clauses see the set, as a list
+/// of 16 marks.
 #[derive(Debug, Drop)]
-pub(crate) struct Voters {
+pub struct Voters {
     nodes: NodeSet,
     count: u8,
 }
@@ -27,9 +28,10 @@ impl Model for Voters {
 }
 
 impl Voters {
-    // No node.
-    pub(crate) fn new() -> Voters
-        ensures { result ≡ replicate most_nodes false }
+    /// No node.
+    pub fn none() -> Voters
+        ensures exact { result ≡ replicate most_nodes false }
+        ensures members { (node : ℕ) → is_in result node ≡ false }
     {
         Voters {
             nodes: NodeSet::new(),
@@ -37,26 +39,28 @@ impl Voters {
         }
     }
 
-    // Adds a node that has not voted.
-    pub(crate) fn add(&mut self, node: u8)
+    /// Adds a node, which may be among them already.
+    pub fn add(&mut self, node: u8)
         requires known { node < most_nodes }
-        requires new { is_in self.old node ≡ false }
         ensures exact { self.new ≡ slice_set self.old node true }
         ensures members { (other : ℕ) → is_in self.new other ≡ ((other == node) || is_in self.old other) }
     {
+        let is_new = !self.nodes.has(node);
         self.nodes.add(node);
-        self.count += 1;
+        if is_new {
+            self.count += 1;
+        }
     }
 
-    // Whether a node has voted.
-    pub(crate) fn has(&self, node: u8) -> bool
+    /// Whether a node is among them.
+    pub fn has(&self, node: u8) -> bool
         ensures { result ≡ is_in self.now node }
     {
         self.nodes.has(node)
     }
 
-    // How many nodes have voted.
-    pub(crate) fn count(&self) -> u8
+    /// How many they are.
+    pub fn count(&self) -> u8
         ensures { result ≡ count_nodes most_nodes (is_in self.now) }
     {
         self.count
