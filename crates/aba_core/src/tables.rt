@@ -5,7 +5,8 @@ ghost use Rattle.hb_rules.specs.Marks.{Claim};
 ghost use Rattle.hb_wire.specs.declared.vote.Vals.{Vals};
 ghost use Rattle.aba_core.specs.Tables.{voters_in, claims, claims_set};
 
-use crate::voters::{BitVoters, Voters};
+use crate::voters::BitVoters;
+use hb_rules::Voters;
 use hb_wire::{Vals, Vote};
 
 // What nodes claim in a round, and who claims it.
