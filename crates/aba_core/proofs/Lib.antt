@@ -1,4 +1,3 @@
-pub mod Counts
 pub mod Alike
 pub mod Resting
 pub mod Names

@@ -1,7 +1,6 @@
 pub mod Firsts
 pub mod Hearings
 pub mod Choices
-pub mod Counts
 pub mod Tables
 pub mod RootStates
 pub mod Adding

@@ -17,4 +17,4 @@ none_in t none_bval none_aux none_any none_conf none_set none_with (any_confs r)
 none_in t none_bval none_aux none_any none_conf none_set none_with (confs_with r b) m = none_with b m
 
 pub returns : goal.returns
-returns c = none_in _ c.none.ensures c.none-2.ensures c.none-3.ensures c.none-4.ensures c.none-5.ensures c.none-6.ensures
+returns c = none_in _ c.none.ensures c.none-2.ensures c.none-3.ensures.members c.none-4.ensures c.none-5.ensures.members c.none-6.ensures
