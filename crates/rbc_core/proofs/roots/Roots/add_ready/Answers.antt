@@ -4,7 +4,6 @@ use Rattle.std.specs.Cmp.Lexicographic.{slice_cmp}
 use Rattle.std.specs.Option.{option_map}
 use Rattle.std.specs.Ordering.{nat_cmp}
 use Rattle.std.proofs.lemmas.Bool.{both_ways}
-use Rattle.hb_base.specs.NodeSet.{is_in}
 use Rattle.rbc_core.specs.declared.root_state.RootState.{RootState}
 use Rattle.rbc_core.specs.RootViews.{RootView, root_view}
 use Rattle.rbc_core.specs.Roots.{RootsView, found}
