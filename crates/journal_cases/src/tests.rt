@@ -188,15 +188,16 @@ fn outcome_of(
 ) -> Result<Outcome, JournalFault>
     requires { length stops.now < 5 }
 {
-    let (mut disk, acknowledged, folded) = written(alloc, new_disk(alloc, stops, faults)?, count);
+    let (disk, acknowledged, folded) = written(alloc, new_disk(alloc, stops, faults)?, count);
+    let mut journal = Journal::shut(alloc, disk);
     let mut switched_on: u32 = 0;
     for refused in 0..8 {
-        if disk.is_off() {
-            disk.switch_on()?;
+        if journal.disk().is_off() {
+            journal.switch_on()?;
             switched_on = switched_on.saturating_add(1);
         }
-        disk = match Journal::recover(alloc, disk) {
-            Ok((_, entries)) => {
+        match journal.reopen() {
+            Ok(entries) => {
                 return Ok(Outcome {
                     acknowledged,
                     folded,
@@ -205,9 +206,9 @@ fn outcome_of(
                     found: payloads_in(&joined(alloc, &entries)?),
                 });
             }
-            Err((disk, JournalFault::Failed)) => disk,
-            Err((_, fault)) => return Err(fault),
-        };
+            Err(JournalFault::Failed) => {}
+            Err(fault) => return Err(fault),
+        }
     }
     Err(JournalFault::Failed)
 }

@@ -11,3 +11,4 @@ pub mod Arranges
 pub mod Folds
 pub mod Always
 pub mod Alone
+pub mod Foreign

@@ -11,9 +11,9 @@ use crate::fold::fold_disk;
 use crate::parse::Found;
 use crate::recover::{Opened, open, other};
 use crate::steps::{FIRST_GATE, add_entry, frame};
-use disk_model::{Disk, Half};
+use disk_model::{Disk, Half, Power};
 use hb_base::Bytes;
-use std::alloc::Global;
+use std::alloc::{AllocError, Global};
 
 /// A journal on a disk. Its entries stand in the live half; the other half has none.
 #[derive(Drop)]
@@ -37,11 +37,15 @@ impl<D: Disk> Journal<D> {
         ensures usable { IfOk result (λ opened. IsSound (D.seen disk) → IsUsable D.seen D.may_leave opened.0) }
         ensures same { IfOk result (λ opened. IsSound (D.seen disk) → entries_in_journal D.seen opened.0 ≡ live_entries (D.seen disk)) }
         ensures text { IfOk result (λ opened. IsSound (D.seen disk) → text_of (D.seen (disk_of opened.0)) ≡ text_of (D.seen disk)) }
+
+        // The entries put together are the text.
+        ensures read { IfOk result (λ opened. IsSound (D.seen disk) → concat opened.1.items ≡ text_of (D.seen disk)) }
         ensures ours { OnOk result ((is_foreign (D.seen disk).a || is_foreign (D.seen disk).b) ≡ false) }
 
         // A disk that holds no journal is handed back as it was. It was synced and read, and nothing else.
         ensures foreign { IfErr result (λ refused. refused.1 ≡ JournalFault.NotAJournal
             → (is_foreign (D.seen disk).a || is_foreign (D.seen disk).b) ≡ true) }
+        ensures no_foreign { IfErr result (λ refused. IsSound (D.seen disk) → refused.1 ≡ JournalFault.NotAJournal → ⊥) }
         ensures untouched { IfErr result (λ refused. refused.1 ≡ JournalFault.NotAJournal
             → IsUntouched D.seen D.may_leave D.moment D.left_since disk refused.0) }
 
@@ -59,8 +63,59 @@ impl<D: Disk> Journal<D> {
         ensures supply { Draws (D.supply disk) (D.supply (disk_after result)) }
         ensures failed { IfErr result (λ refused. HasReason D.faults D.explains disk refused.0 refused.1) }
     {
-        let mut disk = disk;
-        match open(alloc, &mut disk) {
+        let mut journal = Journal::shut(alloc, disk);
+        match journal.reopen() {
+            Ok(entries) => Ok((journal, entries)),
+            Err(fault) => Err((journal.into_disk(), fault)),
+        }
+    }
+
+    /// The journal of a disk, shut: it knows nothing of its entries, and is of no use before `reopen`. It takes no memory and
+    /// touches nothing.
+    pub fn shut(alloc: Global, disk: D) -> Journal<D>
+        ensures { disk_of result ≡ disk }
+    {
+        Journal {
+            disk,
+            alloc,
+            live: Half::A,
+            gate: FIRST_GATE,
+            entries: 0,
+            bytes: 0,
+        }
+    }
+
+    /// Opens the journal of the disk that it holds, in any state, and gives its entries in order, as `recover` does. After
+    /// an `Err` it is shut.
+    pub fn reopen(&mut self) -> Result<Vec<Bytes>, JournalFault>
+        ensures entries { IfOk result (λ entries. entries.items ≡ live_entries (D.seen (disk_of self.old))) }
+        ensures usable { OnOk result (IsSound (D.seen (disk_of self.old)) → IsUsable D.seen D.may_leave self.new) }
+        ensures same { OnOk result (IsSound (D.seen (disk_of self.old))
+            → entries_in_journal D.seen self.new ≡ live_entries (D.seen (disk_of self.old))) }
+        ensures text { OnOk result (IsSound (D.seen (disk_of self.old))
+            → text_of (D.seen (disk_of self.new)) ≡ text_of (D.seen (disk_of self.old))) }
+
+        // The entries put together are the text.
+        ensures read { IfOk result (λ entries. IsSound (D.seen (disk_of self.old))
+            → concat entries.items ≡ text_of (D.seen (disk_of self.old))) }
+        ensures ours { OnOk result ((is_foreign (D.seen (disk_of self.old)).a || is_foreign (D.seen (disk_of self.old)).b) ≡ false) }
+        ensures foreign { IfErr result (λ fault. fault ≡ JournalFault.NotAJournal
+            → (is_foreign (D.seen (disk_of self.old)).a || is_foreign (D.seen (disk_of self.old)).b) ≡ true) }
+        ensures no_foreign { IfErr result (λ fault. IsSound (D.seen (disk_of self.old)) → fault ≡ JournalFault.NotAJournal → ⊥) }
+        ensures untouched { IfErr result (λ fault. fault ≡ JournalFault.NotAJournal
+            → IsUntouched D.seen D.may_leave D.moment D.left_since (disk_of self.old) (disk_of self.new)) }
+        ensures foreign_stays { (is_foreign (D.seen (disk_of self.old)).a || is_foreign (D.seen (disk_of self.old)).b) ≡ true
+            → (D.seen (disk_of self.new) ≡ D.seen (disk_of self.old))
+            × LeavesOnly D.moment D.left_since (disk_of self.old) (disk_of self.new) (D.may_leave (disk_of self.old)) }
+        ensures runs { Only (D.seen (disk_of self.old)) (D.may_leave (disk_of self.old)) → IsSound (D.seen (disk_of self.old))
+            → Runs D.moment D.left_since D.faults D.supply (disk_of self.old) (disk_of self.new) (SaysOnly (text_of (D.seen (disk_of self.old)))) }
+        ensures pending { IsSound (D.seen (disk_of self.old))
+            → Runs D.moment D.left_since D.faults D.supply (disk_of self.old) (disk_of self.new)
+            (LeftOrSays (D.may_leave (disk_of self.old)) (text_of (D.seen (disk_of self.old)))) }
+        ensures supply { Draws (D.supply (disk_of self.old)) (D.supply (disk_of self.new)) }
+        ensures failed { IfErr result (HasReason D.faults D.explains (disk_of self.old) (disk_of self.new)) }
+    {
+        match open(self.alloc, &mut self.disk) {
             Ok(opened) => {
                 let Opened { live, found } = opened;
                 let Found {
@@ -68,17 +123,13 @@ impl<D: Disk> Journal<D> {
                     gate,
                     bytes,
                 } = found;
-                let journal = Journal {
-                    disk,
-                    alloc,
-                    live,
-                    gate: FIRST_GATE + gate as u64,
-                    entries: entries.len().min(u32::MAX as usize) as u32,
-                    bytes: bytes as u64,
-                };
-                Ok((journal, entries))
+                self.live = live;
+                self.gate = FIRST_GATE + gate as u64;
+                self.entries = entries.len().min(u32::MAX as usize) as u32;
+                self.bytes = bytes as u64;
+                Ok(entries)
             }
-            Err(fault) => Err((disk, fault)),
+            Err(fault) => Err(fault),
         }
     }
 
@@ -166,6 +217,26 @@ impl<D: Disk> Journal<D> {
             bytes: _,
         } = self;
         disk
+    }
+}
+
+impl<D: Power> Journal<D> {
+    ghost use Rattle.vote_journal.specs.Usable.{disk_of};
+    ghost use Rattle.std.specs.Prelude.{OnErr, true, false, OnOk, ◌≡◌};
+    ghost use Rattle.disk_model.specs.Disk.{Only, Elapses};
+
+    /// Switches the disk on, as `Power::switch_on` does. The journal is shut then.
+    pub fn switch_on(&mut self) -> Result<(), AllocError>
+        requires { (D.supply (disk_of self.old)).off ≡ true }
+        ensures image { OnOk result (D.may_leave (disk_of self.old) (D.seen (disk_of self.new))) }
+        ensures durable { OnOk result (Only (D.seen (disk_of self.new)) (D.may_leave (disk_of self.new))) }
+        ensures time { Elapses (D.moment (disk_of self.old)) (D.moment (disk_of self.new)) (D.left_since (disk_of self.old))
+            (D.left_since (disk_of self.new)) (D.may_leave (disk_of self.new)) }
+        ensures faults { D.faults (disk_of self.new) ≡ D.faults (disk_of self.old) }
+        ensures supply { OnOk result (D.supply (disk_of self.new) ≡ record (D.supply (disk_of self.old)) { off = false }) }
+        ensures refused { OnErr result (disk_of self.new ≡ disk_of self.old) }
+    {
+        self.disk.switch_on()
     }
 }
 
