@@ -1,5 +1,5 @@
 -- A state that is rebuilt from what its lane has cast.
-use Rattle.std.proofs.Common.{◌≡◌, ℕ, ◌+◌, ◌<◌, Bool, true, false, ◌&&◌, ◌||◌, ◌==◌, nat_lt, List, [], ◌∷◌, ◌++◌, length, slice_index_or, None, Some, is_some, if◌then◌else◌, refl, sym, ap, ◌∙◌, subst, arith, below_more, ltb-true, ltb-false, le-ltb}
+use Rattle.std.proofs.Common.{◌≡◌, ℕ, ◌+◌, ◌<◌, ◌≤◌, Bool, true, false, ◌&&◌, ◌||◌, ◌==◌, nat_lt, List, [], ◌∷◌, ◌++◌, length, slice_index_or, None, Some, is_some, if◌then◌else◌, inr, refl, sym, ap, ◌∙◌, subst, arith, below_more, ltb-true, ltb-false, le-ltb}
 use Rattle.std.specs.List.{filter}
 use Rattle.hb_base.specs.Numbers.{Numbers, AreSound}
 use Rattle.hb_wire.specs.declared.vote.Vals.TheVariants.{Zero, One, Both}
@@ -9,9 +9,13 @@ use Rattle.std.proofs.lemmas.Bool.{or_right}
 use Rattle.std.proofs.lemmas.List.{get_or_push, get_or_append_left, get_or_past}
 use Rattle.hb_rules.specs.Claims.{is_bit, is_any_delivery}
 use Rattle.hb_rules.specs.Coins.{coin_in}
-use Rattle.hb_rules.specs.Marks.{Mark, delivery, est, any_est, bval, any_aux, any_conf, pick, any_pick, any_coin, decision, any_decision, bears}
+use Rattle.hb_rules.specs.declared.agreement_slot.AgreementSlot.{AgreementSlot}
+use Rattle.hb_rules.specs.declared.agreement_slot.AgreementSlot.TheVariants.{Begin, Support, Accept, ConfirmOne, ConfirmBoth, PickOne, PickBoth, ShowShare, GoOn, Decide}
+use Rattle.hb_rules.specs.Agreement.{confirms}
+use Rattle.hb_rules.specs.AgreementRows.{view_of, choice_of, is_left_one, is_left_both}
+use Rattle.hb_rules.specs.Marks.{single, Mark, delivery, est, any_est, bval, any_aux, any_conf, pick, any_pick, any_coin, decision, any_decision, bears}
 use Rattle.hb_rules.specs.Parts.{in_agreement, read_in_agreement}
-use Rattle.hb_rules.specs.Slots.{IsIdle}
+use Rattle.hb_rules.specs.Slots.{IsIdle, when}
 use Rattle.hb_rules.proofs.Lists.{any_within}
 use Rattle.aba_core.specs.declared.marks.Marks.{Marks}
 use Rattle.aba_core.specs.declared.round.Round.{Round}
@@ -21,7 +25,9 @@ use Rattle.aba_core.specs.Rounds.{IsNew, blank}
 use Rattle.aba_core.specs.State.{Place, AbaView, place_of, mark_round, claim_round, mark_at, IsAba, AreNew}
 use Rattle.aba_core.specs.Standing.{slots_at, Shows, Stands}
 use Rattle.aba_core.specs.Passing.{Casts}
+use Rattle.aba_core.proofs.Names.{calm_idle}
 use Rattle.aba_core.proofs.Passes.{casts_shown}
+use Rattle.aba_core.proofs.Resting.{choice_shown}
 
 -- ---- nothing was cast or heard
 
@@ -110,6 +116,35 @@ IsBuilt-more old new p own vote built casts = record { place = casts.place ∙ b
 
 pub Stands-idle : (a : AbaView) (own : List Vote) → Shows a own [] → IsIdle (slots_at (place_of a)) own [] → Stands a own []
 Stands-idle a own shows idle = record { idle = idle; shows = shows }
+
+-- ---- where nothing was cast and heard, nothing is owed
+
+none_made : (c : Numbers) (i j e : ℕ) (name : AgreementSlot) → choice_of c i j e name (view_of c i j e [] []) ≡ None
+unfolding choice_of
+none_made c i j e (Begin true) = refl
+none_made c i j e (Begin false) = refl
+none_made c i j e (Support r b) = refl
+none_made c i j e (Accept r) = refl
+none_made c i j e (ConfirmOne r b) = refl
+none_made c i j e (ConfirmBoth r) = refl
+none_made c i j e (PickOne r b) = by (confirms c)
+  where
+    by : (confirm : Bool) → when (is_left_one confirm c (view_of c i j e [] []) r b) (Pick e r (single b)) ≡ None
+    by true = refl
+    by false = refl
+none_made c i j e (PickBoth r) = by (confirms c)
+  where
+    by : (confirm : Bool) → when (is_left_both confirm c (view_of c i j e [] []) r) (Pick e r Both) ≡ None
+    by true = refl
+    by false = refl
+none_made c i j e (ShowShare r) = refl
+none_made c i j e (GoOn r) = rw (no_coin c j e r) refl
+none_made c i j e (Decide r) = rw (no_coin c j e r) refl
+
+pub Stands-none : (a : AbaView) → 1 ≤ a.config.rounds → Shows a [] [] → Stands a [] []
+Stands-none a some shows =
+    Stands-idle a [] shows
+    (calm_idle a [] [] shows some (λ name known below. inr (choice_shown a [] [] shows name below ∙ none_made a.config a.node a.lane a.epoch name)))
 
 -- ---- only votes that the agreement reads are marked
 

@@ -67,7 +67,8 @@ impl Model for Aba {
 
 impl Aba {
     /// The state of a lane that has cast these votes, of any epoch and part, and has heard nothing since. The node's own
-    /// shares of the coins are taken from the deal here. It stands for these votes where they leave nothing owed.
+    /// shares of the coins are taken from the deal here. It stands for these votes where they leave nothing owed, as votes
+    /// do that stood after a call; where none of them is of this agreement, it stands for none.
     pub fn rebuild(
         alloc: Global,
         config: &Config,
@@ -85,6 +86,7 @@ impl Aba {
         ensures stands { IfOk result (λ a. IsIdle (slots_at (place_of a)) own.now [] → Stands a own.now []) }
         ensures part { IfOk result (λ a. IsIdle (slots_at (place_of a)) (filter (read_in_agreement epoch) own.now) []
             → Stands a (filter (read_in_agreement epoch) own.now) []) }
+        ensures new { IfOk result (λ a. filter (read_in_agreement epoch) own.now ≡ [] → Stands a [] []) }
     {
         // A config is sound where its liars can be told.
         let _sound = config.liars();

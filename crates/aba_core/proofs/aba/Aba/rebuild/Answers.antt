@@ -1,8 +1,9 @@
-use Rattle.std.proofs.Common.{◌∷◌, [], ◌++◌, take, sym, ap, ◌∙◌, subst, arith}
+use Rattle.std.proofs.Common.{List, ◌∷◌, [], ◌++◌, take, sym, ap, ◌∙◌, subst, arith}
 use Rattle.std.proofs.lemmas.List.{take_all, take_more}
 use Rattle.hb_wire.specs.declared.vote.Vote.{Vote}
 use Rattle.aba_core.specs.State.{Place}
-use Rattle.aba_core.proofs.Building.{IsBuilt, IsBuilt-none, IsBuilt-more, new_sound, part_shown, Stands-idle}
+use Rattle.aba_core.specs.Standing.{Shows}
+use Rattle.aba_core.proofs.Building.{IsBuilt, IsBuilt-none, IsBuilt-more, new_sound, part_shown, Stands-idle, Stands-none}
 use Rattle.aba_core.proofs.aba.Aba.rebuild.Goals as goal
 
 pub invariant_of-aba : goal.invariant_of-aba
@@ -28,9 +29,13 @@ returns c =
     let p : Place = record { config = c.args.config.now; node = c.args.node; lane = c.args.lane; epoch = c.args.epoch } in
     let built : IsBuilt c.loop-vote.aba p c.args.own.now =
     subst (IsBuilt c.loop-vote.aba p) (take_all c.loop-vote.vote-index c.args.own.now (omega arith)) c.loop-vote.invariant in
+    let part = part_shown c.loop-vote.aba c.args.epoch c.args.own.now (ap (λ (p : Place). p.epoch) built.place) built.shows in
     record {
       place = built.place;
       stands = λ idle. Stands-idle c.loop-vote.aba c.args.own.now built.shows idle;
       part = λ idle.
-          Stands-idle c.loop-vote.aba _ (part_shown c.loop-vote.aba c.args.epoch c.args.own.now (ap (λ (p : Place). p.epoch) built.place) built.shows) idle;
+          Stands-idle c.loop-vote.aba _ part idle;
+      new = λ none.
+          Stands-none c.loop-vote.aba (omega (arith, c.liars-sound.ensures.sound.rounds.0, ap (λ (p : Place). p.config.rounds) built.place))
+          (subst (λ (votes : List Vote). Shows c.loop-vote.aba votes []) none part);
     }
