@@ -1,5 +1,5 @@
 -- What tests of the agreement's votes say, where these votes go, and which of them a lane casts once.
-use Rattle.std.proofs.Common.{◌≡◌, ◌≢◌, ℕ, Bool, true, false, ◌&&◌, ◌==◌, inl, inr, List, Contains, refl, subst}
+use Rattle.std.proofs.Common.{◌≡◌, ◌≢◌, ℕ, Bool, true, false, ◌&&◌, ◌==◌, inl, inr, List, Contains, refl, ap, ◌∙◌, subst}
 use Rattle.std.specs.List.{list_any}
 use Rattle.std.proofs.lemmas.Bool.{eqb-true, eq-eqb, and_parts, and_from}
 use Rattle.hb_base.specs.Numbers.{Numbers}
@@ -40,49 +40,36 @@ named d e s r rest h =
     let inner = and_parts (s == r) rest outer.1 in
     (eqb-true d e outer.0, eqb-true s r inner.0, inner.1)
 
+-- so are the bits, and the sets
+named_bit : (d e s r : ℕ) (bit b : Bool) → ((d == e) && ((s == r) && same_bit bit b)) ≡ true → (d ≡ e) × (s ≡ r) × (bit ≡ b)
+named_bit d e s r bit b h = let is = named d e s r (same_bit bit b) h in (is.0, is.1, same_bits bit b is.2)
+
+named_set : (d e s r : ℕ) (set vals : Vals) → ((d == e) && ((s == r) && same_vals set vals)) ≡ true → (d ≡ e) × (s ≡ r) × (set ≡ vals)
+named_set d e s r set vals h = let is = named d e s r (same_vals set vals) h in (is.0, is.1, same_sets set vals is.2)
+
+-- votes of one kind are the same where their parts are
+alike : {A : Type 0} (make : ℕ → ℕ → A → Vote) (d e s r : ℕ) (x y : A) → (d ≡ e) × (s ≡ r) × (x ≡ y) → make d s x ≡ make e r y
+alike make d e s r x y is =
+    ap (λ (n : ℕ). make n s x) is.0 ∙ ap (λ (n : ℕ). make e n x) is.1 ∙ ap (make e r) is.2
+
 pub est-is : (e r : ℕ) (b : Bool) (vote : Vote) → is_est e r b vote ≡ true → vote ≡ Est e r b
-est-is e r b (Est d s bit) h =
-    let parts = named d e s r (same_bit bit b) h in
-    let epoch : d ≡ e = parts.0 in
-    let round : s ≡ r = parts.1 in
-    let bits : bit ≡ b = same_bits bit b parts.2 in
-    cc (epoch, round, bits)
+est-is e r b (Est d s bit) h = alike Est d e s r bit b (named_bit d e s r bit b h)
 est-is e r b vote h = absurd (cc (h))
 
 pub bval-is : (e r : ℕ) (b : Bool) (vote : Vote) → is_bval e r b vote ≡ true → vote ≡ Bval e r b
-bval-is e r b (Bval d s bit) h =
-    let parts = named d e s r (same_bit bit b) h in
-    let epoch : d ≡ e = parts.0 in
-    let round : s ≡ r = parts.1 in
-    let bits : bit ≡ b = same_bits bit b parts.2 in
-    cc (epoch, round, bits)
+bval-is e r b (Bval d s bit) h = alike Bval d e s r bit b (named_bit d e s r bit b h)
 bval-is e r b vote h = absurd (cc (h))
 
 aux-is : (e r : ℕ) (b : Bool) (vote : Vote) → is_aux e r b vote ≡ true → vote ≡ Aux e r b
-aux-is e r b (Aux d s bit) h =
-    let parts = named d e s r (same_bit bit b) h in
-    let epoch : d ≡ e = parts.0 in
-    let round : s ≡ r = parts.1 in
-    let bits : bit ≡ b = same_bits bit b parts.2 in
-    cc (epoch, round, bits)
+aux-is e r b (Aux d s bit) h = alike Aux d e s r bit b (named_bit d e s r bit b h)
 aux-is e r b vote h = absurd (cc (h))
 
 conf-is : (e r : ℕ) (vals : Vals) (vote : Vote) → is_conf e r vals vote ≡ true → vote ≡ Conf e r vals
-conf-is e r vals (Conf d s set) h =
-    let parts = named d e s r (same_vals set vals) h in
-    let epoch : d ≡ e = parts.0 in
-    let round : s ≡ r = parts.1 in
-    let sets : set ≡ vals = same_sets set vals parts.2 in
-    cc (epoch, round, sets)
+conf-is e r vals (Conf d s set) h = alike Conf d e s r set vals (named_set d e s r set vals h)
 conf-is e r vals vote h = absurd (cc (h))
 
 pub pick-is : (e r : ℕ) (vals : Vals) (vote : Vote) → is_pick e r vals vote ≡ true → vote ≡ Pick e r vals
-pick-is e r vals (Pick d s set) h =
-    let parts = named d e s r (same_vals set vals) h in
-    let epoch : d ≡ e = parts.0 in
-    let round : s ≡ r = parts.1 in
-    let sets : set ≡ vals = same_sets set vals parts.2 in
-    cc (epoch, round, sets)
+pick-is e r vals (Pick d s set) h = alike Pick d e s r set vals (named_set d e s r set vals h)
 pick-is e r vals vote h = absurd (cc (h))
 
 pub no_more-is : (e : ℕ) (vote : Vote) → is_no_more e vote ≡ true → vote ≡ NoMore e
