@@ -120,7 +120,7 @@ pub record IsHeard (c : Numbers) (i x : ℕ) (post : Post) (h : Hearing) : Type 
   pub within : is_within c vote ≡ true
   pub hearing_is : hearing (name_at c x post) vote ≡ h
 
-heard_is : (c : Numbers) (i x : ℕ) (post : Post) (h : Hearing) → hearing_of c i x post ≡ Some h → IsHeard c i x post h
+pub heard_is : (c : Numbers) (i x : ℕ) (post : Post) (h : Hearing) → hearing_of c i x post ≡ Some h → IsHeard c i x post h
 heard_is c i x post h gives = by (spelled c post) refl gives
   where
     by : (o : Option Vote) → spelled c post ≡ o → hearing_at c i x post o ≡ Some h → IsHeard c i x post h

@@ -21,7 +21,7 @@ use Rattle.hb_rules.proofs.Lists.{filter_map_within}
 use Rattle.hb_rules.proofs.MoreHeard.{AreAmong-more, MayCast-among}
 
 -- a post that is not of the seat is not of its actor
-not_by : (c : Numbers) (i x : ℕ) (post : Post) → is_mine c i x post ≡ false → is_by i x post ≡ false
+pub not_by : (c : Numbers) (i x : ℕ) (post : Post) → is_mine c i x post ≡ false → is_by i x post ≡ false
 not_by c i x post others = false_from_ne_true (is_by i x post) (λ by.
     let parts = and_parts (post.from == i) (post.actor == x) by in
     let mine : is_mine c i x post ≡ true =

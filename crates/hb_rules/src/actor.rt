@@ -12,7 +12,7 @@ use crate::book::Book;
 use crate::outbox::Outbox;
 use disk_model::Note;
 use hb_wire::Post;
-use std::alloc::{AllocError, Global};
+use std::alloc::{AllocError, AllocFailed, Global};
 use thiserror::Error;
 
 /// Why an actor ended, or was stopped.
@@ -26,6 +26,26 @@ pub enum ActorFault {
     Full,
     #[error("out of memory")]
     Memory,
+}
+
+impl From<AllocError> for ActorFault {
+    ghost use Rattle.hb_rules.specs.declared.actor.ActorFault.TheVariants.{Memory};
+
+    ghost from_gives = { λ _ fault. fault ≡ Memory };
+
+    fn from(_: AllocError) -> ActorFault {
+        ActorFault::Memory
+    }
+}
+
+impl<T: Drop> From<AllocFailed<T>> for ActorFault {
+    ghost use Rattle.hb_rules.specs.declared.actor.ActorFault.TheVariants.{Memory};
+
+    ghost from_gives = { λ _ fault. fault ≡ Memory };
+
+    fn from(_: AllocFailed<T>) -> ActorFault {
+        ActorFault::Memory
+    }
 }
 
 /// A lane or a desk of a correct node: it keeps what it casts in a journal, posts it by its seat of a book, and goes on

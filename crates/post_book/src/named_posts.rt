@@ -1,5 +1,5 @@
 //! What the turn book keeps.
-ghost use Rattle.std.specs.Prelude.{◌≡◌, ◌<◌, true, Err, List, [], ◌∷◌, ◌++◌, All, length, IsOkAnd, IfOk, OnOk, OnErr, slice_get};
+ghost use Rattle.std.specs.Prelude.{◌≡◌, ◌<◌, true, Err, List, [], ◌∷◌, ◌++◌, All, length, IsOkAnd, IfOk, IfSome, OnOk, OnErr, slice_get};
 ghost use Rattle.hb_base.specs.Limits.{most_posts};
 ghost use Rattle.hb_base.specs.NodeSet.{is_in};
 ghost use Rattle.hb_wire.specs.Votes.{Spells};
@@ -61,7 +61,8 @@ impl<J: Naming> NamedPosts<J> {
 
     // Post k, as `Posts::read`.
     pub(crate) fn read(&self, k: u32) -> Result<Option<Post>, AllocError>
-        ensures { IfOk result (λ post. post ≡ slice_get self.now k) }
+        ensures found { IfOk result (λ post. post ≡ slice_get self.now k) }
+        ensures known { IfOk result (λ post. IfSome post (λ p. p.from < J.config.n)) }
     {
         self.posts.read(k)
     }
