@@ -1,7 +1,7 @@
 -- How many lists a ledger has: the votes of its desk that close an epoch, each at its first place.
-use Rattle.std.proofs.Common.{◌≡◌, ℕ, zero, suc, ◌+◌, ◌<◌, ◌≤◌, ◌==◌, ◌&&◌, not, bytes_eq, Bool, true, false, inl, inr, List, [], ◌∷◌, ◌++◌, length, take, slice_index_or, Contains, Option, None, Some, if◌then◌else◌, refl, sym, ap, ◌∙◌, subst, arith, append-nil}
+use Rattle.std.proofs.Common.{◌≡◌, ℕ, zero, suc, ◌+◌, ◌<◌, ◌≤◌, ◌==◌, ◌&&◌, not, bytes_eq, Bool, true, false, inl, inr, List, [], ◌∷◌, ◌++◌, length, take, slice_index_or, Contains, Option, None, Some, if◌then◌else◌, refl, sym, ap, ◌∙◌, arith, append-nil}
 use Rattle.std.specs.Option.{option_and_then, is_some}
-use Rattle.std.specs.List.{list_any, filter_map, flat_map, range_with_len, cons_option, fold}
+use Rattle.std.specs.List.{list_any, filter_map, flat_map, range_with_len, cons_option}
 use Rattle.std.specs.Cmp.Lexicographic.{bytes_decides}
 use Rattle.std.proofs.lemmas.Bool.{cases_lt, both_ways, false_from_ne_true, and_parts, and_from, eqb-true, eq-eqb}
 use Rattle.std.proofs.lemmas.List.{length-append, take_more}
@@ -25,7 +25,7 @@ use Rattle.hb_rules.proofs.Cast.{cast_from, cast_stands}
 use Rattle.hb_rules.proofs.Lists.{list_any-from}
 use Rattle.acs_world.specs.Closed.{closing}
 use Rattle.acs_world.specs.Common.{is_like, is_new}
-use Rattle.acs_world.proofs.Ledgers.{lists_at, firsts_have, firsts_from}
+use Rattle.acs_world.proofs.Ledgers.{firsts_have, firsts_from}
 
 -- ---- lists of epochs from s on
 
@@ -91,7 +91,7 @@ listed_of own = length (lists_in 0 32 (firsts own))
 firsts_more : (own : List Vote) (vote : Vote) → firsts (own ++ vote ∷ []) ≡ with_vote (firsts own) vote
 firsts_more own vote = fold-append with_vote [] own (vote ∷ [])
 
-known_first : (own : List Vote) (vote : Vote) → list_any (same_vote vote) own ≡ list_any (same_vote vote) (firsts own)
+pub known_first : (own : List Vote) (vote : Vote) → list_any (same_vote vote) own ≡ list_any (same_vote vote) (firsts own)
 known_first own vote = by (list_any (same_vote vote) (firsts own)) refl
   where
     by : (b : Bool) → list_any (same_vote vote) (firsts own) ≡ b → list_any (same_vote vote) own ≡ b
@@ -133,7 +133,7 @@ same_bytes c p q v w first second same =
     one.spelled ∙ ap spelling same ∙ sym other.spelled
 
 -- a desk has cast the vote of a post before where a post before it has the same bytes
-like_known : (c : Numbers) (node : ℕ) (before : List Post) (post : Post) (v : Vote) → vote_by c node c.n post ≡ Some v
+pub like_known : (c : Numbers) (node : ℕ) (before : List Post) (post : Post) (v : Vote) → vote_by c node c.n post ≡ Some v
     → list_any (is_like c node post.bytes) before ≡ list_any (same_vote v) (own_in c node c.n before)
 like_known c node before post v casts = by (list_any (same_vote v) (own_in c node c.n before)) refl
   where

@@ -84,11 +84,11 @@ pub list_has : (e : ℕ) (own : List Vote) (list : List Item) → Contains own (
 list_has e own list stands =
     Contains-filter_map (closed_with e) (firsts own) (Closed e list) list (firsts_have own [] (Closed e list) stands) (closing-gives e list)
 
-closing_added : (e : ℕ) (before : List Vote) (v : Vote) → list_any (same_vote v) before ≡ false
+pub closing_added : (e : ℕ) (before : List Vote) (v : Vote) → list_any (same_vote v) before ≡ false
     → filter_map (closed_with e) (with_vote before v) ≡ filter_map (closed_with e) before ++ cons_option (closed_with e v) []
 closing_added e before v new = rw new (filter_map-append (closed_with e) before (v ∷ []))
 
-closing_known : (e : ℕ) (before : List Vote) (v : Vote) → list_any (same_vote v) before ≡ true
+pub closing_known : (e : ℕ) (before : List Vote) (v : Vote) → list_any (same_vote v) before ≡ true
     → filter_map (closed_with e) (with_vote before v) ≡ filter_map (closed_with e) before
 closing_known e before v known = rw known refl
 

@@ -7,3 +7,6 @@ pub mod Exact
 pub mod Items
 pub mod Counting
 pub mod Running
+pub mod Tables
+pub mod Searching
+pub mod Prefixes

@@ -11,6 +11,7 @@ use Rattle.hb_wire.specs.declared.vote.Vote.TheVariants.{Closed}
 use Rattle.hb_wire.specs.declared.post.Post.{Post}
 use Rattle.hb_wire.specs.Votes.{kind_of, epoch_of, Spells}
 use Rattle.hb_wire.specs.Glances.{IsGlance}
+use Rattle.hb_wire.specs.Reading.{vote_at}
 use Rattle.hb_wire.proofs.VoteLemmas.{vote_takes}
 use Rattle.hb_rules.specs.Hearing.{spelled, own_in}
 use Rattle.hb_rules.specs.Lanes.{is_correct}
@@ -39,34 +40,34 @@ pub record IsOfDesk (c : Numbers) (post : Post) : Type 0 where
   pub correct : is_correct c post.from ≡ true
   pub desk : post.actor ≡ c.n
 
-at_desk : (c : Numbers) (post : Post) → IsOfDesk c post → closing_by c post ≡ option_and_then closing (spelled c post)
+pub at_desk : (c : Numbers) (post : Post) → IsOfDesk c post → closing_by c post ≡ option_and_then closing (spelled c post)
 at_desk c post of_desk =
     let right : (is_correct c post.from && (post.actor == c.n)) ≡ true =
     and_from (is_correct c post.from) (post.actor == c.n) of_desk.correct (eq-eqb post.actor c.n of_desk.desk) in
     rw right refl
 
--- a post closes an epoch, as its bytes show
-pub record IsClosing (c : Numbers) (post : Post) (epoch : ℕ) (rest : List ℕ) : Type 0 where
+-- bytes spell a vote that closes an epoch, as they show
+pub record IsRead (c : Numbers) (bytes : List ℕ) (epoch : ℕ) (rest : List ℕ) : Type 0 where
   pub closure : Closure
-  pub closes : closing_by c post ≡ Some closure
+  pub closes : option_and_then closing (vote_at c.n c.version bytes) ≡ Some closure
   pub shown : IsShown closure epoch rest
 
-pub closing_seen : (c : Numbers) (post : Post) (kind epoch : ℕ) (rest : List ℕ) → IsOfDesk c post
-    → IsSomeAnd (spelled c post) (λ vote. IsGlance post.bytes vote kind epoch rest) → kind ≡ 0x12 → IsClosing c post epoch rest
-closing_seen c post kind epoch rest of_desk seen closed = by (spelled c post) refl seen
+pub closing_read : (c : Numbers) (bytes : List ℕ) (kind epoch : ℕ) (rest : List ℕ)
+    → IsSomeAnd (vote_at c.n c.version bytes) (λ vote. IsGlance bytes vote kind epoch rest) → kind ≡ 0x12 → IsRead c bytes epoch rest
+closing_read c bytes kind epoch rest seen closed = by (vote_at c.n c.version bytes) refl seen
   where
-    by : (o : Option Vote) → spelled c post ≡ o → IsSomeAnd o (λ vote. IsGlance post.bytes vote kind epoch rest) → IsClosing c post epoch rest
+    by : (o : Option Vote) → vote_at c.n c.version bytes ≡ o → IsSomeAnd o (λ vote. IsGlance bytes vote kind epoch rest) → IsRead c bytes epoch rest
     by None is seen = absurd seen
     by (Some vote) is seen =
         let found = closed_kind vote (sym seen.kind_is ∙ closed) in
         let closure : Closure = found.0 in
-        let spells : Spells c.n c.version post.bytes vote = vote_takes c.n c.version post.bytes vote is in
-        let front : post.bytes ≡ 0x12 ∷ epoch ∷ rest = seen.parts ∙ ap (λ (k : ℕ). k ∷ epoch ∷ rest) closed in
+        let spells : Spells c.n c.version bytes vote = vote_takes c.n c.version bytes vote is in
+        let front : bytes ≡ 0x12 ∷ epoch ∷ rest = seen.parts ∙ ap (λ (k : ℕ). k ∷ epoch ∷ rest) closed in
         let epoch_is : closure.0 ≡ epoch = ap epoch_of (sym found.1) ∙ sym seen.epoch_is in
         let vote_is : vote ≡ Closed epoch closure.1 = found.1 ∙ ap (λ (e : ℕ). Closed e closure.1) epoch_is in
         record {
           closure = closure;
-          closes = at_desk c post of_desk ∙ ap (λ (o : Option Vote). option_and_then closing o) (is ∙ ap Some found.1);
+          closes = ap (λ (o : Option Vote). option_and_then closing o) (is ∙ ap Some found.1);
           shown = record {
             epoch_is = epoch_is;
             rest_is = record { n = c.n; version = c.version; epoch = epoch; spells = rw (front, vote_is) at spells };

@@ -97,7 +97,7 @@ counted f p s (suc k) i low high passes = elim (cases_lt s i) [
 
 -- ---- running nodes
 
-running_correct : (report : Report) (i : ℕ) → is_running report i ≡ true → IsCorrect report.config i
+pub running_correct : (report : Report) (i : ℕ) → is_running report i ≡ true → IsCorrect report.config i
 running_correct report i runs =
     let parts = and_parts (nat_lt i report.config.n) (not (is_in report.config.liars i) && all_work report.config.n report.ends.items i) runs in
     let inner = and_parts (not (is_in report.config.liars i)) (all_work report.config.n report.ends.items i) parts.1 in

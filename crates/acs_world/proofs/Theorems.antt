@@ -36,16 +36,15 @@ closings_agree c history sound legal premise = record {
 
 -- ---- ledgers
 
-closed_chain : (c : Numbers) (history : List Post) (i : ℕ) → AreSound c → IsLegal c history → NoCollision c history → IsCorrect c i
+closed_chain : (c : Numbers) (history : List Post) (i : ℕ) → ClosingsAgree c history → ClosingsFollow c history → IsCorrect c i
     → IsChain (λ (e : ℕ). lists_at e (own_in c i c.n history))
-closed_chain c history i sound legal premise correct = record { at = at; ends = ends }
+closed_chain c history i agree follow correct = record { at = at; ends = ends }
   where
     at : (e : ℕ) → (lists_at e (own_in c i c.n history) ≡ []) ⊎ ((x : List Item) × (lists_at e (own_in c i c.n history) ≡ x ∷ []))
-    at e = elim (one_list_at e (own_in c i c.n history) (λ list other first second.
-        (closings_agree c history sound legal premise).one e i i list other correct correct first second)) [
-          | inl none ↦ inl none
-          | inr one ↦ inr (one.0, one.2)
-        ]
+    at e = elim (one_list_at e (own_in c i c.n history) (λ list other first second. agree.one e i i list other correct correct first second)) [
+      | inl none ↦ inl none
+      | inr one ↦ inr (one.0, one.2)
+    ]
 
     ends : (e : ℕ) → lists_at e (own_in c i c.n history) ≡ [] → lists_at (suc e) (own_in c i c.n history) ≡ []
     ends e none = elim (at (suc e)) [
@@ -53,23 +52,28 @@ closed_chain c history i sound legal premise correct = record { at = at; ends = 
       | inr one ↦
           let among : Contains (lists_at (suc e) (own_in c i c.n history)) one.0 =
           subst (λ (lists : List (List Item)). Contains lists one.0) (sym one.1) (Contains-first one.0 []) in
-          let before = closing_follows c history i e one.0 legal correct.honest (list_from (suc e) (own_in c i c.n history) one.0 among) in
+          let before = follow.before e i one.0 correct (list_from (suc e) (own_in c i c.n history) one.0 among) in
           let some : Contains (lists_at e (own_in c i c.n history)) before.0 = list_has e (own_in c i c.n history) before.0 before.1 in
           let nothing : Contains [] before.0 = subst (λ (lists : List (List Item)). Contains lists before.0) none some in
           absurd (omega (arith, nothing.1))
     ]
 
-pub ledgers_comparable : (c : Numbers) (history : List Post) → AreSound c → IsLegal c history → NoCollision c history → AreComparable c history
-ledgers_comparable c history sound legal premise i k correct also =
+-- where correct desks close an epoch with one list, and one epoch after the other
+pub comparable_by : (c : Numbers) (history : List Post) → ClosingsAgree c history → ClosingsFollow c history → AreComparable c history
+comparable_by c history agree follow i k correct also =
     chains_comparable (λ (e : ℕ). lists_at e (own_in c i c.n history)) (λ (e : ℕ). lists_at e (own_in c k c.n history)) 0 32
-    (closed_chain c history i sound legal premise correct) (closed_chain c history k sound legal premise also) alike
+    (closed_chain c history i agree follow correct) (closed_chain c history k agree follow also) alike
   where
     first : (e m : ℕ) (x : List Item) → lists_at e (own_in c m c.n history) ≡ x ∷ [] → Contains (own_in c m c.n history) (Closed e x)
     first e m x is =
         list_from e (own_in c m c.n history) x (subst (λ (lists : List (List Item)). Contains lists x) (sym is) (Contains-first x []))
 
     alike : (e : ℕ) (x y : List Item) → lists_at e (own_in c i c.n history) ≡ x ∷ [] → lists_at e (own_in c k c.n history) ≡ y ∷ [] → x ≡ y
-    alike e x y one other = (closings_agree c history sound legal premise).one e i k x y correct also (first e i x one) (first e k y other)
+    alike e x y one other = agree.one e i k x y correct also (first e i x one) (first e k y other)
+
+pub ledgers_comparable : (c : Numbers) (history : List Post) → AreSound c → IsLegal c history → NoCollision c history → AreComparable c history
+ledgers_comparable c history sound legal premise =
+    comparable_by c history (closings_agree c history sound legal premise) (closings_follow c history legal)
 
 pub batches_enough : (c : Numbers) (history : List Post) → AreSound c → IsLegal c history → NoCollision c history → BatchesAreEnough c history
 batches_enough c history sound legal premise i list correct stands =

@@ -2,3 +2,6 @@ pub mod Agreed
 pub mod Backing
 pub mod Closed
 pub mod Common
+pub mod Firsts
+pub mod Lists
+pub mod Prefixes

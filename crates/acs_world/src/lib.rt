@@ -4,12 +4,16 @@
 mod batches;
 mod closings;
 mod common;
+mod comparing;
+mod firsts;
 pub mod laws;
+mod lists;
 mod proposed;
 #[cfg(test)]
 mod tests;
 
 pub use batches::batches_ok;
 pub use common::common_epochs;
+pub use comparing::comparable;
 pub use laws::ledger_laws;
 pub use proposed::unaltered;

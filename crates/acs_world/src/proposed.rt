@@ -1,6 +1,6 @@
 //! Whether closed lists have what desks of correct nodes proposed.
 
-ghost use Rattle.std.specs.Prelude.{◌≡◌, ◌↔◌, List, slice_index_or, Contains, IfSome, IsTrue};
+ghost use Rattle.std.specs.Prelude.{◌≡◌, ◌↔◌, List, slice_index_or, IsTrue};
 ghost use Rattle.std.specs.List.{list_any, list_all};
 ghost use Rattle.hb_wire.specs.declared.items.Item.{Item};
 ghost use Rattle.hb_wire.specs.Glances.{IsClosedRest, HasItemAt};
@@ -10,16 +10,13 @@ ghost use Rattle.hb_rules.specs.Strings.{NoCollision};
 ghost use Rattle.acs_world.specs.Closed.{closing_by, proposes, is_own, is_unaltered};
 
 use crate::closings::{closing_of, count_of};
+use crate::firsts::{first_numbers, place_of, post_at};
 use hb_base::Config;
-use hb_base::limits::{MOST_EPOCHS, MOST_NODES};
 use hb_rules::{Report, is_correct};
 use hb_wire::{Post, VoteView, item, view};
 
-// How many epochs each desk has.
-const EPOCHS: usize = MOST_EPOCHS as usize;
-
-// How many places all desks and epochs have.
-const PLACES: usize = MOST_NODES as usize * EPOCHS;
+// The first byte of a proposal.
+const PROPOSE: u8 = 0x10;
 
 /// Whether what each list with which a correct desk closed an epoch has of a correct node is what the desk of that node
 /// proposed for the epoch (CCS 2016, section 4). It is so for each legal history in which no two hashed strings share a
@@ -36,34 +33,8 @@ pub fn unaltered(report: &Report) -> bool
     // what this call ensures says that the numbers of the run are sound
     let _sound = config.liars();
     let posts = report.history.as_slice();
-    let table = first_proposals(config, posts);
+    let table = first_numbers(config, posts, PROPOSE);
     all_unaltered(config, posts, &table)
-}
-
-// For each desk and epoch the number of the desk's first proposal for the epoch, if there is one. It says where to look
-// first; what is found there is compared.
-fn first_proposals(config: &Config, posts: &[Post]) -> [Option<usize>; PLACES] {
-    let mut table = [None; PLACES];
-    for number in 0..posts.len() {
-        if let Some(place) = proposal_place(config, &posts[number])
-            && place < PLACES
-            && table[place].is_none()
-        {
-            table[place] = Some(number);
-        }
-    }
-    table
-}
-
-// The place of the desk and epoch of a proposal.
-fn proposal_place(config: &Config, post: &Post) -> Option<usize> {
-    if post.actor != config.n() {
-        return None;
-    }
-    match view(config.n(), config.version(), post.bytes.as_slice())? {
-        VoteView::Propose { epoch, .. } => Some(post.from as usize * EPOCHS + epoch as usize),
-        _ => None,
-    }
 }
 
 // Whether each list with which a post closes an epoch has what desks proposed.
@@ -143,25 +114,10 @@ fn is_first(
 ) -> bool
     ensures { IsTrue result → IsTrue (list_any (proposes config.now node epoch value.now) posts.now) }
 {
-    match first_at(posts, table, node, epoch) {
+    match post_at(posts, table, place_of(node, epoch)) {
         None => false,
         Some(post) => proposes(config, post, node, epoch, value),
     }
-}
-
-// The post to which the table leads for a desk and an epoch.
-fn first_at<'a>(posts: &'a [Post], table: &[Option<usize>], node: u8, epoch: u8) -> Option<&'a Post>
-    ensures { IfSome result (λ post. Contains posts.now post.now) }
-{
-    let place = node as usize * EPOCHS + epoch as usize;
-    if place >= table.len() {
-        return None;
-    }
-    let number = table[place]?;
-    if number >= posts.len() {
-        return None;
-    }
-    Some(&posts[number])
 }
 
 // Whether a post of the desk of this node proposes the value for the epoch.

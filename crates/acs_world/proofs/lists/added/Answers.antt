@@ -1,9 +1,8 @@
-use Rattle.std.proofs.Common.{◌≡◌, ℕ, ◌+◌, List, Bool, true, false, length, take, if◌then◌else◌, sym, ap, ◌∙◌}
-use Rattle.hb_wire.specs.declared.post.Post.{Post}
+use Rattle.std.proofs.Common.{◌≡◌, ◌+◌, Bool, true, false, length, take, if◌then◌else◌, sym, ap, ◌∙◌}
 use Rattle.hb_rules.specs.Ledger.{ledger}
 use Rattle.acs_world.specs.Common.{is_new}
 use Rattle.acs_world.proofs.Counting.{count_more}
-use Rattle.acs_world.proofs.common.added.Goals as goal
+use Rattle.acs_world.proofs.lists.added.Goals as goal
 
 pub returns-then-is_new-clause-lists : goal.returns-then-is_new-clause-lists
 returns-then-is_new-clause-lists c =

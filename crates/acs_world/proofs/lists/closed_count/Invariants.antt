@@ -1,6 +1,6 @@
 use Rattle.std.proofs.Common.{◌≡◌, ◌≤◌, length, take}
 use Rattle.hb_rules.specs.Ledger.{ledger}
-use Rattle.acs_world.proofs.common.closed_count.Given as goal
+use Rattle.acs_world.proofs.lists.closed_count.Given as goal
 
 -- the lists of the ledger so far
 abbrev pub invariant-loop-number : goal.invariant-loop-number
