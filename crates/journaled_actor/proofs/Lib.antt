@@ -1,0 +1,11 @@
+pub mod SameRules
+pub mod Firsts
+pub mod Turns
+pub mod Lengths
+pub mod Posted
+pub mod Safe
+pub mod Counts
+pub mod Heard
+pub mod Owing
+pub mod Crashes
+pub mod Payloads

@@ -1,0 +1,59 @@
+-- What an actor owes, by the votes of its journal.
+use Rattle.std.proofs.Common.{◌≡◌, ℕ, inl, inr, List, [], ◌∷◌, ◌++◌, refl, sym, ap, ◌∙◌, subst, arith}
+use Rattle.hb_wire.specs.declared.vote.Vote.{Vote}
+use Rattle.hb_wire.specs.declared.post.Post.{Post}
+use Rattle.hb_rules.specs.Hearing.{Hearing}
+use Rattle.hb_rules.specs.History.{HasSpelling}
+use Rattle.hb_rules.specs.Ledger.{IsPrefix}
+use Rattle.hb_rules.specs.Same.{firsts, AreSame}
+use Rattle.hb_rules.specs.Terms.{Terms, AreVotes, AreProper, AreLawful, AreHeardSpelled, AreAmong, cast_in, heard_all}
+use Rattle.hb_rules.proofs.Lists.{AllByRecursion-append}
+use Rattle.journaled_actor.specs.Kept.{Covers, IsAll, IsOpen}
+use Rattle.journaled_actor.proofs.Firsts.{same_firsts, same_sym}
+use Rattle.journaled_actor.proofs.Turns.{castable_append, proper_append, proper_front, votes_longer}
+
+-- with the votes that are owed they are votes that the actor may keep
+pub owed_votes : (t : Terms) (seen : List Post) (votes : List Vote) (heard : List Hearing) → AreLawful t → AreVotes t seen votes
+    → AreHeardSpelled t.config heard → AreAmong heard (heard_all t seen) → AreVotes t seen (votes ++ t.owed votes heard)
+owed_votes t seen votes heard lawful are spelled among = record {
+  castable = castable_append t (heard_all t seen) [] votes (t.owed votes heard) are.castable
+      (lawful.castable votes heard (heard_all t seen) spelled among are.castable);
+  proper = proper_append t [] votes (t.owed votes heard) are.proper (lawful.proper votes heard);
+  spelled = AllByRecursion-append (HasSpelling t.config) votes (t.owed votes heard) are.spelled (lawful.spelled votes heard spelled);
+  rest = inr (lawful.less (votes ++ t.owed votes heard) heard (lawful.rests votes heard));
+}
+
+-- nothing was heard
+pub none_among : (t : Terms) (seen : List Post) → AreAmong [] (heard_all t seen)
+none_among t seen = record { each = λ h stands. absurd (omega (arith, stands.1)) }
+
+pub open_with : (t : Terms) (seen : List Post) (text : List ℕ) (stands : List Vote → List Hearing → Type 0) (votes : List Vote) (heard : List Hearing)
+    → AreLawful t → IsAll t seen text (votes ++ t.owed votes heard) → stands (votes ++ t.owed votes heard) heard → IsOpen t seen text stands heard
+open_with t seen text stands votes heard lawful all standing = record {
+  votes = votes ++ t.owed votes heard;
+  all = all;
+  holds = standing;
+  idle = lawful.rests votes heard;
+}
+
+-- while others posted, all that the journal has stays cast
+pub all_watched : (t : Terms) (old new : List Post) (text : List ℕ) (votes : List Vote) → IsPrefix old new → cast_in t new ≡ cast_in t old
+    → IsAll t old text votes → IsAll t new text votes
+all_watched t old new text votes prefix same all = record {
+  says = all.says;
+  are = votes_longer t old new votes prefix all.are;
+  complete = ap firsts same ∙ all.complete;
+}
+
+-- nothing is owed by what was cast
+pub owes_nothing : (t : Terms) (seen : List Post) (text : List ℕ) (stands : List Vote → List Hearing → Type 0) (heard : List Hearing)
+    → AreLawful t → IsOpen t seen text stands heard → t.owed (cast_in t seen) heard ≡ []
+owes_nothing t seen text stands heard lawful open_now =
+    let same : AreSame (cast_in t seen) open_now.votes =
+    subst (AreSame (cast_in t seen)) open_now.all.complete (same_sym (firsts (cast_in t seen)) (cast_in t seen) (same_firsts (cast_in t seen))) in
+    lawful.same (cast_in t seen) open_now.votes heard same ∙ open_now.idle
+
+-- what was cast is proper
+pub cast_proper : (t : Terms) (seen : List Post) (votes : List Vote) → Covers t seen votes → AreProper t [] (firsts (cast_in t seen))
+cast_proper t seen votes covers =
+    proper_front t [] (firsts (cast_in t seen)) covers.posted.rest (subst (AreProper t []) covers.posted.is covers.are.proper)

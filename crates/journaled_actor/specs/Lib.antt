@@ -1,0 +1,5 @@
+pub mod Cores
+pub mod Payload
+pub mod Kept
+pub mod Folding
+pub mod Faults

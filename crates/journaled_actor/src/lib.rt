@@ -1,0 +1,7 @@
+//! An actor over its journal: it keeps each vote in the journal before it posts it, and goes on from the journal after a
+//! loss of power. What it has to cast a core says, of a lane or of a desk.
+#![tactic(auto)]
+
+pub mod cores;
+
+pub use cores::Core;
