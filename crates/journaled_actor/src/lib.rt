@@ -3,5 +3,6 @@
 #![tactic(auto)]
 
 pub mod cores;
+mod payload;
 
 pub use cores::Core;
