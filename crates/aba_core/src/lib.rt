@@ -11,8 +11,6 @@ mod noting;
 mod passing;
 mod round;
 mod tables;
-#[cfg(test)]
-mod tests;
 mod voters;
 
 pub use aba::Aba;

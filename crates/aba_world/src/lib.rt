@@ -4,8 +4,6 @@
 mod agreed;
 pub mod laws;
 mod marks;
-#[cfg(test)]
-mod tests;
 
 pub use agreed::decided_agree;
 pub use laws::{agreement_laws, round_laws};

@@ -1,0 +1,172 @@
+//! Every split of inputs among three correct nodes and a liar that says both bits: what is decided when the votes come first
+//! in first out, last in first out, and in orders that are drawn.
+
+ghost use Rattle.std.specs.Prelude.{◌≡◌};
+
+use crate::node::Node;
+use crate::text::{mixed, text_of};
+use crate::world::{CORRECT, Order, ROUNDS, World, config_of, input_of, run};
+use coin_deal::{Deal, deal};
+use hb_base::Config;
+use hb_wire::Vote;
+use std::alloc::{AllocError, Global};
+use std::process::Abort;
+use std::test::Fail;
+
+// So many orders are drawn for each split.
+const DRAWN: u64 = 8;
+
+// The version, and the inputs of nodes 0 to 2 as bits from the lowest; what they have decided where the first envelope comes
+// next, and where the last does: 0, 1, or - where the rounds are spent; how many nodes decide 0, 1 and nothing in the drawn
+// orders; and the FNV-1a sum of all votes of all nodes in these, in their order.
+const ROWS: [(u8, u8, &str, &str, [u32; 3], u64); 16] = [
+    (1, 0, "000", "000", [24, 0, 0], 0x7b55_a871_7a1c_d5d5),
+    (1, 1, "000", "000", [6, 9, 9], 0x25cd_023b_8098_e095),
+    (1, 2, "000", "111", [9, 3, 12], 0x910e_cf6d_91e2_140e),
+    (1, 3, "111", "111", [3, 8, 13], 0x91c0_1e80_0f7a_bec4),
+    (1, 4, "000", "111", [19, 3, 2], 0xe227_4a0a_2017_d18d),
+    (1, 5, "111", "111", [2, 12, 10], 0xa75d_38f4_7658_b657),
+    (1, 6, "111", "111", [7, 9, 8], 0xf23c_0b80_c955_7de9),
+    (1, 7, "111", "111", [0, 24, 0], 0xbd30_a165_09e3_2565),
+    (2, 0, "000", "000", [24, 0, 0], 0x80ea_4767_fde4_3f05),
+    (2, 1, "000", "000", [7, 3, 14], 0x0503_c8a9_d1b6_c36c),
+    (2, 2, "000", "111", [14, 3, 7], 0x059a_1349_76f0_a851),
+    (2, 3, "111", "111", [4, 3, 17], 0x961e_3a29_0a5a_8d8b),
+    (2, 4, "000", "111", [18, 0, 6], 0xf15a_b3ae_b527_da97),
+    (2, 5, "111", "111", [0, 6, 18], 0x54f5_7b79_aa11_5e5c),
+    (2, 6, "111", "111", [0, 15, 9], 0xbe65_2312_ac3c_8533),
+    (2, 7, "111", "111", [0, 24, 0], 0x1358_850e_647e_29f5),
+];
+
+// What came of runs: how many nodes have decided 0, 1 and nothing, and the sum of all votes.
+#[derive(Clone, Copy, Debug, PartialEq, Eq)]
+struct Sums {
+    decided: [u32; 3],
+    votes: u64,
+}
+
+impl Sums {
+    fn new() -> Sums {
+        Sums {
+            decided: [0; 3],
+            votes: 0xcbf2_9ce4_8422_2325,
+        }
+    }
+
+    fn add(&mut self, alloc: Global, nodes: &[Node]) -> Result<(), AllocError> {
+        for node in nodes {
+            let place = match node.decided() {
+                Some(bit) => bit as usize,
+                None => 2,
+            };
+            self.decided[place] = self.decided[place].saturating_add(1);
+            self.votes = mixed(self.votes, &text_of(alloc, node.votes())?);
+        }
+        Ok(())
+    }
+}
+
+fn letter_of(decided: Option<bool>) -> u8 {
+    match decided {
+        Some(true) => b'1',
+        Some(false) => b'0',
+        None => b'-',
+    }
+}
+
+// What each node has decided.
+fn letters_of(alloc: Global, world: &World) -> Result<Vec<u8>, AllocError> {
+    let mut letters = Vec::new(alloc);
+    for node in &world.nodes {
+        letters.push(letter_of(node.decided()))?;
+    }
+    Ok(letters)
+}
+
+// Whether all that is decided is one bit, which is the input of some correct node, and a node that has decided nothing has
+// picked in the last round.
+fn is_sound(world: &World, split: u8) -> bool {
+    let mut found = None;
+    for node in &world.nodes {
+        let is_well = match node.decided() {
+            Some(bit) => is_input(split, bit) && found.replace(bit).unwrap_or(bit) == bit,
+            None => has_spent(node.votes()),
+        };
+        if !is_well {
+            return false;
+        }
+    }
+    true
+}
+
+fn is_input(split: u8, bit: bool) -> bool {
+    (0..CORRECT).any(|number| input_of(split, number) == bit)
+}
+
+fn has_spent(votes: &[Vote]) -> bool {
+    votes.iter().any(is_last_pick)
+}
+
+fn is_last_pick(vote: &Vote) -> bool {
+    match vote {
+        Vote::Pick { round, .. } => *round == ROUNDS - 1,
+        _ => false,
+    }
+}
+
+// What is decided in an order, if all is sound.
+fn outcome(
+    alloc: Global,
+    config: &Config,
+    deal: &Deal,
+    split: u8,
+    order: Order,
+) -> Result<Vec<u8>, Fail>
+    requires { deal.now ≡ config.now }
+{
+    let world = run(alloc, config, deal, split, order)?;
+    if !is_sound(&world, split) {
+        return Err("the agreement is not sound".into());
+    }
+    Ok(letters_of(alloc, &world)?)
+}
+
+// What comes of the drawn orders, if all is sound.
+fn drawn(alloc: Global, config: &Config, deal: &Deal, split: u8) -> Result<Sums, Fail>
+    requires { deal.now ≡ config.now }
+{
+    let mut sums = Sums::new();
+    for k in 0..DRAWN {
+        let order = Order::Drawn(8 * k + split as u64);
+        let world = run(alloc, config, deal, split, order)?;
+        if !is_sound(&world, split) {
+            return Err("the agreement is not sound".into());
+        }
+        sums.add(alloc, &world.nodes)?;
+    }
+    Ok(sums)
+}
+
+#[test]
+fn splits(rt: HostRuntime) -> Result<(), Fail> {
+    let alloc = rt.alloc();
+    for (version, split, want_first, want_last, decided, votes) in ROWS {
+        let config = config_of(version)?;
+        let deal = deal(alloc, &config)?;
+        for (order, want) in [(Order::First, want_first), (Order::Last, want_last)] {
+            let found = outcome(alloc, &config, &deal, split, order)?;
+            assert_eq!(rt;
+                found.as_slice(),
+                want.as_bytes(),
+                "version {version}, split {split}"
+            );
+        }
+        let sums = drawn(alloc, &config, &deal, split)?;
+        assert_eq!(rt;
+            sums,
+            Sums { decided, votes },
+            "version {version}, split {split}"
+        );
+    }
+    Ok(())
+}
