@@ -5,6 +5,8 @@ mod block;
 mod envelope;
 mod line;
 mod queue;
+#[cfg(test)]
+mod tests;
 
 pub use envelope::Envelope;
 pub use line::Line;

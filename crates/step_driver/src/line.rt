@@ -1,7 +1,7 @@
 //! The envelopes that wait, and in which order they are taken.
 
-ghost use Rattle.std.specs.Prelude.{◌≡◌, ◌+◌, ◌^◌, ◌<◌, [], length, IfSome, IfNone, OnOk, OnErr, is_some, if◌then◌else◌};
-ghost use Rattle.step_driver.specs.Waiting.{nothing_waits, with_envelope, next_place, next_of, after_next, words_after, count_waiting};
+ghost use Rattle.std.specs.Prelude.{◌≡◌, ◌+◌, ◌^◌, ◌<◌, ◌≤◌, OnOk, is_some, if◌then◌else◌};
+ghost use Rattle.step_driver.specs.Waiting.{nothing_waits, with_envelope, next_place, next_of, after_next, words_after};
 
 use crate::envelope::Envelope;
 use crate::queue::Queue;
@@ -62,6 +62,7 @@ impl Line {
         ensures taken { result ≡ next_of order words.old self.old }
         ensures rest { self.new ≡ after_next order words.old self.old }
         ensures words { words.new ≡ (if is_some result then words_after order words.old else words.old) }
+        ensures few { words.new.word_pos ≤ words.old.word_pos + 1 }
     {
         if self.prompt.len() > 0 {
             let place = place_of(order, words, self.prompt.len());
@@ -81,6 +82,7 @@ fn place_of(order: Order, words: &mut ChaCha20Rng, count: usize) -> usize
     requires some { 0 < count }
     ensures place { result ≡ next_place order words.old count }
     ensures words { words.new ≡ words_after order words.old }
+    ensures few { words.new.word_pos ≤ words.old.word_pos + 1 }
     ensures within { result < count }
 {
     match order {
