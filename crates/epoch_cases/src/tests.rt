@@ -1,0 +1,133 @@
+//! What a desk casts in whole runs, from nothing and from what it has cast before.
+ghost use Rattle.std.specs.Prelude.{◌≡◌, IfOk, OnOk};
+ghost use Rattle.epoch_core.specs.Epochs.{has_started};
+
+use crate::cases::{CASES, Case};
+use crate::texts::{push_votes, said, votes_of};
+use epoch_core::Epochs;
+use hb_base::{Config, NodeSet};
+use hb_rules::Due;
+use hb_wire::Vote;
+use std::alloc::{AllocError, Global};
+use std::test::Fail;
+use tx_pool::Pool;
+
+// A pool to which one-letter transactions were submitted.
+fn pool_of(alloc: Global, letters: &str) -> Result<Pool, AllocError> {
+    let mut pool = Pool::new(alloc);
+    for letter in letters.as_bytes() {
+        pool.submit(&[*letter])?;
+    }
+    Ok(pool)
+}
+
+// A desk that has cast these votes, and what it casts at first.
+fn started(
+    alloc: Global,
+    config: &Config,
+    submitted: &str,
+    own: &[Vote],
+    text: &mut Vec<u8>,
+) -> Result<Epochs, Fail>
+    ensures config { IfOk result (λ desk. desk.config ≡ config.now) }
+    ensures started { IfOk result (λ desk. has_started desk) }
+{
+    let pool = pool_of(alloc, submitted)?;
+    let mut desk = Epochs::rebuild(alloc, config, 0, pool, own)?;
+    let mut due = Due::new(alloc);
+    desk.start(&mut due)?;
+    push_votes(text, due.votes())?;
+    Ok(desk)
+}
+
+// A desk hears what a lane says, and casts votes.
+fn hear(alloc: Global, desk: &mut Epochs, n: u8, word: &str, text: &mut Vec<u8>) -> Result<(), Fail>
+    requires nodes { desk.old.config.n ≡ n }
+    requires started { has_started desk.old }
+    ensures nodes { OnOk result (desk.new.config.n ≡ n) }
+    ensures started { OnOk result (has_started desk.new) }
+{
+    let (lane, vote) = said(alloc, word.as_bytes())?;
+    if lane >= n {
+        return Err("no lane".into());
+    }
+    let mut due = Due::new(alloc);
+    desk.hear(alloc, lane, &vote, &mut due)?;
+    text.push(b' ')?;
+    push_votes(text, due.votes())?;
+    Ok(())
+}
+
+// What a desk that has cast these votes casts in the run of a case.
+fn outcome(alloc: Global, case: &Case, own: &[Vote]) -> Result<Vec<u8>, Fail> {
+    let config = Config::new(
+        case.nodes,
+        case.faulty,
+        3,
+        1,
+        case.batch,
+        0,
+        1,
+        NodeSet::new(),
+    )
+    .ok_or("no config")?;
+    let mut text = Vec::new(alloc);
+    let mut desk = started(alloc, &config, case.submitted, own, &mut text)?;
+    for word in case.script.split(' ') {
+        hear(alloc, &mut desk, case.nodes, word, &mut text)?;
+    }
+    Ok(text)
+}
+
+#[test]
+fn runs(rt: HostRuntime) -> Result<(), Fail> {
+    let alloc = rt.alloc();
+    for case in CASES {
+        let own = votes_of(alloc, case.own)?;
+        let text = outcome(alloc, &case, &own)?;
+        assert!(rt;
+            text.as_slice() == case.wanted.as_bytes(),
+            "the run {}",
+            case.script
+        );
+    }
+    Ok(())
+}
+
+// The votes that a desk has cast after so many answers, and what it casts if it hears all again: nothing so many times, and
+// then what it cast before.
+fn again(alloc: Global, case: &Case, answers: usize) -> Result<(Vec<Vote>, Vec<u8>), Fail> {
+    let mut votes = votes_of(alloc, case.own)?;
+    let mut text = Vec::new(alloc);
+    let mut count = 0usize;
+    for answer in case.wanted.split(' ') {
+        if count > 0 {
+            text.push(b' ')?;
+        }
+        if count < answers {
+            votes.append(&mut votes_of(alloc, answer)?)?;
+            text.push(b'.')?;
+        } else {
+            text.extend_from_slice(answer.as_bytes())?;
+        }
+        count = count.saturating_add(1);
+    }
+    Ok((votes, text))
+}
+
+#[test]
+fn rebuilt_after_each_call(rt: HostRuntime) -> Result<(), Fail> {
+    let alloc = rt.alloc();
+    for case in CASES {
+        for answers in 0..case.wanted.split(' ').count() {
+            let (own, wanted) = again(alloc, &case, answers.saturating_add(1))?;
+            let text = outcome(alloc, &case, &own)?;
+            assert!(rt;
+                text.as_slice() == wanted.as_slice(),
+                "{} after {answers} answers",
+                case.script
+            );
+        }
+    }
+    Ok(())
+}
