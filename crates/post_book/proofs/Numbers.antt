@@ -47,7 +47,7 @@ module _ (c : Numbers) (i x : ℕ) (place : IsPlace c i x) where
       let parts = and_parts (post.from == i) (is_in c.liars i || (post.actor == x)) mine in
       rw (eqb-true post.from i parts.0) (by_its_seat (is_in c.liars i) i x post.actor place.small place.liar parts.1)
 
-  mine_names : (post : Post) → post_number c post ≡ seat_number i x → is_mine c i x post ≡ true
+  pub mine_names : (post : Post) → post_number c post ≡ seat_number i x → is_mine c i x post ≡ true
   mine_names post is =
       let by = by_number (is_in c.liars post.from) i x post.from post.actor place.small is in
       and_from (post.from == i) (is_in c.liars i || (post.actor == x)) (eq-eqb post.from i by.node)

@@ -1,11 +1,8 @@
 -- The seats of a shared book as their callers see them.
-use Rattle.std.specs.Prelude.{◌≡◌, ℕ, List, Contains}
+use Rattle.std.specs.Prelude.{ℕ, List, Contains}
 use Rattle.atomic_table.specs.Seated.{TableId}
 use Rattle.hb_wire.specs.declared.post.Post.{Post}
-use Rattle.hb_wire.specs.declared.vote.Vote.{Vote}
-use Rattle.hb_wire.specs.Votes.{Spells, spelling}
 use Rattle.hb_rules.specs.Book.{SeatView}
-use Rattle.hb_rules.specs.History.{IsAllowed}
 
 -- a seat of an actor: which book it is of, how often it was shown the whole history, and what it knows
 pub record SharedView : Type 0 where
@@ -24,9 +21,3 @@ pub record FirstView : Type 0 where
 -- each seat that was made was joined
 abbrev pub AllJoined : FirstView → Type 0
 AllJoined first = (number : ℕ) → Contains first.given number → (posts : List Post) × Contains first.joined (number, posts)
-
--- a seat of this book that may post this vote, which has a spelling
-pub record MayPost (name : TableId) (vote : Vote) (s : SharedView) : Type 0 where
-  pub book : s.book ≡ name
-  pub spelled : Spells s.seat.config.n s.seat.config.version (spelling vote) vote
-  pub allowed : IsAllowed s.seat.config s.seat.node s.seat.actor s.seat.seen vote

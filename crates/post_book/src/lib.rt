@@ -10,7 +10,6 @@ mod book;
 mod first_seat;
 mod named_posts;
 mod naming;
-mod pair;
 mod seat;
 mod shared_book;
 

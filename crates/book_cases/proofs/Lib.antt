@@ -1,0 +1,2 @@
+pub mod Seatings
+pub mod Postings
