@@ -1,0 +1,4 @@
+pub mod Owing
+pub mod Keeping
+pub mod Standing
+pub mod Pooling

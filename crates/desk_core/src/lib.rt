@@ -1,0 +1,9 @@
+//! The core of a desk (CCS 2016, figures 3 and 4): what an actor over its journal asks of a desk, by its state of all
+//! epochs.
+#![tactic(auto)]
+
+mod desk;
+#[cfg(test)]
+mod tests;
+
+pub use desk::DeskCore;
