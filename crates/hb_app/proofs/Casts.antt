@@ -1,6 +1,5 @@
 -- An actor casts votes one after another.
-use Rattle.std.proofs.Common.{◌≡◌, ◌≢◌, ℕ, ◌+◌, ◌<◌, ◌≤◌, Bool, true, false, ◌&&◌, ◌==◌, inl, inr, List, [], ◌∷◌, ◌++◌, length, take, drop, get_or, Some, Contains, refl, sym, ap, ◌∙◌, subst, append_assoc, append-nil, add-one, drop-cons, suc, arith}
-use Rattle.std.specs.List.{filter_map}
+use Rattle.std.proofs.Common.{◌≡◌, ℕ, ◌+◌, ◌<◌, ◌≤◌, true, false, ◌&&◌, ◌==◌, inl, inr, List, [], ◌∷◌, ◌++◌, length, take, drop, get_or, Some, Contains, refl, sym, ap, ◌∙◌, subst, append_assoc, append-nil, add-one, drop-cons, suc, arith}
 use Rattle.std.proofs.lemmas.Bool.{cases_Bool, eqb-true, eq-eqb, and_parts}
 use Rattle.std.proofs.lemmas.List.{take_more}
 use Rattle.std.proofs.lemmas.List.Elements.{filter_map-append, Contains-push}
@@ -59,6 +58,10 @@ AreNewAfter-push before (w ∷ votes) v new fresh = (new.0, AreNewAfter-push (be
 both : (a i y x : ℕ) → (a == i) ≡ true → (y == x) ≡ true → ((a == i) && (y == x)) ≡ true
 both a i y x p q = rw (p, q) refl
 
+-- actors of which one is not the other
+pub AreTwo-apart : (c : Numbers) (i x a y : ℕ) → is_in c.liars i ≡ false → ((a == i) && (y == x)) ≡ false → AreTwo c i x a y
+AreTwo-apart c i x a y honest other node = (honest, λ actor. absurd (cc (sym other ∙ both a i y x (eq-eqb a i node) (eq-eqb y x actor))))
+
 -- one new vote of one actor more
 NoVoteTwice-push : (c : Numbers) (i x : ℕ) (old new : List Post) (v : Vote) → is_in c.liars i ≡ false → NoVoteTwice c old → Extended c i x old new
     → own_in c i x new ≡ own_in c i x old ++ v ∷ [] → (Contains (own_in c i x old) v → ⊥) → NoVoteTwice c new
@@ -67,8 +70,7 @@ NoVoteTwice-push c i x old new v honest once extended own fresh a y = elim (case
       let parts = and_parts (a == i) (y == x) same in
       rw (eqb-true a i parts.0, eqb-true y x parts.1) (rw own (AreNewAfter-push [] (own_in c i x old) v (once i x) fresh))
   | inr other ↦
-      let apart : AreTwo c i x a y = λ p. (honest, λ q. absurd (cc (sym other ∙ both a i y x (eq-eqb a i p) (eq-eqb y x q)))) in
-      rw (own-others c i x a y old new extended apart) (once a y)
+      rw (own-others c i x a y old new extended (AreTwo-apart c i x a y honest other)) (once a y)
 ]
 
 -- ---- casting

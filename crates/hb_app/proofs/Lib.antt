@@ -2,11 +2,14 @@ pub mod Alive
 pub mod Answers
 pub mod Casts
 pub mod Deliveries
+pub mod OnlyBroadcast
+pub mod Places
 pub mod Prints
 pub mod Quiet
 pub mod Rebuilt
 pub mod Receiving
 pub mod Reports
+pub mod Rising
 pub mod Runs
 pub mod Scenarios
 pub mod Sent

@@ -1,5 +1,5 @@
 -- What a run has come to when all is delivered.
-use Rattle.std.proofs.Common.{◌≡◌, ◌≢◌, ℕ, zero, suc, ◌<◌, ◌≤◌, Bool, true, false, ◌==◌, ◌&&◌, not, inl, inr, List, [], ◌∷◌, ◌++◌, length, map, replicate, Contains, Some, refl, sym, ap, ◌∙◌, subst, arith, slice_get, if◌then◌else◌, append-nil}
+use Rattle.std.proofs.Common.{◌≡◌, ◌≢◌, ℕ, zero, suc, ◌≤◌, Bool, true, false, ◌==◌, ◌&&◌, not, inl, inr, List, [], ◌∷◌, length, map, replicate, Contains, Some, refl, sym, ap, ◌∙◌, subst, arith, slice_get, if◌then◌else◌}
 use Rattle.std.specs.List.{list_any}
 use Rattle.std.proofs.lemmas.Bool.{cases_Bool, eqb-true, eq-eqb, lt-ltb, le-ltb}
 use Rattle.std.proofs.lemmas.Option.{slice_get_within, slice_get-get_or}
@@ -8,7 +8,7 @@ use Rattle.hb_base.specs.Limits.{longest_value}
 use Rattle.hb_base.specs.Numbers.{Numbers, AreSound}
 use Rattle.hb_base.specs.NodeSet.{is_in}
 use Rattle.hb_wire.specs.declared.vote.Vote.{Vote}
-use Rattle.hb_wire.specs.declared.vote.Vote.TheVariants.{Propose, Delivered}
+use Rattle.hb_wire.specs.declared.vote.Vote.TheVariants.{Propose}
 use Rattle.hb_wire.specs.declared.post.Post.{Post}
 use Rattle.hb_wire.specs.Addresses.{reaches}
 use Rattle.net_script.specs.declared.script.Link.{Link}
@@ -19,10 +19,9 @@ use Rattle.hb_rules.specs.declared.report.Fate.TheVariants.{Running}
 use Rattle.hb_rules.specs.declared.report.End.{End}
 use Rattle.hb_rules.specs.declared.report.Report.{Report}
 use Rattle.hb_rules.specs.Claims.{is_any_proposal}
-use Rattle.hb_rules.specs.Hearing.{Hearing, own_in, heard_in, heard_of}
-use Rattle.hb_rules.specs.Rules.{MayCast}
+use Rattle.hb_rules.specs.Hearing.{Hearing, own_in, heard_of}
 use Rattle.hb_rules.specs.History.{IsLegal}
-use Rattle.hb_rules.specs.Slots.{Slot, IsIdle}
+use Rattle.hb_rules.specs.Slots.{IsIdle}
 use Rattle.hb_rules.specs.Owing.{broadcast_slots}
 use Rattle.hb_rules.specs.Report.{submitted_at, is_drop, comes_to}
 use Rattle.rbc_core.specs.Broadcast.{Place}

@@ -1,12 +1,12 @@
 -- An actor receives one post more.
-use Rattle.std.proofs.Common.{◌≡◌, ◌≢◌, ℕ, zero, suc, ◌+◌, ◌<◌, ◌≤◌, Bool, true, false, ◌&&◌, ◌==◌, nat_lt, inl, inr, List, [], ◌∷◌, ◌++◌, length, Contains, Option, None, Some, if◌then◌else◌, refl, sym, ap, ◌∙◌, subst, append-nil, append_assoc, arith, slice_get, length-append, Result, Ok, Err, OnOk, OnErr}
+use Rattle.std.proofs.Common.{◌≡◌, ◌≢◌, ℕ, ◌+◌, ◌<◌, Bool, true, false, ◌&&◌, ◌==◌, inl, inr, List, [], ◌∷◌, ◌++◌, length, Contains, Option, None, Some, if◌then◌else◌, refl, sym, ap, ◌∙◌, subst, append-nil, arith, slice_get, length-append, Result, Ok, Err, OnOk, OnErr}
 use Rattle.std.specs.Prelude.{IsOk}
-use Rattle.std.specs.List.{list_any, filter_map, cons_option, AllByRecursion}
+use Rattle.std.specs.List.{list_any, list_all, filter_map, cons_option, AllByRecursion}
 use Rattle.std.specs.Option.{option_to_list}
-use Rattle.std.proofs.lemmas.Bool.{eqb-true, eq-eqb, and_parts, or_left, false_from_ne_true}
+use Rattle.std.proofs.lemmas.Bool.{eqb-true, eq-eqb, or_left, false_from_ne_true}
 use Rattle.std.proofs.lemmas.List.Elements.{filter_map-append, Contains-append_left, Contains-append_right, Contains-push, Contains-push_cases}
 use Rattle.std.proofs.lemmas.List.Folds.{list_any-append}
-use Rattle.std.proofs.lemmas.Option.{slice_get_within, get_or_from_slice_get}
+use Rattle.std.proofs.lemmas.Option.{slice_get_within}
 use Rattle.hb_base.specs.Numbers.{Numbers, AreSound}
 use Rattle.hb_base.specs.NodeSet.{is_in}
 use Rattle.hb_wire.specs.declared.vote.Vote.{Vote}
@@ -17,11 +17,11 @@ use Rattle.hb_wire.specs.Addresses.{reaches}
 use Rattle.hb_wire.proofs.VoteLemmas.{vote_takes}
 use Rattle.hb_rules.specs.Claims.{is_any_proposal, is_val_to, is_any_echo, is_any_ready, is_any_delivery}
 use Rattle.hb_rules.specs.Hearing.{Hearing, hearing, heeds, is_within, spelled, name_at, hearing_at, hearing_of, own_in, heard_in, heard_of}
-use Rattle.hb_rules.specs.Parts.{part_of}
+use Rattle.hb_rules.specs.Parts.{part_of, in_broadcast, heard_in_broadcast}
 use Rattle.hb_rules.specs.Turns.{InTurn}
-use Rattle.hb_rules.specs.Slots.{pass}
+use Rattle.hb_rules.specs.Slots.{IsPart, pass}
 use Rattle.hb_rules.specs.Broadcast.{MayBroadcast}
-use Rattle.hb_rules.specs.Rules.{MayInPart, MayCast}
+use Rattle.hb_rules.specs.Rules.{MayInPart}
 use Rattle.hb_rules.specs.History.{HasSpelling, IsLegal}
 use Rattle.hb_rules.specs.Owing.{broadcast_slots}
 use Rattle.hb_rules.specs.Terms.{AreSpelled, AreHeardSpelled, AreAmong}
@@ -30,16 +30,18 @@ use Rattle.hb_rules.specs.declared.report.Fate.TheVariants.{Running, Journal, Fu
 use Rattle.hb_rules.specs.Book.{BookView, SeatView, mine_in, IsSeatOf, Moved}
 use Rattle.hb_rules.specs.BookLaws.{Moved-refl}
 use Rattle.hb_rules.proofs.Lists.{IsSource, source_of, Contains-filter_map, some_if, list_any-from}
+use Rattle.hb_rules.proofs.BroadcastParts.{slots_hold, broadcast-parts}
 use Rattle.hb_rules.proofs.BroadcastSlots.{broadcast_in_turn, broadcast_spelled}
+use Rattle.hb_rules.proofs.Within.{pass-made}
 use Rattle.hb_rules.proofs.Seats.{own_in-watched}
 use Rattle.rbc_core.specs.Broadcast.{Place, RbcView, place_of, slots_at, IsShort, Stands}
 use Rattle.hb_rules.proofs.Addressed.{legal_induction}
 use Rattle.hb_app.specs.declared.member.Core.{Core}
 use Rattle.hb_app.specs.declared.member.Core.TheVariants.{Lane, Desk}
 use Rattle.hb_app.specs.declared.member.Member.{Member}
-use Rattle.hb_app.specs.Quiet.{NoVoteTwice}
 use Rattle.hb_app.specs.Casting.{IsCastable, HasCastFront}
 use Rattle.hb_app.specs.Member.{IsReady, IsFull, IsReached, IsSeated, IsReadyAfter, IsMember, MayHear, HearsIn, Acts}
+use Rattle.hb_app.proofs.Places.{contains_at, slice_get-front}
 
 -- ---- what is heard of a post
 
@@ -82,16 +84,13 @@ heard_of-push c i x posts got k post stands =
     one None is = rw is refl
     one (Some h) is = rw is refl
 
-pub contains_got : (posts : List Post) (k : ℕ) (post : Post) → slice_get posts k ≡ Some post → Contains posts post
-contains_got posts k post is = (k, slice_get_within posts k post is, get_or_from_slice_get posts k post post is)
-
 -- what an actor received is among what it may hear
 pub AreAmong-received : (c : Numbers) (i x : ℕ) (posts : List Post) (got : List ℕ) → AreAmong (heard_of c i x posts got) (heard_in c i x posts)
 AreAmong-received c i x posts got = record {
   each = λ h stands.
       let heard : IsSource (hearing_of c i x) (filter_map (slice_get posts) got) h = source_of (hearing_of c i x) (filter_map (slice_get posts) got) h stands in
       let number : IsSource (slice_get posts) got heard.element = source_of (slice_get posts) got heard.element heard.stands in
-      Contains-filter_map (hearing_of c i x) posts heard.element h (contains_got posts number.element heard.element number.gives) heard.gives;
+      Contains-filter_map (hearing_of c i x) posts heard.element h (contains_at posts number.element heard.element number.gives) heard.gives;
 }
 
 -- ---- what a core may hear
@@ -119,7 +118,7 @@ MayHear-post c i x k posts post own before core None legal stands ready is = tt
 MayHear-post c i x k posts post own before Desk (Some h) legal stands ready is = tt
 MayHear-post c i x k posts post own before (Lane r) (Some h) legal stands ready is =
     let here : IsHeardOf c x post h = heard_of_post c i x post h (sym is) in
-    let known : post.from < c.n = legal_known c posts legal post (contains_got posts k post stands) in
+    let known : post.from < c.n = legal_known c posts legal post (contains_at posts k post stands) in
     let other : (x == c.n) ≡ false = false_from_ne_true (x == c.n) (λ same. omega (arith, eqb-true x c.n same, ready.0)) in
     let from : h.from ≡ post.from = here.from ∙ ap (λ (b : Bool). if b then post.actor else post.from) other in
     (omega (arith, known, from, ap (λ (p : Place). p.config.n) ready.1), IsShort-vote c.n c.version h.vote here.fits)
@@ -161,6 +160,12 @@ castable_in_turn c i x all own (v ∷ votes) lane turn fit = (
   castable_in_turn c i x all (own ++ v ∷ []) votes lane turn.1 fit.1,
 )
 
+-- what a lane's core makes due is what the lane owes
+owed_due : (c : Numbers) (i x : ℕ) (own : List Vote) (before : List Hearing) (h : Hearing) (due : List Vote) (r r' : RbcView) → IsReady c i x own before (Lane r)
+    → HearsIn (Some h) due (Lane r) (Lane r') → pass (broadcast_slots c i x 0) own (before ++ h ∷ []) ≡ due
+owed_due c i x own before h due r r' ready hears =
+    ap (λ (p : Place). pass (slots_at p) own (before ++ h ∷ [])) (sym ready.1) ∙ hears.gives own before ready.2 ∙ sym hears.due
+
 -- what a core makes due may be cast in turn
 pub castable_due : (c : Numbers) (i x : ℕ) (own : List Vote) (before all : List Hearing) (heard : Option Hearing) (due : List Vote) (old new : Core) → AreSound c
     → AreAmong (before ++ option_to_list heard) all → AreHeardSpelled c (before ++ option_to_list heard) → IsReady c i x own before old → HearsIn heard due old new
@@ -168,9 +173,7 @@ pub castable_due : (c : Numbers) (i x : ℕ) (own : List Vote) (before all : Lis
 castable_due c i x own before all None due old new sound among fit ready hears =
     subst (λ (votes : List Vote). InTurn (IsCastable c i x all) own votes) (sym hears.0) tt
 castable_due c i x own before all (Some h) due (Lane r) (Lane r') sound among fit ready hears =
-    let owed : pass (broadcast_slots c i x 0) own (before ++ h ∷ []) ≡ due =
-    ap (λ (p : Place). pass (slots_at p) own (before ++ h ∷ [])) (sym ready.1) ∙ hears.gives own before ready.2 ∙ sym hears.due in
-    subst (λ (votes : List Vote). InTurn (IsCastable c i x all) own votes) owed
+    subst (λ (votes : List Vote). InTurn (IsCastable c i x all) own votes) (owed_due c i x own before h due r r' ready hears)
     (castable_in_turn c i x all own (pass (broadcast_slots c i x 0) own (before ++ h ∷ [])) ready.0
     (broadcast_in_turn c sound i x 0 own (before ++ h ∷ []) all fit among) (broadcast_spelled c sound i x 0 own (before ++ h ∷ []) fit))
 castable_due c i x own before all (Some h) due (Lane r) Desk sound among fit ready hears = absurd hears
@@ -196,6 +199,18 @@ ready_due c i x own before (Some h) due Desk (Lane r') ready hears = absurd hear
 ready_due c i x own before (Some h) due Desk Desk ready hears =
     (ready.0, list_any-append (is_any_proposal 0) own due ∙ or_left (list_any (is_any_proposal 0) own) (list_any (is_any_proposal 0) due) ready.1)
 
+-- what a core makes due is of the broadcast
+due_part : (c : Numbers) (i x : ℕ) (own : List Vote) (before : List Hearing) (heard : Option Hearing) (due : List Vote) (old new : Core)
+    → IsReady c i x own before old → HearsIn heard due old new → list_all (in_broadcast 0) due ≡ true
+due_part c i x own before None due old new ready hears = ap (list_all (in_broadcast 0)) hears.0
+due_part c i x own before (Some h) due (Lane r) (Lane r') ready hears =
+    ap (list_all (in_broadcast 0)) (sym (owed_due c i x own before h due r r' ready hears))
+    ∙ pass-made (in_broadcast 0) (heard_in_broadcast 0) (in_broadcast 0) (broadcast_slots c i x 0)
+    (slots_hold (λ e slot. IsPart (in_broadcast e) (heard_in_broadcast e) (in_broadcast e) slot) c i x 0 (broadcast-parts c i x)) own (before ++ h ∷ [])
+due_part c i x own before (Some h) due (Lane r) Desk ready hears = absurd hears
+due_part c i x own before (Some h) due Desk (Lane r') ready hears = absurd hears
+due_part c i x own before (Some h) due Desk Desk ready hears = ap (list_all (in_broadcast 0)) hears
+
 -- a desk makes nothing due
 pub desk_due : (c : Numbers) (i x : ℕ) (own : List Vote) (before : List Hearing) (heard : Option Hearing) (due : List Vote) (old new : Core) → x ≡ c.n
     → IsReady c i x own before old → HearsIn heard due old new → due ≡ []
@@ -205,11 +220,6 @@ desk_due c i x own before (Some h) due Desk (Lane r') desk ready hears = absurd 
 desk_due c i x own before (Some h) due Desk Desk desk ready hears = hears
 
 -- ---- histories that go on
-
-pub slice_get-front : {A : Type 0} (xs ys : List A) (k : ℕ) → k < length xs → slice_get (xs ++ ys) k ≡ slice_get xs k
-slice_get-front [] ys k within = absurd (omega (arith, within))
-slice_get-front (x ∷ xs) ys zero within = refl
-slice_get-front (x ∷ xs) ys (suc k) within = slice_get-front xs ys k (omega (arith, within))
 
 -- what was received stays the same while actors post
 pub heard_of-more : (c : Numbers) (i x : ℕ) (posts added : List Post) (got : List ℕ) → ((k : ℕ) → Contains got k → k < length posts) → heard_of c i x (posts ++ added) got ≡ heard_of c i x posts got
@@ -260,6 +270,7 @@ Acts-refl book old new node actor = record {
   actor = actor;
   moved = Moved-refl old.node old.actor book;
   once = λ once. once;
+  lanes = λ lanes. lanes;
   desk = λ _. refl;
 }
 
@@ -271,6 +282,7 @@ IsSeated-same c posts old new seated node actor seat got = record {
   seat = subst (λ (s : SeatView). IsSeatOf (record { config = c; posts = posts }) s) (sym seat) seated.seat;
   node = ap (λ (s : SeatView). s.node) seat ∙ seated.node ∙ sym node;
   actor = ap (λ (s : SeatView). s.actor) seat ∙ seated.actor ∙ sym actor;
+  kind = λ lane. actor ∙ seated.kind (λ desk. lane (actor ∙ desk));
   got = λ k stands. rw (node, actor) (seated.got k (subst (λ (ks : List ℕ). Contains ks k) got stands));
 }
 
@@ -283,6 +295,7 @@ IsSeated-after book book' k old new seated reached moved node actor seat seat_no
   seat = seat;
   node = seat_node ∙ seated.node ∙ sym node;
   actor = seat_actor ∙ seated.actor ∙ sym actor;
+  kind = λ lane. actor ∙ seated.kind (λ desk. lane (actor ∙ desk ∙ sym (ap (λ (c : Numbers). c.n) moved.config)));
   got = λ j stands. rw (node, actor) (IsReached-moved book book' old.node old.actor old.node old.actor j moved
       (received_after book.config book.posts old.node old.actor old.got.items new.got.items k seated.got reached got j stands));
 }
@@ -296,6 +309,7 @@ IsMember-moved book book' i x m moved own seat member = record {
     seat = seat;
     node = member.seated.node;
     actor = member.seated.actor;
+    kind = λ lane. member.seated.kind (λ desk. lane (desk ∙ sym (ap (λ (c : Numbers). c.n) moved.config)));
     got = λ j stands. IsReached-moved book book' m.node m.actor i x j moved (member.seated.got j stands);
   };
   ready = λ running. IsReady-moved book book' i x m.node m.actor (own_in book.config m.node m.actor book.posts) m.got.items m.core moved own member.seated.got (member.ready running);
@@ -313,15 +327,15 @@ own_none c i x posts none = own_in-watched c i x [] posts (record { between = po
 nothing_got : (c : Numbers) (posts : List Post) (m : Member) → m.got.items ≡ [] → (k : ℕ) → Contains m.got.items k → IsReached c posts m.node m.actor k
 nothing_got c posts m none k stands = let found : Contains [] k = subst (λ (ks : List ℕ). Contains ks k) none stands in absurd (omega (arith, found.1))
 
--- a lane that has posted nothing and received nothing
+-- lane 0 of a node, which has posted nothing and received nothing
 pub IsMember-lane : (c : Numbers) (posts : List Post) (m : Member) (r : RbcView) → is_in c.liars m.node ≡ false → IsSeatOf (record { config = c; posts = posts }) m.seat
-    → m.seat.node ≡ m.node → m.seat.actor ≡ m.actor → mine_in c m.node m.actor posts ≡ [] → m.actor < c.n → m.core ≡ Lane r
+    → m.seat.node ≡ m.node → m.seat.actor ≡ m.actor → mine_in c m.node m.actor posts ≡ [] → m.actor ≡ 0 → m.actor < c.n → m.core ≡ Lane r
     → place_of r ≡ record { config = c; node = m.node; lane = m.actor; epoch = 0 } → Stands r [] [] → m.got.items ≡ [] → m.fate ≡ Running → IsMember c posts m
-IsMember-lane c posts m r honest seat node actor fresh lane core place stands got running =
+IsMember-lane c posts m r honest seat node actor fresh first lane core place stands got running =
     let own : own_in c m.node m.actor posts ≡ [] = own_none c m.node m.actor posts fresh in
     let heard : heard_of c m.node m.actor posts m.got.items ≡ [] = ap (heard_of c m.node m.actor posts) got in
     record {
-      seated = record { honest = honest; seat = seat; node = node; actor = actor; got = nothing_got c posts m got };
+      seated = record { honest = honest; seat = seat; node = node; actor = actor; kind = λ _. first; got = nothing_got c posts m got };
       ready = λ _.
           subst (λ (here : Core). IsReady c m.node m.actor (own_in c m.node m.actor posts) (heard_of c m.node m.actor posts m.got.items) here) (sym core) (
             lane,
@@ -338,7 +352,7 @@ pub IsMember-desk : (c : Numbers) (posts : List Post) (m : Member) (value : List
     → m.seat.node ≡ m.node → m.seat.actor ≡ m.actor → m.actor ≡ c.n → m.core ≡ Desk → (m.fate ≡ Running → own_in c m.node m.actor posts ≡ Propose 0 value ∷ [])
     → m.got.items ≡ [] → m.fate ≢ Journal → (m.fate ≡ Full → IsFull posts) → IsMember c posts m
 IsMember-desk c posts m value honest seat node actor desk core proposed got no_journal full = record {
-  seated = record { honest = honest; seat = seat; node = node; actor = actor; got = nothing_got c posts m got };
+  seated = record { honest = honest; seat = seat; node = node; actor = actor; kind = λ lane. absurd (lane desk); got = nothing_got c posts m got };
   ready = λ running.
       subst (λ (here : Core). IsReady c m.node m.actor (own_in c m.node m.actor posts) (heard_of c m.node m.actor posts m.got.items) here) (sym core)
       (desk, ap (λ (votes : List Vote). list_any (is_any_proposal 0) votes) (proposed running));
@@ -369,10 +383,11 @@ IsMember-taken c posts mid new r seated node actor seat got core ready full runn
 
 -- ---- post k is taken in
 
--- what a hearing made due may be cast, and the core is ready after that; a desk makes nothing due
+-- what a hearing made due may be cast, and the core is ready after that; it is of the broadcast, and a desk makes nothing due
 pub record IsTaken (book : BookView) (m : Member) (k : ℕ) (due : List Vote) (core : Core) : Type 0 where
   pub castable : InTurn (IsCastable book.config m.node m.actor (heard_in book.config m.node m.actor book.posts)) (own_in book.config m.node m.actor book.posts) due
   pub ready : IsReady book.config m.node m.actor (own_in book.config m.node m.actor book.posts ++ due) (heard_of book.config m.node m.actor book.posts (m.got.items ++ k ∷ [])) core
+  pub part : list_all (in_broadcast 0) due ≡ true
   pub desk : m.actor ≡ book.config.n → due ≡ []
 
 pub IsTaken-heard : (book : BookView) (m : Member) (k : ℕ) (post : Post) (heard : Option Hearing) (due : List Vote) (core : Core) → AreSound book.config → slice_get book.posts k ≡ Some post
@@ -389,6 +404,7 @@ IsTaken-heard book m k post heard due core sound stands ready is hears =
           (subst (λ (hs : List Hearing). AreAmong hs all) pushed (AreAmong-received c m.node m.actor book.posts (m.got.items ++ k ∷ [])))
           (subst (λ (hs : List Hearing). AreHeardSpelled c hs) pushed (AreHeardSpelled-received c m.node m.actor book.posts (m.got.items ++ k ∷ []))) ready hears;
       ready = subst (λ (hs : List Hearing). IsReady c m.node m.actor (own ++ due) hs core) (sym pushed) (ready_due c m.node m.actor own before heard due m.core core ready hears);
+      part = due_part c m.node m.actor own before heard due m.core core ready hears;
       desk = λ desk. desk_due c m.node m.actor own before heard due m.core core desk ready hears;
     }
 

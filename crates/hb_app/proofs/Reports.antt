@@ -1,5 +1,5 @@
 -- The report of a run.
-use Rattle.std.proofs.Common.{Contains, ◌≡◌, ◌≢◌, ℕ, Bool, false, ◌==◌, List, [], ◌∷◌, length, map, refl, sym, ap, ◌∙◌, subst, arith}
+use Rattle.std.proofs.Common.{Contains, ◌≡◌, ◌≢◌, ℕ, Bool, false, ◌==◌, List, [], length, map, refl, sym, ap, ◌∙◌, subst, arith}
 use Rattle.std.specs.List.{filter}
 use Rattle.hb_base.specs.Limits.{most_nodes}
 use Rattle.hb_base.specs.Numbers.{Numbers, AreSound}
@@ -13,11 +13,12 @@ use Rattle.hb_rules.specs.declared.report.Report.{Report}
 use Rattle.hb_rules.specs.History.{IsLegal}
 use Rattle.hb_app.specs.declared.member.Member.{Member}
 use Rattle.hb_app.specs.declared.scenario.Scenario.{Scenario}
-use Rattle.hb_app.specs.Quiet.{AreAtRest, status_by}
+use Rattle.hb_app.specs.Quiet.{AreRising, AreAtRest, status_by}
 use Rattle.hb_app.specs.Member.{end_of}
 use Rattle.hb_app.specs.Team.{IsRun}
 use Rattle.hb_app.specs.Run.{IsPlain, Proposes, IsRunOf, scenario_told}
 use Rattle.hb_app.proofs.Alive.{Premises}
+use Rattle.hb_app.proofs.OnlyBroadcast.{one_broadcast}
 use Rattle.hb_app.proofs.Sent.{HasSource}
 use Rattle.hb_app.proofs.Totality.{all_deliver}
 use Rattle.hb_app.proofs.Quiet.{HasEnded, ended, proposes, source, agree, none_lies, at_rest}
@@ -56,7 +57,11 @@ IsRunOf-run s report config posts team plain sound same legal0 run0 config_is sc
       script = script_is;
       legal = legal;
       once = run.once;
+      only = one_broadcast report.config s.submit.tx report.history.items run.lanes run.proposed run.silent;
       quiet = rest;
+      in_order = λ end stands.
+          let here : HasEnded 0 team end = ended 0 team end (subst (λ (es : List End). Contains es end) ends_is stands) in
+          subst (λ (e : End). AreRising e.got.items) (sym here.is) (run.rises here.place here.member here.stands).rising;
       proposed = proposed;
       agreed = agree report.config s.submit.tx report.history.items sources;
       complete = all_deliver report s.submit.tx premises no_journal status_is;

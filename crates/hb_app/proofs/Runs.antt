@@ -1,24 +1,25 @@
 -- A run, one delivery after another.
-use Rattle.std.proofs.Common.{◌≡◌, ◌≢◌, ℕ, zero, suc, ◌+◌, ◌<◌, ◌≤◌, true, false, inl, inr, List, [], ◌∷◌, ◌++◌, length, map, set, Contains, Some, refl, sym, ap, ◌∙◌, subst, append-nil, arith, slice_get, get_or, length-append, ◌==◌}
+use Rattle.std.proofs.Common.{◌≡◌, ◌≢◌, ℕ, ◌+◌, ◌<◌, ◌≤◌, true, false, ◌⊎◌, inl, inr, List, [], ◌∷◌, ◌++◌, length, map, set, Contains, Some, refl, sym, ap, ◌∙◌, subst, arith, slice_get, get_or, length-append, ◌==◌}
 use Rattle.std.proofs.lemmas.List.{length-set}
 use Rattle.std.proofs.lemmas.Bool.{cases_lt, cases_Bool, eqb-true, eq-eqb}
 use Rattle.std.proofs.lemmas.Option.{slice_get_within, slice_get-get_or}
 use Rattle.std.proofs.lemmas.List.Elements.{Contains-push, Contains-append_left}
 use Rattle.hb_base.specs.Numbers.{Numbers}
 use Rattle.hb_base.specs.NodeSet.{is_in}
-use Rattle.hb_wire.specs.declared.vote.Vote.{Vote}
 use Rattle.hb_wire.specs.declared.post.Post.{Post}
 use Rattle.hb_wire.specs.Addresses.{reaches}
 use Rattle.hb_rules.specs.declared.report.Fate.TheVariants.{Running}
 use Rattle.hb_rules.specs.Hearing.{own_in}
-use Rattle.hb_rules.specs.Book.{BookView, SeatView, AreTwo, Moved, IsSeatOf}
+use Rattle.hb_rules.specs.Book.{BookView, AreTwo, Moved}
 use Rattle.hb_rules.specs.BookLaws.{IsSeatOf-moved}
 use Rattle.hb_app.specs.declared.member.Member.{Member}
-use Rattle.hb_app.specs.Quiet.{NoVoteTwice, broadcast_actors}
-use Rattle.hb_app.specs.Member.{IsMember, IsTeam, HasReceived, Receives, Acts}
+use Rattle.hb_app.specs.Quiet.{NoVoteTwice, LanesBroadcast, broadcast_actors}
+use Rattle.hb_app.specs.Member.{IsReached, IsMember, IsTeam, HasReceived, RiseBelow, Receives, Acts}
 use Rattle.hb_app.specs.Team.{HasProposed, IsRun}
 use Rattle.hb_app.proofs.Casts.{own-others}
-use Rattle.hb_app.proofs.Receiving.{slice_get-front, IsMember-moved, Acts-refl}
+use Rattle.hb_app.proofs.Places.{slice_get-front, slice_get-set_same, slice_get-set_other, map-set_same_place}
+use Rattle.hb_app.proofs.Receiving.{IsMember-moved, Acts-refl}
+use Rattle.hb_app.proofs.Rising.{RiseBelow-more, RiseBelow-after}
 
 -- where an actor is
 abbrev pub place_of_member : Member → ℕ × ℕ
@@ -34,6 +35,8 @@ Receives-nothing k book m member received = record {
   kept = λ j running stands. stands;
   worked = λ running. running;
   received = received;
+  rises = RiseBelow-more k (k + 1) m.got.items (omega arith);
+  spared = λ none. (refl, refl);
 }
 
 pub HasReceived-ended : (c : Numbers) (posts : List Post) (k : ℕ) (m : Member) → (m.fate ≡ Running → ⊥) → HasReceived c posts k m
@@ -44,14 +47,17 @@ HasReceived-apart c posts k m here stands apart post is reached running =
     let same : here ≡ post = cc in absurd (cc (sym apart ∙ ap (λ (p : Post). reaches c.n p m.node m.actor) same ∙ reached))
 
 -- an actor that received the post
-pub Receives-one : (k : ℕ) (book book' : BookView) (old new : Member) → old.fate ≡ Running → Acts book book' old new → IsMember book'.config book'.posts new
-    → (new.fate ≡ Running → new.got.items ≡ old.got.items ++ k ∷ []) → Receives k book book' old new
-Receives-one k book book' old new working acts member got = record {
+pub Receives-one : (k : ℕ) (book book' : BookView) (old new : Member) → old.fate ≡ Running → IsReached book.config book.posts old.node old.actor k → Acts book book' old new → IsMember book'.config book'.posts new
+    → (new.fate ≡ Running → new.got.items ≡ old.got.items ++ k ∷ []) → (new.got.items ≡ old.got.items) ⊎ (new.got.items ≡ old.got.items ++ k ∷ [])
+    → Receives k book book' old new
+Receives-one k book book' old new working reached acts member got some = record {
   acts = acts;
   member = member;
   kept = λ j running stands. subst (λ (ks : List ℕ). Contains ks j) (sym (got running)) (Contains-append_left old.got.items (k ∷ []) j stands);
   worked = λ _. working;
   received = λ post stands reached running. subst (λ (ks : List ℕ). Contains ks k) (sym (got running)) (Contains-push old.got.items k);
+  rises = RiseBelow-after k old.got.items new.got.items some;
+  spared = λ none. absurd (none (record { works = working; reached = reached }));
 }
 
 -- another actor stays a member while one posts
@@ -63,24 +69,6 @@ IsMember-others book book' i x m moved apart member =
     (IsSeatOf-moved i x book book' m.seat moved seat_apart member.seated.seat) member
 
 -- ---- one delivery to all
-
--- one element of a list set
-pub slice_get-set_same : {A : Type 0} (xs : List A) (p : ℕ) (y : A) → p < length xs → slice_get (set xs p y) p ≡ Some y
-slice_get-set_same [] p y within = absurd (omega (arith, within))
-slice_get-set_same (x ∷ xs) zero y within = refl
-slice_get-set_same (x ∷ xs) (suc p) y within = slice_get-set_same xs p y (omega (arith, within))
-
-pub slice_get-set_other : {A : Type 0} (xs : List A) (p q : ℕ) (y : A) → q ≢ p → slice_get (set xs p y) q ≡ slice_get xs q
-slice_get-set_other [] p q y apart = refl
-slice_get-set_other (x ∷ xs) zero zero y apart = absurd (apart refl)
-slice_get-set_other (x ∷ xs) zero (suc q) y apart = refl
-slice_get-set_other (x ∷ xs) (suc p) zero y apart = refl
-slice_get-set_other (x ∷ xs) (suc p) (suc q) y apart = slice_get-set_other xs p q y (λ same. apart (ap (λ (n : ℕ). suc n) same))
-
-pub map-set_same_place : {A B : Type 0} (f : A → B) (xs : List A) (p : ℕ) (x y : A) → slice_get xs p ≡ Some x → f y ≡ f x → map f (set xs p y) ≡ map f xs
-map-set_same_place f [] p x y stands same = refl
-map-set_same_place f (z ∷ zs) zero x y stands same = let is : z ≡ x = cc in ap (λ b. b ∷ map f zs) (same ∙ ap f (sym is))
-map-set_same_place f (z ∷ zs) (suc p) x y stands same = ap (λ bs. f z ∷ bs) (map-set_same_place f zs p x y stands same)
 
 -- an actor after some deliveries is the same actor, and has what it had
 pub record GoesOn (old new : Member) : Type 0 where
@@ -96,17 +84,30 @@ pub record IsDelivering (k : ℕ) (book0 : BookView) (team0 : List Member) (book
   pub places : map place_of_member team ≡ map place_of_member team0
   pub size : length team ≡ length team0
   pub once : NoVoteTwice book0.config book0.posts → NoVoteTwice book0.config book.posts
+  pub lanes : LanesBroadcast book0.config book0.posts → LanesBroadcast book0.config book.posts
   pub desk : (i : ℕ) → own_in book0.config i book0.config.n book.posts ≡ own_in book0.config i book0.config.n book0.posts
   pub grown : (j : ℕ) → j < length book0.posts → slice_get book.posts j ≡ slice_get book0.posts j
   pub longer : length book0.posts ≤ length book.posts
   pub goes_on : (q : ℕ) (m : Member) → slice_get team q ≡ Some m → (m0 : Member) × (slice_get team0 q ≡ Some m0) × GoesOn m0 m
   pub done : (q : ℕ) (m : Member) → q < p → slice_get team q ≡ Some m → HasReceived book0.config book0.posts k m
+  pub left : (q : ℕ) (m : Member) → p ≤ q → slice_get team q ≡ Some m → slice_get team0 q ≡ Some m
+  pub rises : ((q : ℕ) (m : Member) → slice_get team0 q ≡ Some m → RiseBelow k m.got.items)
+      → (q : ℕ) (m : Member) → q < p → slice_get team q ≡ Some m → RiseBelow (k + 1) m.got.items
 
 -- post k as it was read
 pub stands_read : (posts read : List Post) (k : ℕ) (post : Post) → read ≡ posts → k < length posts → post ≡ get_or read k post → slice_get posts k ≡ Some post
 stands_read posts read k post same within is =
     slice_get-get_or posts k post within
     ∙ ap (λ (p : Post). Some p) (ap (λ (ps : List Post). get_or ps k post) (sym same) ∙ sym is)
+
+-- an actor that the post reaches
+pub reached_read : (book : BookView) (read : List Post) (m : Member) (k n : ℕ) (post : Post) → read ≡ book.posts → k < length book.posts → post ≡ get_or read k post → n ≡ book.config.n
+    → reaches n post m.node m.actor ≡ true → IsReached book.config book.posts m.node m.actor k
+reached_read book read m k n post same within is n_is reached = record {
+  post = post;
+  stands = stands_read book.posts read k post same within is;
+  reaches = ap (λ (n : ℕ). reaches n post m.node m.actor) (sym n_is) ∙ reached;
+}
 
 GoesOn-refl : (m : Member) → GoesOn m m
 GoesOn-refl m = record { node = refl; actor = refl; worked = λ running. running; kept = λ j running stands. stands }
@@ -119,11 +120,14 @@ IsDelivering-start k book team is_team = record {
   places = refl;
   size = refl;
   once = λ once. once;
+  lanes = λ lanes. lanes;
   desk = λ i. refl;
   grown = λ j within. refl;
   longer = omega arith;
   goes_on = λ q m stands. (m, stands, GoesOn-refl m);
   done = λ q m below stands. absurd (omega (arith, below));
+  left = λ q m above stands. stands;
+  rises = λ rise q m below stands. absurd (omega (arith, below));
 }
 
 -- the member at p
@@ -226,6 +230,7 @@ IsDelivering-step k book0 team0 book team p old new book' within0 delivering wit
       places = map-set_same_place place_of_member team p old new stands (place_same old new goes) ∙ delivering.places;
       size = length-set team p new ∙ delivering.size;
       once = λ once. subst (λ (c : Numbers). NoVoteTwice c book.posts → NoVoteTwice c book'.posts) delivering.config acts.once (delivering.once once);
+      lanes = λ lanes. subst (λ (c : Numbers). LanesBroadcast c book.posts → LanesBroadcast c book'.posts) delivering.config acts.lanes (delivering.lanes lanes);
       desk = λ i. subst (λ (c : Numbers). own_in c i c.n book'.posts ≡ own_in c i c.n book.posts) delivering.config (desk_same book book' old new i acts honest) ∙ delivering.desk i;
       grown = λ j below.
           ap (λ (posts : List Post). slice_get posts j) acts.moved.extended.is
@@ -245,6 +250,19 @@ IsDelivering-step k book0 team0 book team p old new book' within0 delivering wit
                 let at : slice_get team q ≡ Some m = was.stands ∙ ap (λ (o : Member). Some o) (sym (was.there apart)) in
                 delivering.done q m (omega (arith, below, apart)) at
           ];
+      left = λ q m above now.
+          let was : WasAt team p new q m = was_at team p old new q m stands goes now in
+          delivering.left q m (omega (arith, above)) (was.stands ∙ ap (λ (o : Member). Some o) (sym (was.there (omega (arith, above)))));
+      rises = λ rise q m below now.
+          let was : WasAt team p new q m = was_at team p old new q m stands goes now in
+          elim (cases_Bool (q == p)) [
+            | inl same ↦ subst (λ (o : Member). RiseBelow (k + 1) o.got.items) (sym (was.here (eqb-true q p same)))
+                (receives.rises (rise p old (delivering.left p old (omega arith) stands)))
+            | inr other ↦
+                let apart : q ≢ p = λ e. absurd (cc (sym other ∙ eq-eqb q p e)) in
+                let at : slice_get team q ≡ Some m = was.stands ∙ ap (λ (o : Member). Some o) (sym (was.there apart)) in
+                delivering.rises rise q m (omega (arith, below, apart)) at
+          ];
     }
   where
     place_same : (a b : Member) → GoesOn a b → place_of_member b ≡ place_of_member a
@@ -257,6 +275,7 @@ IsRun-next k value book0 team0 book team p within all delivering run = record {
   is_team = delivering.is_team;
   places = delivering.places ∙ run.places ∙ ap broadcast_actors (sym delivering.config);
   once = subst (λ (c : Numbers). NoVoteTwice c book.posts) (sym delivering.config) (delivering.once run.once);
+  lanes = subst (λ (c : Numbers). LanesBroadcast c book.posts) (sym delivering.config) (delivering.lanes run.lanes);
   proposed = subst (λ (c : Numbers). HasProposed c value book.posts) (sym delivering.config) (proposed run.proposed);
   silent = λ i apart. subst (λ (c : Numbers). own_in c i c.n book.posts ≡ []) (sym delivering.config) (delivering.desk i ∙ run.silent i apart);
   received = λ q m stands j below post at reached running.
@@ -273,6 +292,7 @@ IsRun-next k value book0 team0 book team p within all delivering run = record {
             (delivering.done q m (omega (arith, slice_get_within team q m stands, all)) stands post
             (sym (delivering.grown k within) ∙ ap (slice_get book.posts) (sym e) ∙ at) reached0 running)
       ];
+  rises = λ q m stands. delivering.rises run.rises q m (omega (arith, slice_get_within team q m stands, all)) stands;
 }
   where
     proposed : HasProposed book0.config value book0.posts → HasProposed book0.config value book.posts

@@ -20,10 +20,10 @@ use Rattle.hb_rules.specs.declared.report.Report.{Report}
 use Rattle.hb_rules.specs.Claims.{proposed, readied, delivered, is_any_proposal, is_val_to, is_any_echo, is_any_ready, is_any_delivery, is_echo, is_shard_echo, is_ready}
 use Rattle.hb_rules.specs.Code.{data_count, echo_count, ready_count}
 use Rattle.hb_rules.specs.Hearing.{Hearing, hearing, own_in, heard_in, heard_of, heard_by, said_in}
-use Rattle.hb_rules.specs.Slots.{IsIdle, each, first_of}
+use Rattle.hb_rules.specs.Slots.{IsIdle, first_of}
 use Rattle.hb_rules.specs.BroadcastRows.{proposal_in, val_of, val_slot, echo_in, echo_slot, named, value_of, is_made_ready, ready_made, ready_slot, delivery_made, delivery_slot}
 use Rattle.hb_rules.specs.Owing.{broadcast_slots}
-use Rattle.hb_rules.specs.Report.{works, none_ended, is_running_fate, is_memory_fate, submitted_at}
+use Rattle.hb_rules.specs.Report.{none_ended, is_running_fate, is_memory_fate, submitted_at}
 use Rattle.hb_rules.proofs.Among.{any_stands, heard_by-among, is_shard_echo-away}
 use Rattle.hb_rules.proofs.BroadcastSlots.{proposed-is, readied-is}
 use Rattle.hb_rules.proofs.Counts.{count_nodes-mono}
@@ -39,7 +39,7 @@ use Rattle.hb_app.proofs.Deliveries.{is_delivery}
 use Rattle.hb_app.proofs.Receiving.{AreAmong-received}
 use Rattle.hb_app.proofs.Rebuilt.{value_rebuilt}
 use Rattle.hb_app.proofs.Sent.{IsOfValue, val_of_value, echo_of_value, shown_of_value, delivers_proposed}
-use Rattle.hb_app.proofs.Alive.{Premises, IsAlive, IsUp, is_up, Rests, lane_rests, desk_rests, lane_zero, hears_cast, filled, lane_settled, chosen, none_from_map}
+use Rattle.hb_app.proofs.Alive.{Premises, IsAlive, is_up, Rests, lane_rests, desk_rests, lane_zero, hears_cast, filled, lane_settled, chosen, none_from_map}
 
 -- ---- votes by their kinds
 

@@ -1,6 +1,6 @@
 -- Runs of one broadcast: their actors, when these have nothing left to do, and the status. Each node has lane 0, which takes part
 -- in the broadcast of epoch 0, and node 0 has its desk, which makes a proposal for it.
-use Rattle.std.specs.Prelude.{◌≡◌, ℕ, Bool, true, false, not, ◌&&◌, ◌==◌, nat_lt, List, [], ◌∷◌, ◌++◌, Some, if◌then◌else◌, map, Contains}
+use Rattle.std.specs.Prelude.{◌≡◌, ◌≢◌, ℕ, ◌<◌, Bool, true, false, not, ◌&&◌, ◌==◌, nat_lt, List, [], ◌∷◌, ◌++◌, Some, if◌then◌else◌, map, Contains, slice_get}
 use Rattle.std.specs.List.{list_any, flat_map, range_with_len}
 use Rattle.hb_base.specs.Numbers.{Numbers}
 use Rattle.hb_base.specs.NodeSet.{is_in}
@@ -13,6 +13,7 @@ use Rattle.hb_rules.specs.declared.report.End.{End}
 use Rattle.hb_rules.specs.declared.report.Report.{Report}
 use Rattle.hb_rules.specs.Claims.{is_any_proposal}
 use Rattle.hb_rules.specs.Hearing.{Hearing, own_in, heard_of}
+use Rattle.hb_rules.specs.Parts.{in_broadcast}
 use Rattle.hb_rules.specs.Slots.{Slot, IsIdle}
 use Rattle.hb_rules.specs.Owing.{broadcast_slots}
 use Rattle.hb_rules.specs.Report.{submitted_at, is_memory_fate, none_ended, cast_by, IsReceived, IsExpected}
@@ -77,3 +78,21 @@ AreNewAfter before (v ∷ votes) = (Contains before v → ⊥) × AreNewAfter (b
 -- no vote of an actor stands twice
 abbrev pub NoVoteTwice : Numbers → List Post → Type 0
 NoVoteTwice c history = (i x : ℕ) → AreNewAfter [] (own_in c i x history)
+
+-- ---- nothing but one broadcast
+
+-- lanes have cast votes of the broadcast of epoch 0 alone, and no lane but lane 0 has cast any
+abbrev pub LanesBroadcast : Numbers → List Post → Type 0
+LanesBroadcast c history = (i x : ℕ) (vote : Vote) → x ≢ c.n → Contains (own_in c i x history) vote → (x ≡ 0) × (in_broadcast 0 vote ≡ true)
+
+-- All votes are of one broadcast: those of lanes, and those of desks, of which node 0's alone has cast any, and nothing but a
+-- proposal for epoch 0.
+pub record IsOneBroadcast (c : Numbers) (history : List Post) : Type 0 where
+  pub lanes : LanesBroadcast c history
+  pub desks : (i : ℕ) (vote : Vote) → Contains (own_in c i c.n history) vote → (i ≡ 0) × (is_any_proposal 0 vote ≡ true)
+
+-- ---- in which order
+
+-- each number is greater than those before it
+abbrev pub AreRising : List ℕ → Type 0
+AreRising numbers = (p q a b : ℕ) → p < q → slice_get numbers p ≡ Some a → slice_get numbers q ≡ Some b → a < b

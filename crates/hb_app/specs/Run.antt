@@ -13,7 +13,7 @@ use Rattle.hb_rules.specs.declared.report.End.{End}
 use Rattle.hb_rules.specs.declared.report.Report.{Report}
 use Rattle.hb_rules.specs.Hearing.{own_in}
 use Rattle.hb_rules.specs.History.{IsLegal}
-use Rattle.hb_app.specs.Quiet.{NoVoteTwice, AreAtRest, is_alive, status_by}
+use Rattle.hb_app.specs.Quiet.{NoVoteTwice, IsOneBroadcast, AreRising, AreAtRest, is_alive, status_by}
 use Rattle.hb_app.specs.Member.{IsFull}
 use Rattle.hb_app.specs.Text.{delivered_at}
 use Rattle.hb_app.specs.declared.scenario.Scenario.{Scenario}
@@ -46,15 +46,18 @@ pub record AllDeliver (value : List ℕ) (report : Report) : Type 0 where
       → (i : ℕ) → is_alive report i ≡ true → delivered_at report.config i report.history.items ≡ Some value
   pub ok : report.status ≡ 0 → (i : ℕ) → i < report.config.n → delivered_at report.config i report.history.items ≡ Some value
 
--- The report of a run of a scenario: its history is legal, no vote of an actor stands in it twice, nothing is left to do,
--- every proposed and every delivered value is the one that was submitted, the nodes that are alive have delivered it, no actor
--- has a journal, and one found the book full only where it is.
+-- The report of a run of a scenario: its history is legal, no vote of an actor stands in it twice, and none that is not of the one
+-- broadcast, nothing is left to do, each actor received its posts in their order, every proposed and every delivered value is the
+-- one that was submitted, the nodes that are alive have delivered it, no actor has a journal, and one found the book full only
+-- where it is.
 pub record IsRunOf (s : Scenario) (report : Report) : Type 0 where
   pub config : report.config ≡ s.config
   pub script : network.told report.script ≡ scenario_told s
   pub legal : IsLegal report.config report.history.items
   pub once : NoVoteTwice report.config report.history.items
+  pub only : IsOneBroadcast report.config report.history.items
   pub quiet : AreAtRest report
+  pub in_order : (end : End) → Contains report.ends.items end → AreRising end.got.items
   pub proposed : Proposes report.config s.submit.tx report.history.items
   pub agreed : Agree report.config s.submit.tx report.history.items
   pub complete : AllDeliver s.submit.tx report

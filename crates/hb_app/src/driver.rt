@@ -100,7 +100,7 @@ fn team_of(alloc: Global, book: &mut PlainBook, value: &Bytes) -> Result<Vec<Mem
     let liars = config.liars();
     let desk = Member::desk(alloc, book, value);
     let mut team = Vec::new(alloc);
-    team.push(Member::lane(alloc, book, 0, 0)?)?;
+    team.push(Member::lane(alloc, book, 0)?)?;
     team.push(desk)?;
     for node in 1..n {
         add_lane(alloc, book, &mut team, node, &liars)?;
@@ -126,7 +126,7 @@ fn add_lane(
     if liars.has(node) {
         return Ok(());
     }
-    let lane = Member::lane(alloc, book, node, 0)?;
+    let lane = Member::lane(alloc, book, node)?;
     team.push(lane)?;
     Ok(())
 }

@@ -6,7 +6,7 @@ ghost use Rattle.hb_base.specs.Numbers.{AreSound};
 ghost use Rattle.hb_wire.specs.declared.vote.Vote.TheVariants.{Propose};
 ghost use Rattle.hb_rules.specs.Hearing.{own_in};
 ghost use Rattle.hb_rules.specs.Book.{IsSeatOf, Moved, mine_in};
-ghost use Rattle.hb_rules.specs.declared.report.Fate.TheVariants.{Running, Journal, Full};
+ghost use Rattle.hb_rules.specs.declared.report.Fate.TheVariants.{Running, Memory, Journal, Full};
 ghost use Rattle.hb_app.specs.Quiet.{NoVoteTwice};
 ghost use Rattle.hb_app.specs.Casting.{AreCastableAfter, HasCastFront};
 ghost use Rattle.hb_app.specs.Member.{IsFull, IsReached, IsSeated, IsReadyAfter, IsMember, MayHear, HearsIn, Acts, Receives};
@@ -38,26 +38,23 @@ pub struct Member {
 }
 
 impl Member {
-    /// A lane of a correct node, that has cast nothing and heard nothing.
-    pub fn lane(
-        alloc: Global,
-        book: &mut PlainBook,
-        node: u8,
-        lane: u8,
-    ) -> Result<Member, AllocError>
-        requires known { (node < book.old.config.n) × (lane < book.old.config.n) }
+    /// Lane 0 of a correct node, that has cast nothing and received nothing.
+    pub fn lane(alloc: Global, book: &mut PlainBook, node: u8) -> Result<Member, AllocError>
+        requires known { node < book.old.config.n }
         requires honest { is_in book.old.config.liars node ≡ false }
-        requires fresh { mine_in book.old.config node lane book.old.posts ≡ [] }
+        requires fresh { mine_in book.old.config node 0 book.old.posts ≡ [] }
         ensures book { book.new ≡ book.old }
         ensures member { IfOk result (IsMember book.old.config book.old.posts) }
-        ensures place { IfOk result (λ m. (m.node ≡ node) × (m.actor ≡ lane)) }
+        ensures place { IfOk result (λ m. (m.node ≡ node) × (m.actor ≡ 0)) }
+        ensures got { IfOk result (λ m. m.got.items ≡ []) }
+        ensures works { IfOk result (λ m. m.fate ≡ Running) }
     {
         let config = book.config();
-        let rbc = Rbc::rebuild(alloc, &config, node, lane, 0, &[])?;
+        let rbc = Rbc::rebuild(alloc, &config, node, 0, 0, &[])?;
         Ok(Member {
             node,
-            actor: lane,
-            seat: book.seat(node, lane),
+            actor: 0,
+            seat: book.seat(node, 0),
             core: Core::Lane(rbc),
             got: Vec::new(alloc),
             fate: Fate::Running,
@@ -73,6 +70,7 @@ impl Member {
         requires bytes { AreBytes value.now }
         ensures member { IsMember book.new.config book.new.posts result }
         ensures place { (result.node ≡ 0) × (result.actor ≡ book.old.config.n) }
+        ensures got { result.got.items ≡ [] }
         ensures moved { Moved 0 book.old.config.n book.old book.new }
         ensures once { NoVoteTwice book.old.config book.old.posts → NoVoteTwice book.old.config book.new.posts }
         ensures proposes { (own_in book.old.config 0 book.old.config.n book.new.posts ≡ [])
@@ -119,6 +117,7 @@ impl Member {
         ensures fate { self.new.fate ≡ self.old.fate }
         ensures ready { OnOk result (IsReadyAfter book.new.config book.new.posts self.new) }
         ensures got { OnOk result (self.new.got.items ≡ self.old.got.items ++ k ∷ []) }
+        ensures err { OnErr result ((self.new.got.items ≡ self.old.got.items) ⊎ (self.new.got.items ≡ self.old.got.items ++ k ∷ [])) }
         ensures full { result ≡ Err BookFault.Full → IsFull book.new.posts }
     {
         let config = book.config();
@@ -175,6 +174,8 @@ fn fate_after(outcome: Result<(), BookFault>) -> Fate
     ensures full { result ≡ Full → outcome ≡ Err BookFault.Full }
     ensures no_journal { result ≢ Journal }
     ensures works { IsOk outcome → result ≡ Running }
+    ensures was_full { outcome ≡ Err BookFault.Full → result ≡ Full }
+    ensures was_memory { outcome ≡ Err BookFault.Memory → result ≡ Memory }
 {
     match outcome {
         Ok(()) => Fate::Running,

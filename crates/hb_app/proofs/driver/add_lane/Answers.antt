@@ -16,4 +16,4 @@ returns-clause-gathering c =
     subst (λ (items : List Member). IsGathering c.args.book.now.config c.args.book.now.posts items (c.args.node + 1)) (sym c.in_ok-push.ensures.items)
     (IsGathering-lane c.args.book.now.config c.args.book.now.posts c.args.team.now.items c.args.node c.in_ok-lane.lane
     (cc (c.requires.liars, c.has.ensures, c.if-has.false)) c.requires.behind c.requires.gathering
-    c.in_ok-lane.ensures.member c.in_ok-lane.ensures.place.0 c.in_ok-lane.ensures.place.1)
+    c.in_ok-lane.ensures.member c.in_ok-lane.ensures.place.0 c.in_ok-lane.ensures.place.1 c.in_ok-lane.ensures.got)

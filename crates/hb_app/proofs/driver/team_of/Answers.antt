@@ -18,7 +18,8 @@ pub loop-node-init : goal.loop-node-init
 loop-node-init c = IsAssembling-same c.in_ok-lane.ensures.book
     (IsAssembling-start c.args.value.now c.args.book.now c.desk-desk.new.book c.in_ok-lane.field-0 c.desk-desk.result c.push-2.new.self.items c.requires.empty c.requires.honest
     (omega (arith, c.n-n.ensures.bounds.0, c.n-n.ensures.value, ap (λ (d : Numbers). d.n) c.config-config.ensures))
-    c.desk-desk.ensures.moved c.desk-desk.ensures.once c.desk-desk.ensures.proposes c.desk-desk.ensures.member c.desk-desk.ensures.place c.in_ok-lane.ensures.member c.in_ok-lane.ensures.place
+    c.desk-desk.ensures.moved c.desk-desk.ensures.once c.desk-desk.ensures.proposes c.desk-desk.ensures.member c.desk-desk.ensures.place c.desk-desk.ensures.got
+    c.in_ok-lane.ensures.member c.in_ok-lane.ensures.place c.in_ok-lane.ensures.got
     (c.in_ok-push-2.ensures.items ∙ ap (λ (ms : List Member). ms ++ c.desk-desk.result ∷ []) (c.in_ok-push.ensures.items ∙ ap (λ (ms : List Member). ms ++ c.in_ok-lane.field-0 ∷ []) c.new-team.ensures.items)))
 
 pub loop-node-preserved : goal.loop-node-preserved
@@ -29,4 +30,4 @@ pub returns-clause-run : goal.returns-clause-run
 returns-clause-run c = IsRun-start c.loop-node.book.config c.args.value.now c.loop-node.book.posts c.loop-node.team.items c.loop-node.node
     (omega (arith, c.n-n.ensures.value, ap (λ (d : Numbers). d.n) c.config-config.ensures, ap (λ (d : Numbers). d.n) c.loop-node.invariant.config, c.loop-node-test.false))
     (omega (arith, c.n-n.ensures.value, ap (λ (d : Numbers). d.n) c.config-config.ensures, ap (λ (d : Numbers). d.n) c.loop-node.invariant.config, c.loop-node.auto.node-end))
-    c.loop-node.invariant.once c.loop-node.invariant.proposed c.loop-node.invariant.silent c.loop-node.invariant.gathering
+    c.loop-node.invariant.once c.loop-node.invariant.lanes c.loop-node.invariant.proposed c.loop-node.invariant.silent c.loop-node.invariant.gathering

@@ -3,7 +3,7 @@ use Rattle.std.proofs.lemmas.List.{take_all}
 use Rattle.hb_wire.specs.declared.vote.Vote.{Vote}
 use Rattle.hb_rules.specs.Book.{BookView, Moved}
 use Rattle.hb_rules.specs.Hearing.{own_in}
-use Rattle.hb_app.proofs.Casts.{still, IsCasting-start, IsCasting-step, IsRefused, IsRefused-casting, HasSpelling-casting, IsAllowed-casting}
+use Rattle.hb_app.proofs.Casts.{still, IsCasting-start, IsCasting-step, IsRefused-casting, HasSpelling-casting, IsAllowed-casting}
 use Rattle.hb_app.proofs.Receiving.{on_err}
 use Rattle.hb_app.proofs.member.cast.Goals as goal
 

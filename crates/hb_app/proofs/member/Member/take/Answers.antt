@@ -1,4 +1,5 @@
 use Rattle.std.proofs.Common.{◌≡◌, ◌∙◌, ◌++◌, ◌∷◌, [], ℕ, List, Some, ap, refl, slice_get, subst, sym}
+use Rattle.std.specs.List.{list_all}
 use Rattle.std.proofs.lemmas.Option.{slice_get_within}
 use Rattle.std.proofs.lemmas.Result.{on_ok_weaker}
 use Rattle.hb_base.specs.Numbers.{Numbers, AreSound}
@@ -6,7 +7,9 @@ use Rattle.hb_wire.specs.declared.post.Post.{Post}
 use Rattle.hb_wire.specs.declared.vote.Vote.{Vote}
 use Rattle.hb_rules.specs.Book.{Moved}
 use Rattle.hb_rules.specs.Hearing.{hearing_of, own_in, heard_of}
-use Rattle.hb_app.specs.Member.{IsReached, IsReady}
+use Rattle.hb_app.specs.Member.{IsReady}
+use Rattle.hb_rules.specs.Parts.{in_broadcast}
+use Rattle.hb_app.proofs.OnlyBroadcast.{lanes_after}
 use Rattle.hb_app.proofs.Runs.{stands_read}
 use Rattle.hb_app.proofs.Receiving.{MayHear-post, IsTaken, IsTaken-heard, IsSeated-after, IsReady-moved, received_after, own_same}
 use Rattle.hb_app.proofs.member.Member.take.Goals as goal
@@ -49,6 +52,9 @@ returns-clause-acts c =
       actor = refl;
       moved = rw (sym c.requires.member.seated.node, sym c.requires.member.seated.actor) c.cast.ensures.moved;
       once = c.cast.ensures.once;
+      lanes = lanes_after c.cast.result book.config m.seat.node m.seat.actor book.posts c.cast.new.book.posts c.votes.result.now
+          (rw c.requires.member.seated.node c.requires.member.seated.honest) (rw c.requires.member.seated.actor c.requires.member.seated.kind)
+          c.cast.ensures.moved.extended c.cast.ensures.ok c.cast.ensures.err (ap (list_all (in_broadcast 0)) c.votes.ensures ∙ taken.part);
       desk = λ desk. rw (sym c.requires.member.seated.node, sym c.requires.member.seated.actor)
           (own_same c.cast.result (own_in book.config m.seat.node m.seat.actor book.posts) c.votes.result.now (own_in book.config m.seat.node m.seat.actor c.cast.new.book.posts)
           c.cast.ensures.ok c.cast.ensures.err (c.votes.ensures ∙ taken.desk desk));
