@@ -18,9 +18,10 @@ use hb_wire::Post;
 /// Whether of any two correct nodes' ledgers one begins with the other (CCS 2016, section 4). It is so for each legal history
 /// in which no two hashed strings share a digest. It takes no memory.
 ///
-/// It goes through the posts twice, and compares each closed vote of a correct node's desk with one other, so where all of an
-/// epoch are the same, and each desk closes one epoch after the other, time is linear in the bytes of the history. Where this
-/// is not so, the ledgers are compared list by list, and the posts gone through again for each list.
+/// It goes through the posts twice. It compares each closed vote of a correct node's desk with one other, and reads the desk's
+/// closed vote of the epoch before too. So time is linear in the bytes of the history where all closed votes of an epoch are
+/// the same, and each desk closes one epoch after the other, and each once. Where an epoch's closed votes differ, or a desk
+/// leaves one out, the ledgers are compared list by list, and the posts gone through again for each list.
 pub fn comparable(report: &Report) -> bool
     ensures exact { IsTrue result ↔ AreComparable report.now.config report.now.history.items }
     ensures legal { IsLegal report.now.config report.now.history.items → NoCollision report.now.config report.now.history.items → IsTrue result }

@@ -1,5 +1,5 @@
-//! Whether the definitions say what is meant: histories whose answers were worked out by hand. Four nodes, of which node 3
-//! lies; actor 4 of a node is its desk, and a list has to have three items.
+//! Whether the definitions say what is meant: histories whose answers were worked out by a separate program in Python. Four
+//! nodes, of which node 3 lies; actor 4 of a node is its desk, and a list has to have three items.
 
 use super::*;
 use disk_model::{MemoryDisk, Plan, Power};
@@ -9,321 +9,286 @@ use hb_wire::{Post, To};
 use std::alloc::{AllocError, Global};
 use std::test::Fail;
 
-const DELIVERED: u8 = 0x04;
+// Histories are text, a word for each post: the node, the actor, which is d for the desk, the kind, two digits of the epoch, and
+// letters. C closes with a list, which has for each node the letter of its item or a dash; P proposes the letter, and V
+// delivers it.
 
-const PROPOSE: u8 = 0x10;
+// Whether each list has batches enough.
+const LISTS: [(bool, &str); 16] = [
+    // no list
+    (true, ""),
+    // three items
+    (true, "0dC00abc-"),
+    // all four
+    (true, "0dC00abcd"),
+    // a list that was posted again
+    (true, "0dC00-bcd 0dC00-bcd"),
+    // two items
+    (false, "0dC00ab--"),
+    // one
+    (false, "2dC00---d"),
+    // none
+    (false, "1dC00----"),
+    // only the later list
+    (false, "0dC00abc- 0dC01ab--"),
+    // the last epoch
+    (false, "0dC31ab--"),
+    // another node
+    (false, "0dC00abc- 1dC00ab--"),
+    // of a liar
+    (true, "3dC00ab--"),
+    // of a lane
+    (true, "03C00ab--"),
+    // of an actor beyond the desk
+    (true, "05C00ab--"),
+    // of no node
+    (true, "4dC00ab--"),
+    // of an epoch beyond the limit
+    (true, "0dC32ab--"),
+    // the second of two lists of an epoch
+    (false, "0dC00abc- 0dC00ab--"),
+];
 
-const CLOSED: u8 = 0x12;
+// Whether each list has what desks proposed.
+const PROPOSALS: [(bool, &str); 19] = [
+    // no list
+    (true, ""),
+    // all were proposed
+    (true, "0dP00a 1dP00b 2dP00c 0dC00abc-"),
+    // none was
+    (false, "0dC00abc-"),
+    // one has another value
+    (false, "0dP00a 1dP00x 0dC00ab--"),
+    // two are exchanged
+    (false, "0dP00a 1dP00b 0dC00ba--"),
+    // of the liar anything
+    (true, "0dP00a 3dP00b 0dC00a--x"),
+    // before it was proposed
+    (true, "0dC00a--- 0dP00a"),
+    // the second of two proposals
+    (true, "1dP00x 1dP00b 0dC00-b--"),
+    // both of two
+    (true, "1dP00x 1dP00b 0dC00-b-- 2dC00-x--"),
+    // neither of two
+    (false, "1dP00x 1dP00b 0dC00-y--"),
+    // for another epoch
+    (false, "0dP01a 0dC00a---"),
+    // by a lane
+    (false, "03P00a 0dC00a---"),
+    // another kind of vote
+    (false, "0dV00a 0dC00a---"),
+    // proposed by another node
+    (false, "1dP00a 0dC00a---"),
+    // only the later list, of the last epoch
+    (false, "2dP00a 0dC00--a- 1dC31--a-"),
+    // of a liar
+    (true, "3dC00a---"),
+    // of a lane
+    (true, "03C00a---"),
+    // of no node
+    (true, "4dC00a---"),
+    // only the last item
+    (false, "0dP00a 1dP00b 0dC00abc-"),
+];
 
-// Each post: sender, actor, kind, epoch, and a byte for each node. A closed list has an item of each node whose byte isn't 0,
-// with this byte as its value; another vote has the first byte as its value.
-type Rows = &'static [[u8; 8]];
+// Whether of any two ledgers one begins with the other.
+const LEDGERS: [(bool, &str); 27] = [
+    // no list
+    (true, ""),
+    // one node alone
+    (true, "0dC00abc- 0dC01abd-"),
+    // all the same
+    (true, "0dC00abc- 1dC00abc- 2dC00abc- 1dC01abd- 0dC01abd-"),
+    // one behind
+    (true, "0dC00abc- 0dC01abd- 1dC00abc- 2dC00abc- 2dC01abd-"),
+    // another list of the same length
+    (false, "0dC00abc- 1dC00abx-"),
+    // of another node's item
+    (false, "0dC00abc- 1dC00ab-c"),
+    // a longer list
+    (false, "0dC00abc- 1dC00abcd"),
+    // the second list alone
+    (false, "0dC00abc- 1dC00abc- 0dC01abc- 1dC01abx-"),
+    // the last two nodes alone
+    (false, "1dC00abc- 2dC00abx-"),
+    // the first and the last alone
+    (false, "0dC00abc- 2dC00abx-"),
+    // the last epoch alone
+    (false, "0dC31abc- 1dC31abx-"),
+    // of a liar
+    (true, "0dC00abc- 3dC00abx-"),
+    // of a lane
+    (true, "0dC00abc- 13C00abx-"),
+    // of no node
+    (true, "0dC00abc- 4dC00abx-"),
+    // an epoch left out, the lists the same
+    (true, "0dC01abc- 1dC00abc-"),
+    // an epoch left out, and one list more
+    (false, "0dC00abc- 0dC01abd- 1dC01abd-"),
+    // the later epoch first
+    (true, "0dC01abd- 0dC00abc- 1dC00abc-"),
+    // the later epoch first, and alone before
+    (false, "0dC01abd- 0dC00abc- 1dC01abd-"),
+    // two lists of an epoch, and of two epochs
+    (true, "0dC00abc- 0dC00abd- 1dC00abc- 1dC01abd-"),
+    // two lists of an epoch in another order
+    (false, "0dC00abc- 0dC00abd- 1dC00abd- 1dC00abc-"),
+    // two lists of an epoch, posted again
+    (
+        true,
+        "0dC00abc- 0dC00abd- 0dC00abc- 1dC00abc- 1dC00abd- 1dC00abd-",
+    ),
+    // two lists of an epoch, the other node behind
+    (true, "0dC00abc- 0dC00abd- 1dC00abc-"),
+    // two lists of an epoch, the second alone
+    (false, "0dC00abc- 0dC00abd- 1dC00abd-"),
+    // two of three alike
+    (false, "0dC00abc- 1dC00abc- 2dC00abx-"),
+    // one with none between two that differ
+    (false, "0dC00abc- 2dC01abx-"),
+    // two with the same front and other ends
+    (false, "0dC00abc- 0dC01abd- 0dC02abe- 1dC00abc- 1dC02abe-"),
+    // the empty list twice
+    (true, "0dC00---- 0dC01---- 1dC00---- 1dC02---- 1dC03----"),
+];
 
-const CASES: u8 = 15;
-
-// Whether each list has batches enough, and the history.
-fn listing(case: u8) -> (bool, Rows) {
-    match case {
-        // no list; three items; all four; a list that was posted again
-        0 => (true, &[]),
-        1 => (true, &[[0, 4, CLOSED, 0, 7, 8, 9, 0]]),
-        2 => (true, &[[0, 4, CLOSED, 0, 7, 8, 9, 6]]),
-        3 => (
-            true,
-            &[[0, 4, CLOSED, 0, 0, 8, 9, 6], [0, 4, CLOSED, 0, 0, 8, 9, 6]],
-        ),
-        // two items, one, none; only the later list, the last epoch, another node
-        4 => (false, &[[0, 4, CLOSED, 0, 7, 8, 0, 0]]),
-        5 => (false, &[[2, 4, CLOSED, 0, 0, 0, 0, 6]]),
-        6 => (false, &[[1, 4, CLOSED, 0, 0, 0, 0, 0]]),
-        7 => (
-            false,
-            &[[0, 4, CLOSED, 0, 7, 8, 9, 0], [0, 4, CLOSED, 1, 7, 8, 0, 0]],
-        ),
-        8 => (false, &[[0, 4, CLOSED, 31, 7, 8, 0, 0]]),
-        9 => (
-            false,
-            &[[0, 4, CLOSED, 0, 7, 8, 9, 0], [1, 4, CLOSED, 0, 7, 8, 0, 0]],
-        ),
-        _ => uncounted(case),
-    }
-}
-
-// Likewise: a list of two items that doesn't count.
-fn uncounted(case: u8) -> (bool, Rows) {
-    match case {
-        // of a liar, a lane, an actor beyond the desk, no node; of an epoch beyond the limit
-        10 => (true, &[[3, 4, CLOSED, 0, 7, 8, 0, 0]]),
-        11 => (true, &[[0, 3, CLOSED, 0, 7, 8, 0, 0]]),
-        12 => (true, &[[0, 5, CLOSED, 0, 7, 8, 0, 0]]),
-        13 => (true, &[[4, 4, CLOSED, 0, 7, 8, 0, 0]]),
-        _ => (true, &[[0, 4, CLOSED, 32, 7, 8, 0, 0]]),
-    }
-}
-
-const PROPOSALS: u8 = 17;
-
-// Whether each list has what desks proposed, and the history.
-fn proposing(case: u8) -> (bool, Rows) {
-    match case {
-        // no list; all were proposed; none was; one has another value; two are exchanged
-        0 => (true, &[]),
-        1 => (
-            true,
-            &[
-                [0, 4, PROPOSE, 0, 7, 0, 0, 0],
-                [1, 4, PROPOSE, 0, 8, 0, 0, 0],
-                [2, 4, PROPOSE, 0, 9, 0, 0, 0],
-                [0, 4, CLOSED, 0, 7, 8, 9, 0],
-            ],
-        ),
-        2 => (false, &[[0, 4, CLOSED, 0, 7, 8, 9, 0]]),
-        3 => (
-            false,
-            &[
-                [0, 4, PROPOSE, 0, 7, 0, 0, 0],
-                [1, 4, PROPOSE, 0, 6, 0, 0, 0],
-                [0, 4, CLOSED, 0, 7, 8, 0, 0],
-            ],
-        ),
-        4 => (
-            false,
-            &[
-                [0, 4, PROPOSE, 0, 7, 0, 0, 0],
-                [1, 4, PROPOSE, 0, 8, 0, 0, 0],
-                [0, 4, CLOSED, 0, 8, 7, 0, 0],
-            ],
-        ),
-        // of the liar anything; before it was proposed
-        5 => (
-            true,
-            &[
-                [0, 4, PROPOSE, 0, 7, 0, 0, 0],
-                [3, 4, PROPOSE, 0, 8, 0, 0, 0],
-                [0, 4, CLOSED, 0, 7, 0, 0, 6],
-            ],
-        ),
-        6 => (
-            true,
-            &[
-                [0, 4, CLOSED, 0, 7, 0, 0, 0],
-                [0, 4, PROPOSE, 0, 7, 0, 0, 0],
-            ],
-        ),
-        // the second of two proposals, both of them, and neither
-        7 => (
-            true,
-            &[
-                [1, 4, PROPOSE, 0, 6, 0, 0, 0],
-                [1, 4, PROPOSE, 0, 7, 0, 0, 0],
-                [0, 4, CLOSED, 0, 0, 7, 0, 0],
-            ],
-        ),
-        8 => (
-            true,
-            &[
-                [1, 4, PROPOSE, 0, 6, 0, 0, 0],
-                [1, 4, PROPOSE, 0, 7, 0, 0, 0],
-                [0, 4, CLOSED, 0, 0, 7, 0, 0],
-                [2, 4, CLOSED, 0, 0, 6, 0, 0],
-            ],
-        ),
-        9 => (
-            false,
-            &[
-                [1, 4, PROPOSE, 0, 6, 0, 0, 0],
-                [1, 4, PROPOSE, 0, 7, 0, 0, 0],
-                [0, 4, CLOSED, 0, 0, 8, 0, 0],
-            ],
-        ),
-        _ => unlike(case),
-    }
-}
-
-// Likewise: a list of one item, and what doesn't propose it, or doesn't close with it.
-fn unlike(case: u8) -> (bool, Rows) {
-    match case {
-        // for another epoch, by a lane, another kind of vote
-        10 => (
-            false,
-            &[
-                [0, 4, PROPOSE, 1, 7, 0, 0, 0],
-                [0, 4, CLOSED, 0, 7, 0, 0, 0],
-            ],
-        ),
-        11 => (
-            false,
-            &[
-                [0, 3, PROPOSE, 0, 7, 0, 0, 0],
-                [0, 4, CLOSED, 0, 7, 0, 0, 0],
-            ],
-        ),
-        12 => (
-            false,
-            &[
-                [0, 4, DELIVERED, 0, 7, 0, 0, 0],
-                [0, 4, CLOSED, 0, 7, 0, 0, 0],
-            ],
-        ),
-        // the last epoch, and only the later list
-        13 => (
-            false,
-            &[
-                [2, 4, PROPOSE, 0, 7, 0, 0, 0],
-                [0, 4, CLOSED, 0, 0, 0, 7, 0],
-                [1, 4, CLOSED, 31, 0, 0, 7, 0],
-            ],
-        ),
-        // of a liar, a lane, no node
-        14 => (true, &[[3, 4, CLOSED, 0, 7, 0, 0, 0]]),
-        15 => (true, &[[0, 3, CLOSED, 0, 7, 0, 0, 0]]),
-        _ => (true, &[[4, 4, CLOSED, 0, 7, 0, 0, 0]]),
-    }
-}
-
+// Up to which number of lists the ledgers of running nodes are the same, how many actors of each node work, and the history.
+const COMMONS: [(u32, [u8; 4], &str); 12] = [
+    // none runs
+    (0, [0, 0, 0, 0], "0dC00abc- 1dC00abc- 2dC00abc-"),
+    // all do
+    (1, [5, 5, 5, 0], "0dC00abc- 1dC00abc- 2dC00abc-"),
+    // one has closed one epoch less
+    (
+        1,
+        [5, 5, 5, 0],
+        "0dC00abc- 1dC00abc- 2dC00abc- 0dC01abc- 2dC01abc-",
+    ),
+    // two have closed none
+    (0, [5, 5, 5, 0], "0dC00abc-"),
+    // the one behind does not run
+    (
+        2,
+        [5, 0, 5, 0],
+        "0dC00abc- 1dC00abc- 2dC00abc- 0dC01abc- 2dC01abc-",
+    ),
+    // the one behind lacks an end
+    (
+        2,
+        [5, 4, 5, 0],
+        "0dC00abc- 1dC00abc- 2dC00abc- 0dC01abc- 2dC01abc-",
+    ),
+    // the liar has closed none
+    (
+        2,
+        [5, 0, 5, 5],
+        "0dC00abc- 1dC00abc- 2dC00abc- 0dC01abc- 2dC01abc-",
+    ),
+    // posted again
+    (1, [5, 0, 0, 0], "0dC00abc- 0dP01a 0dC00abc-"),
+    // two lists of one epoch
+    (3, [0, 5, 0, 0], "1dC01abc- 1dC00abc- 1dC00abcd 1dC00abc-"),
+    // epochs left out
+    (2, [0, 0, 5, 0], "2dC31abc- 23C01abc- 2dC02abc- 1dC03abc-"),
+    // another node has two lists of one epoch
+    (
+        2,
+        [5, 5, 0, 0],
+        "0dC00abc- 2dC00abc- 2dC00abd- 1dC00abc- 1dC01abc- 0dC01abc-",
+    ),
+    // one has two lists of one epoch, the other is behind
+    (1, [5, 5, 0, 0], "0dC00abc- 0dC00abd- 1dC00abc-"),
+];
 // The bytes of a vote whose value is this byte.
-fn value_bytes(alloc: Global, kind: u8, epoch: u8, byte: u8) -> Result<Bytes, AllocError> {
-    let mut bytes = Vec::new(alloc);
-    for front in [kind, epoch, 0, 0, 0, 1, byte] {
-        bytes.push(front)?;
+fn value_bytes(alloc: Global, kind: u8, epoch: u8, letter: u8) -> Result<Bytes, AllocError> {
+    Bytes::copy(alloc, &[kind, epoch, 0, 0, 0, 1, letter])
+}
+
+// The bytes of a closed list with these letters.
+fn list_bytes(alloc: Global, epoch: u8, letters: &[u8]) -> Result<Bytes, AllocError> {
+    let mut items = Vec::new(alloc);
+    let mut count = 0u8;
+    let mut node = 0u8;
+    for letter in letters {
+        if *letter != b'-' {
+            items.extend_from_slice(&[node, 0, 0, 0, 1, *letter])?;
+            count = count.saturating_add(1);
+        }
+        node = node.saturating_add(1);
     }
+    let mut bytes = Vec::from_slice(alloc, &[0x12, epoch, count])?;
+    bytes.append(&mut items)?;
     Bytes::from_vec(bytes)
 }
 
-// The bytes of a closed list.
-fn list_bytes(alloc: Global, epoch: u8, items: [u8; 4]) -> Result<Bytes, AllocError> {
-    let mut bytes = Vec::new(alloc);
-    bytes.push(CLOSED)?;
-    bytes.push(epoch)?;
-    let mut count = 0;
-    for byte in items {
-        if byte != 0 && count < 4 {
-            count += 1;
+// The number that a digit tells.
+fn digit(byte: u8) -> u8 {
+    byte.saturating_sub(b'0')
+}
+
+// The post that a word tells.
+fn post_of(alloc: Global, word: &str) -> Result<Post, Fail> {
+    match word.as_bytes() {
+        [node, actor, kind, tens, ones, letters @ ..] => {
+            let epoch = digit(*tens).saturating_mul(10).saturating_add(digit(*ones));
+            let first = letters.first().copied().unwrap_or(0);
+            let bytes = match kind {
+                b'C' => list_bytes(alloc, epoch, letters)?,
+                b'P' => value_bytes(alloc, 0x10, epoch, first)?,
+                _ => value_bytes(alloc, 0x04, epoch, first)?,
+            };
+            let actor = if *actor == b'd' { 4 } else { digit(*actor) };
+            Ok(Post {
+                from: digit(*node),
+                actor,
+                to: To::Home,
+                bytes,
+            })
         }
+        _ => Err("no post".into()),
     }
-    bytes.push(count)?;
-    for node in 0..4u8 {
-        let byte = items[node as usize];
-        if byte != 0 {
-            for part in [node, 0, 0, 0, 1, byte] {
-                bytes.push(part)?;
-            }
-        }
-    }
-    Bytes::from_vec(bytes)
 }
 
 // The report of a run with this history.
-fn report_of(alloc: Global, config: Config, rows: Rows) -> Result<Report, AllocError> {
+fn report_of(alloc: Global, version: u8, history: &str) -> Result<Report, Fail> {
+    let mut liars = NodeSet::new();
+    liars.add(3);
     let mut report = Report::empty(alloc);
-    report.config = config;
-    for &[from, actor, kind, epoch, a, b, c, d] in rows {
-        let bytes = if kind == CLOSED {
-            list_bytes(alloc, epoch, [a, b, c, d])?
-        } else {
-            value_bytes(alloc, kind, epoch, a)?
-        };
-        report.history.push(Post {
-            from,
-            actor,
-            to: To::Home,
-            bytes,
-        })?;
+    report.config = Config::new(4, 1, 32, 8, 16, 7, version, liars).ok_or("no config")?;
+    for word in history.split(' ') {
+        if !word.is_empty() {
+            report.history.push(post_of(alloc, word)?)?;
+        }
     }
     Ok(report)
 }
 
-// The numbers of the runs.
-fn numbers(version: u8) -> Result<Config, Fail> {
-    let mut liars = NodeSet::new();
-    liars.add(3);
-    Ok(Config::new(4, 1, 32, 8, 16, 7, version, liars).ok_or("no config")?)
-}
-
 #[test]
 fn batches(rt: HostRuntime) -> Result<(), Fail> {
-    let config = numbers(1)?;
-    for case in 0..CASES {
-        let (wanted, rows) = listing(case);
-        let report = report_of(rt.alloc(), config, rows)?;
-        assert_eq!(rt; batches_ok(&report), wanted, "case {case}");
+    for (wanted, history) in LISTS {
+        let report = report_of(rt.alloc(), 1, history)?;
+        assert_eq!(rt; batches_ok(&report), wanted, "the history {history}");
     }
     Ok(())
 }
 
 #[test]
 fn proposals(rt: HostRuntime) -> Result<(), Fail> {
-    let config = numbers(2)?;
-    for case in 0..PROPOSALS {
-        let (wanted, rows) = proposing(case);
-        let report = report_of(rt.alloc(), config, rows)?;
-        assert_eq!(rt; unaltered(&report), wanted, "case {case}");
+    for (wanted, history) in PROPOSALS {
+        let report = report_of(rt.alloc(), 2, history)?;
+        assert_eq!(rt; unaltered(&report), wanted, "the history {history}");
     }
     Ok(())
 }
 
-const COMMONS: u8 = 10;
-
-// Up to which number of lists the ledgers of running nodes are the same, how many actors of each node work, and the history.
-fn closing(case: u8) -> (u32, [u8; 4], Rows) {
-    match case {
-        // none runs; all do; one has closed one epoch less; one none
-        0 => (0, [0, 0, 0, 0], ONE_EACH),
-        1 => (1, [5, 5, 5, 0], ONE_EACH),
-        2 => (1, [5, 5, 5, 0], TWO_OR_ONE),
-        3 => (0, [5, 5, 5, 0], ONE_OF_THREE),
-        // that one doesn't run, lacks an end, is the liar
-        4 => (2, [5, 0, 5, 0], TWO_OR_ONE),
-        5 => (2, [5, 4, 5, 0], TWO_OR_ONE),
-        6 => (2, [5, 0, 5, 5], TWO_OR_ONE),
-        // posted again; two lists of one epoch; epochs that were left out
-        7 => (
-            1,
-            [5, 0, 0, 0],
-            &[
-                [0, 4, CLOSED, 0, 7, 8, 9, 0],
-                [0, 4, PROPOSE, 1, 7, 0, 0, 0],
-                [0, 4, CLOSED, 0, 7, 8, 9, 0],
-            ],
-        ),
-        8 => (
-            3,
-            [0, 5, 0, 0],
-            &[
-                [1, 4, CLOSED, 1, 7, 8, 9, 0],
-                [1, 4, CLOSED, 0, 7, 8, 9, 0],
-                [1, 4, CLOSED, 0, 7, 8, 9, 6],
-                [1, 4, CLOSED, 0, 7, 8, 9, 0],
-            ],
-        ),
-        _ => (
-            2,
-            [0, 0, 5, 0],
-            &[
-                [2, 4, CLOSED, 31, 7, 8, 9, 0],
-                [2, 3, CLOSED, 1, 7, 8, 9, 0],
-                [2, 4, CLOSED, 2, 7, 8, 9, 0],
-                [1, 4, CLOSED, 3, 7, 8, 9, 0],
-            ],
-        ),
+#[test]
+fn ledgers(rt: HostRuntime) -> Result<(), Fail> {
+    for (wanted, history) in LEDGERS {
+        let report = report_of(rt.alloc(), 2, history)?;
+        assert_eq!(rt; comparable(&report), wanted, "the history {history}");
     }
+    Ok(())
 }
-
-const ONE_EACH: Rows = &[
-    [0, 4, CLOSED, 0, 7, 8, 9, 0],
-    [1, 4, CLOSED, 0, 7, 8, 9, 0],
-    [2, 4, CLOSED, 0, 7, 8, 9, 0],
-];
-
-const TWO_OR_ONE: Rows = &[
-    [0, 4, CLOSED, 0, 7, 8, 9, 0],
-    [1, 4, CLOSED, 0, 7, 8, 9, 0],
-    [2, 4, CLOSED, 0, 7, 8, 9, 0],
-    [0, 4, CLOSED, 1, 7, 8, 9, 0],
-    [2, 4, CLOSED, 1, 7, 8, 9, 0],
-];
-
-const ONE_OF_THREE: Rows = &[[0, 4, CLOSED, 0, 7, 8, 9, 0]];
 
 // Ends of so many actors of each node, all of them at work, with a disk that was never called.
 fn ends_of(alloc: Global, at_work: [u8; 4]) -> Result<Vec<End>, AllocError> {
@@ -349,12 +314,10 @@ fn ends_of(alloc: Global, at_work: [u8; 4]) -> Result<Vec<End>, AllocError> {
 
 #[test]
 fn commons(rt: HostRuntime) -> Result<(), Fail> {
-    let config = numbers(2)?;
-    for case in 0..COMMONS {
-        let (wanted, at_work, rows) = closing(case);
-        let mut report = report_of(rt.alloc(), config, rows)?;
+    for (wanted, at_work, history) in COMMONS {
+        let mut report = report_of(rt.alloc(), 2, history)?;
         report.ends = ends_of(rt.alloc(), at_work)?;
-        assert_eq!(rt; common_epochs(&report), wanted, "case {case}");
+        assert_eq!(rt; common_epochs(&report), wanted, "the history {history}");
     }
     Ok(())
 }
