@@ -1,2 +1,3 @@
 pub mod Seatings
 pub mod Postings
+pub mod Runs

@@ -1,7 +1,16 @@
-//! Seats of a shared book in use: two that post once, one after another or each on a thread of its own.
+//! Seats of a shared book in use: two that post once, on one thread and on two; four that post a thousand times each, each on a
+//! thread of its own, and a liar's seat beside them.
 //!
 //! `pair` is a caller that any user might write, and what is proved of it holds for every schedule.
 #![tactic(auto)]
 
+#[cfg(test)]
+mod alone;
+#[cfg(test)]
+mod crowd;
+#[cfg(test)]
+mod expected;
 mod pair;
 mod seating;
+#[cfg(test)]
+mod tests;
