@@ -1,0 +1,219 @@
+-- What the cores of an epoch stand for after one more hearing. The letters: lane j of node i, epoch e.
+use Rattle.std.proofs.Common.{◌≡◌, ℕ, Bool, true, false, List, [], ◌∷◌, ◌++◌, refl, sym, ap, ◌∙◌, subst, append-nil, append_assoc}
+use Rattle.std.specs.List.{list_any, list_all, filter}
+use Rattle.std.proofs.lemmas.List.Elements.{filter-append}
+use Rattle.hb_base.specs.Numbers.{Numbers}
+use Rattle.hb_wire.specs.declared.vote.Vote.{Vote}
+use Rattle.hb_rules.specs.Claims.{is_any_delivery}
+use Rattle.hb_rules.specs.Hearing.{Hearing}
+use Rattle.hb_rules.specs.Parts.{in_broadcast, heard_in_broadcast, in_agreement, read_in_agreement, heard_in_agreement}
+use Rattle.hb_rules.specs.Slots.{pass, IsIdle, IsOwed}
+use Rattle.hb_rules.specs.Owing.{broadcast_slots, agreement_slots}
+use Rattle.hb_rules.proofs.Passing.{IsOwed-nil}
+use Rattle.hb_rules.proofs.Rows.{not_heard}
+use Rattle.hb_rules.proofs.Within.{pass-made, IsOwed-made}
+use Rattle.rbc_core.specs.Broadcast as broadcast
+use Rattle.aba_core.specs.State as agreement
+use Rattle.aba_core.specs.Standing as standing
+use Rattle.lane_core.specs.declared.cores.Cores.{Cores}
+use Rattle.lane_core.specs.Cores.{AreAt, StayAt, StandFor, HearsOne}
+use Rattle.lane_core.proofs.Parts.{all_deliveries, some_delivery, no_delivery, own_in_broadcast, own_in_agreement, heard_now, broadcast_slots-parts, agreement_slots-parts, broadcast_pass, agreement_owed}
+
+-- ---- places
+
+pub StayAt-by : (old new : Cores) → broadcast.place_of new.rbc ≡ broadcast.place_of old.rbc → agreement.place_of new.aba ≡ agreement.place_of old.aba → StayAt old new
+StayAt-by old new one two = λ c i j e at. record { rbc = one ∙ at.rbc; aba = two ∙ at.aba }
+
+pub kept_place : (old new : broadcast.RbcView) → broadcast.Keeps old new → broadcast.place_of new ≡ broadcast.place_of old
+kept_place old new keeps =
+    ap broadcast.place_of keeps.marks
+    ∙ ap (λ (c : Numbers). let p : broadcast.Place = record { config = c; node = old.node; lane = old.lane; epoch = old.epoch } in p) keeps.roots.config
+
+-- ---- what each part owes, at its place
+
+first_passes : (c : Numbers) (i j e : ℕ) (old : Cores) (h : Hearing) (votes : List Vote) → AreAt c i j e old → heard_in_broadcast e h ≡ true
+    → ((own : List Vote) (heard : List Hearing) → broadcast.Stands old.rbc own heard → pass (broadcast.slots_at (broadcast.place_of old.rbc)) own (heard ++ h ∷ []) ≡ votes)
+    → (own : List Vote) (heard : List Hearing) → StandFor e old own heard → pass (broadcast_slots c i j e) own (heard ++ h ∷ []) ≡ votes
+first_passes c i j e old h votes at kind gives own heard stands =
+    broadcast_pass c i j e own (filter (heard_in_broadcast e) heard ++ h ∷ []) (heard ++ h ∷ []) (heard_now (heard_in_broadcast e) heard h kind)
+    ∙ subst (λ (p : broadcast.Place). pass (broadcast.slots_at p) (filter (in_broadcast e) own) (filter (heard_in_broadcast e) heard ++ h ∷ []) ≡ votes) at.rbc
+    (gives (filter (in_broadcast e) own) (filter (heard_in_broadcast e) heard) stands.rbc)
+
+first_made : (c : Numbers) (i j e : ℕ) (own : List Vote) (heard : List Hearing) (votes : List Vote) → pass (broadcast_slots c i j e) own heard ≡ votes
+    → list_all (in_broadcast e) votes ≡ true
+first_made c i j e own heard votes is =
+    ap (list_all (in_broadcast e)) (sym is)
+    ∙ pass-made (in_broadcast e) (heard_in_broadcast e) (in_broadcast e) (broadcast_slots c i j e) (broadcast_slots-parts c i j e) own heard
+
+second_made : (c : Numbers) (i j e : ℕ) (own : List Vote) (heard : List Hearing) (votes : List Vote) → IsOwed (agreement_slots c i j e) own heard votes
+    → list_all (in_agreement e) votes ≡ true
+second_made c i j e own heard votes owed =
+    IsOwed-made (read_in_agreement e) (heard_in_agreement e) (in_agreement e) (agreement_slots c i j e) (agreement_slots-parts c i j e) own heard votes owed
+
+-- nothing is owed by what the states stand for
+first_idle : (c : Numbers) (i j e : ℕ) (old : Cores) (own : List Vote) (heard : List Hearing) → AreAt c i j e old → StandFor e old own heard
+    → IsIdle (broadcast_slots c i j e) (filter (in_broadcast e) own) (filter (heard_in_broadcast e) heard)
+first_idle c i j e old own heard at stands =
+    subst (λ (p : broadcast.Place). IsIdle (broadcast.slots_at p) (filter (in_broadcast e) own) (filter (heard_in_broadcast e) heard)) at.rbc stands.rbc.idle
+
+second_idle : (c : Numbers) (i j e : ℕ) (old : Cores) (own : List Vote) (heard : List Hearing) → AreAt c i j e old → StandFor e old own heard
+    → IsIdle (agreement_slots c i j e) (filter (read_in_agreement e) own) (filter (heard_in_agreement e) heard)
+second_idle c i j e old own heard at stands =
+    subst (λ (p : agreement.Place). IsIdle (standing.slots_at p) (filter (read_in_agreement e) own) (filter (heard_in_agreement e) heard)) at.aba stands.aba.idle
+
+-- the states stand for lists of which they look at the same
+StandFor-by : (e : ℕ) (cores : Cores) (own : List Vote) (heard : List Hearing) (own_rbc own_aba : List Vote) (heard_rbc heard_aba : List Hearing)
+    → filter (in_broadcast e) own ≡ own_rbc → filter (heard_in_broadcast e) heard ≡ heard_rbc
+    → filter (read_in_agreement e) own ≡ own_aba → filter (heard_in_agreement e) heard ≡ heard_aba
+    → broadcast.Stands cores.rbc own_rbc heard_rbc → standing.Stands cores.aba own_aba heard_aba → StandFor e cores own heard
+StandFor-by e cores own heard own_rbc own_aba heard_rbc heard_aba one two three four rbc aba = record {
+  rbc = rw (one, two) rbc;
+  aba = rw (three, four) aba;
+}
+
+-- ---- the broadcast hears the vote
+
+-- the lane does not deliver by it
+pub HearsOne-passed : (c : Numbers) (i j e : ℕ) (old new : Cores) (h : Hearing) (after : List Vote) → AreAt c i j e old
+    → heard_in_broadcast e h ≡ true → heard_in_agreement e h ≡ false → broadcast.Hears old.rbc new.rbc h [] after → new.aba ≡ old.aba
+    → list_any (is_any_delivery e) after ≡ false → HearsOne c i j e old new h [] after
+HearsOne-passed c i j e old new h after at kind other hears same none =
+    let first : List Vote = hears.votes in
+    let passes = first_passes c i j e old h first at kind hears.gives in
+    let empty : list_any (is_any_delivery e) first ≡ false = ap (list_any (is_any_delivery e)) (sym hears.due) ∙ none in
+    let made : (own : List Vote) (heard : List Hearing) → StandFor e old own heard → list_all (in_broadcast e) first ≡ true =
+    λ own heard stands. first_made c i j e own (heard ++ h ∷ []) first (passes own heard stands) in
+    let read : (own : List Vote) (heard : List Hearing) → StandFor e old own heard → filter (read_in_agreement e) (own ++ first) ≡ filter (read_in_agreement e) own =
+    λ own heard stands.
+    filter-append (read_in_agreement e) own first
+    ∙ ap (λ (votes : List Vote). filter (read_in_agreement e) own ++ votes) (no_delivery e first (made own heard stands) empty)
+    ∙ append-nil (filter (read_in_agreement e) own) in
+    record {
+      first = first;
+      second = [];
+      due = hears.due ∙ sym (append-nil first);
+      passes = passes;
+      owed = λ own heard stands.
+          agreement_owed c i j e (own ++ first) (filter (read_in_agreement e) own) (filter (heard_in_agreement e) heard) (heard ++ h ∷ []) []
+          (read own heard stands) (not_heard (heard_in_agreement e) heard h other)
+          (IsOwed-nil (agreement_slots c i j e) (filter (read_in_agreement e) own) (filter (heard_in_agreement e) heard) (second_idle c i j e old own heard at stands));
+      stands = λ own heard stands.
+          StandFor-by e new (own ++ (first ++ [])) (heard ++ h ∷ [])
+          (filter (in_broadcast e) own ++ first) (filter (read_in_agreement e) own)
+          (filter (heard_in_broadcast e) heard ++ h ∷ []) (filter (heard_in_agreement e) heard)
+          (own_in_broadcast e own first [] (made own heard stands) refl) (heard_now (heard_in_broadcast e) heard h kind)
+          (ap (λ (votes : List Vote). filter (read_in_agreement e) (own ++ votes)) (append-nil first) ∙ read own heard stands)
+          (not_heard (heard_in_agreement e) heard h other)
+          (hears.stands (filter (in_broadcast e) own) (filter (heard_in_broadcast e) heard) stands.rbc)
+          (subst (λ (a : agreement.AbaView). standing.Stands a (filter (read_in_agreement e) own) (filter (heard_in_agreement e) heard)) (sym same) stands.aba);
+    }
+
+-- the lane delivers by it
+pub HearsOne-delivered : (c : Numbers) (i j e : ℕ) (old new : Cores) (h : Hearing) (mid after : List Vote) → AreAt c i j e old
+    → heard_in_broadcast e h ≡ true → heard_in_agreement e h ≡ false → broadcast.Hears old.rbc new.rbc h [] mid
+    → list_any (is_any_delivery e) mid ≡ true → standing.Takes true old.aba new.aba mid after → HearsOne c i j e old new h [] after
+HearsOne-delivered c i j e old new h mid after at kind other hears some takes =
+    let first : List Vote = hears.votes in
+    let second : List Vote = takes.votes in
+    let more : List Vote = filter (read_in_agreement e) first in
+    let passes = first_passes c i j e old h first at kind hears.gives in
+    let epoch : old.aba.epoch ≡ e = ap (λ (p : agreement.Place). p.epoch) at.aba in
+    let made : (own : List Vote) (heard : List Hearing) → StandFor e old own heard → list_all (in_broadcast e) first ≡ true =
+    λ own heard stands. first_made c i j e own (heard ++ h ∷ []) first (passes own heard stands) in
+    let taken : (own : List Vote) (heard : List Hearing) → StandFor e old own heard
+    → IsOwed (standing.slots_at (agreement.place_of old.aba)) (filter (read_in_agreement e) own ++ more) (filter (heard_in_agreement e) heard) second
+    × standing.Stands new.aba ((filter (read_in_agreement e) own ++ more) ++ second) (filter (heard_in_agreement e) heard) =
+    λ own heard stands.
+    takes.one refl (filter (read_in_agreement e) own) more (filter (heard_in_agreement e) heard) stands.aba
+    (rw epoch (all_deliveries e first (made own heard stands)))
+    (rw epoch (some_delivery e (filter (read_in_agreement e) own) first (ap (list_any (is_any_delivery e)) (sym hears.due) ∙ some))) in
+    let owed : (own : List Vote) (heard : List Hearing) → StandFor e old own heard → IsOwed (agreement_slots c i j e) (own ++ first) (heard ++ h ∷ []) second =
+    λ own heard stands.
+    agreement_owed c i j e (own ++ first) (filter (read_in_agreement e) own ++ more) (filter (heard_in_agreement e) heard) (heard ++ h ∷ []) second
+    (filter-append (read_in_agreement e) own first) (not_heard (heard_in_agreement e) heard h other)
+    (subst (λ (p : agreement.Place). IsOwed (standing.slots_at p) (filter (read_in_agreement e) own ++ more) (filter (heard_in_agreement e) heard) second) at.aba
+    (taken own heard stands).0) in
+    record {
+      first = first;
+      second = second;
+      due = takes.due ∙ ap (λ (votes : List Vote). votes ++ second) hears.due;
+      passes = passes;
+      owed = owed;
+      stands = λ own heard stands.
+          let all = second_made c i j e (own ++ first) (heard ++ h ∷ []) second (owed own heard stands) in
+          StandFor-by e new (own ++ (first ++ second)) (heard ++ h ∷ [])
+          (filter (in_broadcast e) own ++ first) ((filter (read_in_agreement e) own ++ more) ++ second)
+          (filter (heard_in_broadcast e) heard ++ h ∷ []) (filter (heard_in_agreement e) heard)
+          (own_in_broadcast e own first second (made own heard stands) all) (heard_now (heard_in_broadcast e) heard h kind)
+          (own_in_agreement e own first second all) (not_heard (heard_in_agreement e) heard h other)
+          (hears.stands (filter (in_broadcast e) own) (filter (heard_in_broadcast e) heard) stands.rbc)
+          (taken own heard stands).1;
+    }
+
+-- ---- the agreement hears the vote
+
+pub HearsOne-agreed : (c : Numbers) (i j e : ℕ) (old new : Cores) (h : Hearing) (before after : List Vote) → AreAt c i j e old
+    → heard_in_broadcast e h ≡ false → heard_in_agreement e h ≡ true → new.rbc ≡ old.rbc → standing.Hears old.aba new.aba h before after
+    → HearsOne c i j e old new h before after
+HearsOne-agreed c i j e old new h before after at other kind same hears =
+    let second : List Vote = hears.votes in
+    let owed : (own : List Vote) (heard : List Hearing) → StandFor e old own heard → IsOwed (agreement_slots c i j e) (own ++ []) (heard ++ h ∷ []) second =
+    λ own heard stands.
+    agreement_owed c i j e (own ++ []) (filter (read_in_agreement e) own) (filter (heard_in_agreement e) heard ++ h ∷ []) (heard ++ h ∷ []) second
+    (ap (filter (read_in_agreement e)) (append-nil own)) (heard_now (heard_in_agreement e) heard h kind)
+    (subst (λ (p : agreement.Place). IsOwed (standing.slots_at p) (filter (read_in_agreement e) own) (filter (heard_in_agreement e) heard ++ h ∷ []) second) at.aba
+    (hears.owed (filter (read_in_agreement e) own) (filter (heard_in_agreement e) heard) stands.aba)) in
+    record {
+      first = [];
+      second = second;
+      due = hears.due;
+      passes = λ own heard stands.
+          broadcast_pass c i j e own (filter (heard_in_broadcast e) heard) (heard ++ h ∷ []) (not_heard (heard_in_broadcast e) heard h other)
+          ∙ first_idle c i j e old own heard at stands;
+      owed = owed;
+      stands = λ own heard stands.
+          let all = second_made c i j e (own ++ []) (heard ++ h ∷ []) second (owed own heard stands) in
+          StandFor-by e new (own ++ second) (heard ++ h ∷ [])
+          (filter (in_broadcast e) own ++ []) ((filter (read_in_agreement e) own ++ []) ++ second)
+          (filter (heard_in_broadcast e) heard) (filter (heard_in_agreement e) heard ++ h ∷ [])
+          (own_in_broadcast e own [] second refl all) (not_heard (heard_in_broadcast e) heard h other)
+          (own_in_agreement e own [] second all) (heard_now (heard_in_agreement e) heard h kind)
+          (rw (append-nil, same) stands.rbc)
+          (rw append-nil (hears.stands (filter (read_in_agreement e) own) (filter (heard_in_agreement e) heard) stands.aba));
+    }
+
+-- ---- neither hears it
+
+pub HearsOne-nothing : (c : Numbers) (i j e : ℕ) (old : Cores) (h : Hearing) (votes : List Vote) → AreAt c i j e old
+    → heard_in_broadcast e h ≡ false → heard_in_agreement e h ≡ false → HearsOne c i j e old old h votes votes
+HearsOne-nothing c i j e old h votes at one two = record {
+  first = [];
+  second = [];
+  due = sym (append-nil votes);
+  passes = λ own heard stands.
+      broadcast_pass c i j e own (filter (heard_in_broadcast e) heard) (heard ++ h ∷ []) (not_heard (heard_in_broadcast e) heard h one)
+      ∙ first_idle c i j e old own heard at stands;
+  owed = λ own heard stands.
+      agreement_owed c i j e (own ++ []) (filter (read_in_agreement e) own) (filter (heard_in_agreement e) heard) (heard ++ h ∷ []) []
+      (ap (filter (read_in_agreement e)) (append-nil own)) (not_heard (heard_in_agreement e) heard h two)
+      (IsOwed-nil (agreement_slots c i j e) (filter (read_in_agreement e) own) (filter (heard_in_agreement e) heard) (second_idle c i j e old own heard at stands));
+  stands = λ own heard stands.
+      StandFor-by e old (own ++ []) (heard ++ h ∷ [])
+      (filter (in_broadcast e) own) (filter (read_in_agreement e) own) (filter (heard_in_broadcast e) heard) (filter (heard_in_agreement e) heard)
+      (ap (filter (in_broadcast e)) (append-nil own)) (not_heard (heard_in_broadcast e) heard h one)
+      (ap (filter (read_in_agreement e)) (append-nil own)) (not_heard (heard_in_agreement e) heard h two)
+      stands.rbc stands.aba;
+}
+
+-- ---- votes that are added behind others
+
+pub HearsOne-behind : (c : Numbers) (i j e : ℕ) (old new : Cores) (h : Hearing) (before after now : List Vote) → HearsOne c i j e old new h [] after
+    → now ≡ before ++ after → HearsOne c i j e old new h before now
+HearsOne-behind c i j e old new h before after now hears is = record {
+  first = hears.first;
+  second = hears.second;
+  due = is ∙ ap (λ (votes : List Vote). before ++ votes) hears.due;
+  passes = hears.passes;
+  owed = hears.owed;
+  stands = hears.stands;
+}

@@ -1,0 +1,10 @@
+use Rattle.std.proofs.Common.{◌≡◌, ◌+◌, ◌++◌, length}
+use Rattle.std.specs.Vec.Iter.{into_iter_items}
+use Rattle.lane_core.proofs.cores.push_all.Given as goal
+
+abbrev pub invariant-loop-vote : goal.invariant-loop-vote
+invariant-loop-vote l = record {
+  split : l.yielded ++ into_iter_items l.vote-iterator ≡ l.fn.votes.items;
+  votes : l.due.votes ≡ l.initial.due.votes ++ l.yielded;
+  room : l.due.spare + length l.yielded ≡ l.initial.due.spare;
+}

@@ -1,0 +1,21 @@
+use Rattle.std.proofs.Common.{◌≤◌, ℕ, subst, arith}
+use Rattle.hb_wire.specs.Votes.{epoch_of}
+use Rattle.hb_rules.specs.Hearing.{hearing}
+use Rattle.lane_core.specs.Lane.{LaneView, Opens}
+use Rattle.lane_core.proofs.Results.{on_ok}
+use Rattle.lane_core.proofs.Lanes.{Hears-outside, Hears-opened}
+use Rattle.lane_core.proofs.lane.LaneCore.hear_vote.Goals as goal
+
+pub returns-then-epoch-epochs-clause-ok : goal.returns-then-epoch-epochs-clause-ok
+returns-then-epoch-epochs-clause-ok c =
+    Hears-outside c.args.self.now (hearing c.args.from c.args.vote.now) c.args.due.now.votes
+    (subst (λ (l : LaneView). l.config.epochs ≤ epoch_of c.args.vote.now) c.self.view_is
+    (omega (arith, c.if-epoch-epochs.true, c.epochs.ensures.value, c.epoch-epoch.ensures)))
+
+pub returns-clause-ok : goal.returns-clause-ok
+returns-clause-ok c =
+    on_ok c.hear_open.result _ _
+    (Hears-opened c.args.self.now c.make_cores.new.self c.hear_open.new.self (epoch_of c.args.vote.now) (hearing c.args.from c.args.vote.now)
+    c.args.due.now.votes c.hear_open.new.due.votes
+    (subst (λ (k : ℕ). Opens c.args.self.now c.make_cores.new.self k) c.epoch-epoch.ensures c.in_ok-make_cores.ensures.ok))
+    c.hear_open.ensures.ok

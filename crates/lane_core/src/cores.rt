@@ -1,0 +1,196 @@
+ghost use Rattle.std.specs.Prelude.{◌≡◌, ◌<◌, ◌≤◌, true, false, [], ◌++◌, filter, length, IsOk, IfOk, OnOk, OnErr};
+ghost use Rattle.std.specs.List.{list_any};
+ghost use Rattle.hb_wire.specs.Votes.{epoch_of};
+ghost use Rattle.hb_rules.specs.Claims.{is_any_delivery};
+ghost use Rattle.hb_rules.specs.Hearing.{hearing};
+ghost use Rattle.hb_rules.specs.Owing.{agreement_slots};
+ghost use Rattle.hb_rules.specs.Parts.{read_in_agreement};
+ghost use Rattle.hb_rules.specs.Slots.{IsIdle};
+ghost use Rattle.hb_rules.specs.Terms.{AreSpelled};
+ghost use Rattle.rbc_core.specs.Broadcast.{IsShort};
+ghost use Rattle.lane_core.specs.Cores.{is_for_broadcast, is_for_agreement, AreAt, StayAt, StandFor, HearsInEpoch, IsNodeOf, agreement_room};
+
+use aba_core::Aba;
+use coin_deal::Deal;
+use hb_base::Config;
+use hb_rules::Due;
+use hb_wire::Vote;
+use rbc_core::Rbc;
+use std::alloc::{AllocError, Global};
+
+// What a lane has of an epoch, from the first vote on that it casts or hears of it: the states of its broadcast and of its
+// agreement.
+#[derive(Drop)]
+pub(crate) struct Cores {
+    rbc: Rbc,
+    aba: Aba,
+}
+
+impl Cores {
+    // The cores of a lane that has cast these votes, of any epoch, and has heard nothing since. They stand for these votes
+    // where they leave nothing owed.
+    pub(crate) fn rebuild(
+        alloc: Global,
+        config: &Config,
+        deal: &Deal,
+        node: u8,
+        lane: u8,
+        epoch: u8,
+        own: &[Vote],
+    ) -> Result<Cores, AllocError>
+        requires deal { deal.now ≡ config.now }
+        requires node { node < config.now.n }
+        requires lane { lane < config.now.n }
+        requires epoch { epoch < config.now.epochs }
+        requires own { AreSpelled config.now own.now }
+        ensures at { IfOk result (λ cores. AreAt config.now node lane epoch cores) }
+        ensures stands { IfOk result (λ cores. IsIdle (agreement_slots config.now node lane epoch) (filter (read_in_agreement epoch) own.now) []
+            → StandFor epoch cores own.now []) }
+    {
+        let rbc = Rbc::rebuild(alloc, config, node, lane, epoch, own)?;
+        let aba = Aba::rebuild(alloc, config, deal, node, lane, epoch, own)?;
+        Ok(Cores { rbc, aba })
+    }
+
+    // Hears a vote of the epoch that node `from` has cast, and adds the votes that it makes due: first those of the
+    // broadcast, then those of the agreement, which a delivery starts. Want of memory adds no vote; the cores are of no use
+    // then.
+    pub(crate) fn hear(
+        &mut self,
+        alloc: Global,
+        from: u8,
+        vote: &Vote,
+        due: &mut Due,
+    ) -> Result<(), AllocError>
+        requires from { IsNodeOf self.old from }
+        requires short { IsShort vote.now }
+        ensures ok { OnOk result (HearsInEpoch self.old self.new (hearing from vote.now) due.old.votes due.new.votes) }
+        ensures due { OnErr result (due.new.votes ≡ due.old.votes) }
+        ensures at { StayAt self.old self.new }
+        ensures room { is_for_broadcast vote.now ≡ false → agreement_room self.old ≤ due.old.spare → IsOk result }
+    {
+        if is_for_broadcast(vote) {
+            self.hear_broadcast(alloc, from, vote, due)
+        } else if is_for_agreement(vote) {
+            self.hear_agreement(from, vote, due)
+        } else {
+            Ok(())
+        }
+    }
+
+    // Hears a vote of the broadcast, or a proposal.
+    fn hear_broadcast(
+        &mut self,
+        alloc: Global,
+        from: u8,
+        vote: &Vote,
+        due: &mut Due,
+    ) -> Result<(), AllocError>
+        requires from { IsNodeOf self.old from }
+        requires short { IsShort vote.now }
+        requires kind { is_for_broadcast vote.now ≡ true }
+        ensures ok { OnOk result (HearsInEpoch self.old self.new (hearing from vote.now) due.old.votes due.new.votes) }
+        ensures due { OnErr result (due.new.votes ≡ due.old.votes) }
+        ensures at { StayAt self.old self.new }
+    {
+        let mut votes = Due::new(alloc);
+        self.pass_on(alloc, from, vote, &mut votes)?;
+        add_all(alloc, votes.votes(), due)
+    }
+
+    // Hears a vote of the broadcast, or a proposal, and tells the agreement if the lane delivers by it.
+    fn pass_on(
+        &mut self,
+        alloc: Global,
+        from: u8,
+        vote: &Vote,
+        due: &mut Due,
+    ) -> Result<(), AllocError>
+        requires from { IsNodeOf self.old from }
+        requires short { IsShort vote.now }
+        requires kind { is_for_broadcast vote.now ≡ true }
+        requires none { due.old.votes ≡ [] }
+        ensures ok { OnOk result (HearsInEpoch self.old self.new (hearing from vote.now) [] due.new.votes) }
+        ensures at { StayAt self.old self.new }
+    {
+        self.rbc.hear(alloc, from, vote, due)?;
+        if has_delivery(vote.epoch(), due.votes()) {
+            self.aba.input(true, due)
+        } else {
+            Ok(())
+        }
+    }
+
+    // Hears a vote of the agreement, or that the own node's desk wants no more lanes.
+    fn hear_agreement(&mut self, from: u8, vote: &Vote, due: &mut Due) -> Result<(), AllocError>
+        requires from { IsNodeOf self.old from }
+        requires kind { is_for_agreement vote.now ≡ true }
+        requires other { is_for_broadcast vote.now ≡ false }
+        ensures ok { OnOk result (HearsInEpoch self.old self.new (hearing from vote.now) due.old.votes due.new.votes) }
+        ensures due { OnErr result (due.new.votes ≡ due.old.votes) }
+        ensures at { StayAt self.old self.new }
+        ensures room { agreement_room self.old ≤ due.old.spare → IsOk result }
+    {
+        self.aba.hear(from, vote, due)
+    }
+}
+
+// Whether the broadcast of its epoch hears a vote.
+fn is_for_broadcast(vote: &Vote) -> bool
+    ensures { result ≡ is_for_broadcast vote.now }
+{
+    matches!(
+        vote,
+        Vote::Val { .. }
+            | Vote::Echo { .. }
+            | Vote::Ready { .. }
+            | Vote::Delivered { .. }
+            | Vote::Propose { .. }
+    )
+}
+
+// Whether the agreement of its epoch hears a vote.
+fn is_for_agreement(vote: &Vote) -> bool
+    ensures { result ≡ is_for_agreement vote.now }
+{
+    matches!(
+        vote,
+        Vote::Est { .. }
+            | Vote::Bval { .. }
+            | Vote::Aux { .. }
+            | Vote::Conf { .. }
+            | Vote::Pick { .. }
+            | Vote::Coin { .. }
+            | Vote::Decided { .. }
+            | Vote::NoMore { .. }
+    )
+}
+
+// Whether one of the votes delivers the value of this epoch.
+fn has_delivery(epoch: u8, votes: &[Vote]) -> bool
+    ensures { result ≡ list_any (is_any_delivery epoch) votes.now }
+{
+    votes.iter().any(|vote| matches!(vote, Vote::Delivered { epoch: other, .. } if *other == epoch))
+}
+
+// Adds copies of these votes behind the others. Want of memory adds none.
+fn add_all(alloc: Global, votes: &[Vote], due: &mut Due) -> Result<(), AllocError>
+    ensures ok { OnOk result (due.new.votes ≡ due.old.votes ++ votes.now) }
+    ensures err { OnErr result (due.new.votes ≡ due.old.votes) }
+{
+    let copies = votes.to_vec(alloc)?;
+    let count = u32::try_from(copies.len()).map_err(|_| AllocError)?;
+    due.reserve(count)?;
+    push_all(copies, due);
+    Ok(())
+}
+
+// Adds votes for which there is room.
+fn push_all(votes: Vec<Vote>, due: &mut Due)
+    requires { length votes.items ≤ due.old.spare }
+    ensures { due.new.votes ≡ due.old.votes ++ votes.items }
+{
+    for vote in votes {
+        due.push_reserved(vote);
+    }
+}
