@@ -1,5 +1,5 @@
 -- What the cores of an epoch stand for after one more hearing. The letters: lane j of node i, epoch e.
-use Rattle.std.proofs.Common.{◌≡◌, ℕ, Bool, true, false, List, [], ◌∷◌, ◌++◌, refl, sym, ap, ◌∙◌, subst, append-nil, append_assoc}
+use Rattle.std.proofs.Common.{◌≡◌, ℕ, true, false, List, [], ◌∷◌, ◌++◌, refl, sym, ap, ◌∙◌, subst, append-nil}
 use Rattle.std.specs.List.{list_any, list_all, filter}
 use Rattle.std.proofs.lemmas.List.Elements.{filter-append}
 use Rattle.hb_base.specs.Numbers.{Numbers}

@@ -1,6 +1,6 @@
 -- What the core of a lane stands for: at its start, after a restart, and after each hearing. The letters: lane j of node i,
 -- epochs e and k.
-use Rattle.std.proofs.Common.{◌≡◌, ℕ, ◌+◌, ◌*◌, ◌<◌, ◌≤◌, Bool, true, false, ◌==◌, nat_lt, inl, inr, List, [], ◌∷◌, ◌++◌, length, get_or, set, Option, None, Some, refl, sym, ap, ◌∙◌, subst, append-nil, append_assoc, length-append, below_more, get_or-set_same, get_or-set_other, arith}
+use Rattle.std.proofs.Common.{◌≡◌, ℕ, ◌+◌, ◌*◌, ◌<◌, ◌≤◌, Bool, true, false, nat_lt, inl, inr, List, [], ◌∷◌, ◌++◌, length, get_or, set, Option, None, Some, refl, sym, ap, ◌∙◌, subst, append-nil, length-append, below_more, get_or-set_same, get_or-set_other, arith}
 use Rattle.std.specs.List.{list_any, list_all, filter, AllByRecursion}
 use Rattle.std.specs.Option.{is_some}
 use Rattle.std.proofs.lemmas.Bool.{cases_eq, cases_lt, eqb-true, ne_eqb, le-ltb, lt-ltb, or_parts}
@@ -11,7 +11,7 @@ use Rattle.hb_wire.specs.declared.vote.Vote.{Vote}
 use Rattle.hb_wire.specs.Votes.{epoch_of}
 use Rattle.hb_rules.specs.Hearing.{Hearing}
 use Rattle.hb_rules.specs.Parts.{in_broadcast, heard_in_broadcast, in_agreement, read_in_agreement, heard_in_agreement, in_epoch, heard_in_epoch}
-use Rattle.hb_rules.specs.Slots.{Slot, pass, IsIdle, IsOwed, IsPart, of_epoch}
+use Rattle.hb_rules.specs.Slots.{Slot, pass, IsIdle, IsOwed, IsPart}
 use Rattle.hb_rules.specs.Owing.{broadcast_slots, agreement_slots, lane_slots}
 use Rattle.hb_rules.specs.BroadcastRows.{broadcast_rows}
 use Rattle.hb_rules.specs.AgreementRows.{agreement_rows}
@@ -23,8 +23,8 @@ use Rattle.hb_rules.proofs.LaneSlots.{lane-parts, lane_hears}
 use Rattle.rbc_core.specs.Broadcast as broadcast
 use Rattle.aba_core.specs.State as agreement
 use Rattle.lane_core.specs.declared.cores.Cores.{Cores}
-use Rattle.lane_core.specs.Cores.{AreAt, StandFor, IsUntouched, StandsAt, HearsOne}
-use Rattle.lane_core.specs.Lane.{LaneView, slots_at, cores_at, is_open, AreAtEpoch, StaysAt, ArePlaced, Stands, Hears, IsLane, Sets, Opens, HearsAt, IsOpenFor, HasRoom, AreRecovered, room_at}
+use Rattle.lane_core.specs.Cores.{StandFor, IsUntouched, StandsAt, HearsOne}
+use Rattle.lane_core.specs.Lane.{LaneView, slots_at, cores_at, is_open, AreAtEpoch, StaysAt, ArePlaced, Stands, Hears, Sets, Opens, HearsAt, IsOpenFor, HasRoom, AreRecovered}
 use Rattle.lane_core.proofs.Parts.{broadcast_inside, agreement_inside, heard_broadcast_inside, read_agreement_inside, heard_agreement_inside, broadcast_slots-parts, agreement_slots-parts}
 
 -- ---- lists of which an epoch looks at the same

@@ -11,9 +11,9 @@ use Rattle.hb_wire.specs.Votes.{epoch_of}
 use Rattle.hb_rules.specs.Claims.{is_any_delivery, is_any_proposal, is_no_more}
 use Rattle.hb_rules.specs.Hearing.{Hearing}
 use Rattle.hb_rules.specs.Parts.{Part, broadcast, agreement, desk, part_of, is_broadcast, is_agreement, in_broadcast, heard_in_broadcast, in_agreement, read_in_agreement, heard_in_agreement, in_epoch, heard_in_epoch}
-use Rattle.hb_rules.specs.Slots.{Slot, pass, IsOwed, IsPart}
+use Rattle.hb_rules.specs.Slots.{pass, IsOwed, IsPart}
 use Rattle.hb_rules.specs.Owing.{broadcast_slots, agreement_slots}
-use Rattle.hb_rules.proofs.Lists.{filter_within, filter-twice, filter_none, filter_all, any_within}
+use Rattle.hb_rules.proofs.Lists.{filter-twice, filter_none, filter_all, any_within}
 use Rattle.hb_rules.proofs.Rows.{of_epoch-hold}
 use Rattle.hb_rules.proofs.Within.{pass-same, IsOwed-same}
 use Rattle.hb_rules.proofs.BroadcastParts.{some_only, broadcast-parts}

@@ -1,5 +1,5 @@
 -- A lane that has cast nothing and heard nothing owes nothing.
-use Rattle.std.proofs.Common.{◌≡◌, ℕ, ◌+◌, Bool, true, false, List, [], Option, None, Some, if◌then◌else◌, ◌==◌, refl}
+use Rattle.std.proofs.Common.{◌≡◌, ℕ, ◌+◌, Bool, true, false, [], Option, None, Some, if◌then◌else◌, ◌==◌, refl}
 use Rattle.std.specs.Option.{option_map, option_and_then}
 use Rattle.hb_base.specs.Numbers.{Numbers}
 use Rattle.hb_wire.specs.declared.vote.Vote.{Vote}
@@ -14,7 +14,7 @@ use Rattle.hb_rules.specs.Owing.{lane_slots}
 use Rattle.hb_rules.specs.BroadcastRows.{val_slot, val_of, echo_slot, ready_slot, delivery_slot}
 use Rattle.hb_rules.specs.Code.{data_count}
 use Rattle.hb_rules.specs.Agreement.{confirms}
-use Rattle.hb_rules.specs.AgreementRows.{View, view_of, choice_of, agreement_slot, is_left_one, is_left_both, stops, next_bit}
+use Rattle.hb_rules.specs.AgreementRows.{view_of, choice_of, agreement_slot, is_left_one, is_left_both, stops, next_bit}
 use Rattle.rs_shards.specs.Completing.{encoded}
 use Rattle.hb_rules.proofs.Passing.{IsSettledAt, settled_if_none, pass_settled}
 use Rattle.hb_rules.proofs.LaneSlots.{lane_hold}

@@ -1,4 +1,4 @@
-use Rattle.std.proofs.Common.{◌≡◌, false, sym, ◌∙◌}
+use Rattle.std.proofs.Common.{false, sym, ◌∙◌}
 use Rattle.hb_rules.specs.Hearing.{hearing}
 use Rattle.hb_wire.specs.Votes.{epoch_of}
 use Rattle.lane_core.proofs.Epoch.{HearsOne-nothing}

@@ -1,4 +1,4 @@
-use Rattle.std.proofs.Common.{◌≡◌, List, ◌++◌, ap, ◌∙◌}
+use Rattle.std.proofs.Common.{List, ◌++◌, ap, ◌∙◌}
 use Rattle.hb_wire.specs.declared.vote.Vote.{Vote}
 use Rattle.hb_wire.specs.Votes.{epoch_of}
 use Rattle.hb_rules.specs.Hearing.{hearing}

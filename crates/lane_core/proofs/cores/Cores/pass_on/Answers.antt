@@ -1,9 +1,6 @@
-use Rattle.std.proofs.Common.{◌≡◌, true, false, [], refl, sym, ◌∙◌}
-use Rattle.std.specs.List.{list_any}
+use Rattle.std.proofs.Common.{true, false, refl, sym, ◌∙◌}
 use Rattle.hb_wire.specs.Votes.{epoch_of}
-use Rattle.hb_rules.specs.Claims.{is_any_delivery}
 use Rattle.hb_rules.specs.Hearing.{hearing}
-use Rattle.lane_core.specs.declared.cores.Cores.{Cores}
 use Rattle.lane_core.proofs.Results.{on_ok}
 use Rattle.lane_core.proofs.Parts.{for_broadcast_only}
 use Rattle.lane_core.proofs.Epoch.{HearsOne-passed, HearsOne-delivered}

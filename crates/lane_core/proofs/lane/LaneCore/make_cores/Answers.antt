@@ -1,4 +1,4 @@
-use Rattle.std.proofs.Common.{◌≡◌, ◌<◌, true, false, List, Option, sym, subst, ◌∙◌}
+use Rattle.std.proofs.Common.{◌≡◌, ◌<◌, true, false, Option, sym, subst, ◌∙◌}
 use Rattle.lane_core.specs.declared.cores.Cores.{Cores}
 use Rattle.lane_core.specs.Lane.{LaneView, is_open, AreAtEpoch, Opens}
 use Rattle.lane_core.proofs.Results.{on_ok, either_way}
