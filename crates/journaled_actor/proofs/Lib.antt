@@ -9,3 +9,6 @@ pub mod Heard
 pub mod Owing
 pub mod Crashes
 pub mod Payloads
+pub mod Going
+pub mod Nexts
+pub mod Left

@@ -3,3 +3,4 @@ pub mod Payload
 pub mod Kept
 pub mod Folding
 pub mod Faults
+pub mod Going

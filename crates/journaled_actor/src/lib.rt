@@ -2,7 +2,13 @@
 //! loss of power. What it has to cast a core says, of a lane or of a desk.
 #![tactic(auto)]
 
+mod beginning;
+mod casting;
 pub mod cores;
 mod payload;
+mod posting;
+mod reading;
+mod recording;
+mod stepping;
 
 pub use cores::Core;

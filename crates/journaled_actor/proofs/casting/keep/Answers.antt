@@ -1,0 +1,46 @@
+use Rattle.std.proofs.Common.{◌≡◌, refl, sym, ap, ◌∙◌, subst, arith}
+use Rattle.vote_journal.specs.Usable.{disk_of}
+use Rattle.journaled_actor.proofs.Crashes.{left_now}
+use Rattle.journaled_actor.proofs.Going.{disk_failed, disk_still, fault_not_full}
+use Rattle.journaled_actor.proofs.Left.{says_maybe}
+use Rattle.journaled_actor.proofs.Safe.{usable_says}
+use Rattle.journaled_actor.proofs.casting.keep.Goals as goal
+
+pub record-requires : goal.record-requires
+record-requires g c = record { usable = c.requires.usable; short = omega arith }
+
+pub returns-in-Ok : goal.returns-in-Ok
+returns-in-Ok g c =
+    let d = g.D.Disk in
+    let did = c.in-Ok.ensures in
+    record {
+      usable = did.usable;
+      text = did.text;
+      images = λ image may. left_now d.may_leave d.moment d.left_since g.met.D.Disk.counts_now (disk_of c.args.journal.now) (disk_of c.record.new.journal) _ did.step.runs.moments image may;
+      disk = record { draws = did.step.runs.draws; no_fewer = did.step.runs.faults_stay; failed = λ h. absurd (cc (h)) };
+      other = λ h. cc (h);
+    }
+
+pub returns-in-Err : goal.returns-in-Err
+returns-in-Err g c =
+    let d = g.D.Disk in
+    let did = c.in-Err.ensures in
+    rw c.fault_of.ensures (record {
+      usable = tt;
+      text = tt;
+      images = λ image may. left_now d.may_leave d.moment d.left_since g.met.D.Disk.counts_now (disk_of c.args.journal.now) (disk_of c.record.new.journal) _ did.step.runs.moments image may;
+      disk = disk_failed did.step.runs.draws did.step.runs.faults_stay did.step.failed did.step.no_other;
+      other = fault_not_full c.in-Err.fault;
+    })
+
+pub returns-then-text : goal.returns-then-text
+returns-then-text g c =
+    let d = g.D.Disk in
+    let j = c.args.journal.now in
+    record {
+      usable = tt;
+      text = tt;
+      images = λ image may. says_maybe _ c.args.text.now image (usable_says d.seen d.may_leave j c.requires.usable image may);
+      disk = disk_still (λ h. cc (h));
+      other = λ h. cc (h);
+    }
