@@ -1,11 +1,11 @@
 -- Envelopes that lie in blocks: one is added, and one taken out.
-use Rattle.std.proofs.Common.{◌≡◌, ℕ, zero, suc, ◌+◌, ◌-◌, ◌<◌, ◌≤◌, List, [], ◌∷◌, ◌++◌, length, take, drop, set, remove, get_or, Some, None, add-one, refl, sym, ap, ◌∙◌, subst, append_assoc, append-nil, arith, slice_get, length-append}
-use Rattle.std.proofs.lemmas.List.{length-set, take-set, drop-set-lt, take_all}
+use Rattle.std.proofs.Common.{◌≡◌, ℕ, zero, suc, ◌+◌, ◌-◌, ◌<◌, ◌≤◌, List, [], ◌∷◌, ◌++◌, length, take, drop, set, remove, get_or, Some, add-one, refl, sym, ap, ◌∙◌, subst, append_assoc, append-nil, arith, slice_get, length-append}
+use Rattle.std.proofs.lemmas.List.{take-set, drop-set-lt, take_all}
 use Rattle.std.proofs.lemmas.Option.{slice_get-get_or, slice_get_within}
 use Rattle.std.specs.Prelude.{Option, IfSome}
 use Rattle.std.proofs.lemmas.List.Edits.{remove-append_left, remove-append_right, length-remove}
 use Rattle.step_driver.specs.declared.envelope.Envelope.{Envelope}
-use Rattle.step_driver.specs.Blocks.{joined, IsFound, IsTakenAt}
+use Rattle.step_driver.specs.Blocks.{joined, IsTakenAt}
 
 abbrev pub Block : Type 0
 Block = List Envelope

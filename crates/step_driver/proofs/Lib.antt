@@ -1,1 +1,9 @@
 pub mod Blocks
+pub mod Takings
+pub mod Tellings
+pub mod Playing
+pub mod Stages
+pub mod Sendings
+pub mod Endings
+pub mod Turns
+pub mod Occupants

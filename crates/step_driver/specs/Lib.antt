@@ -1,2 +1,7 @@
 pub mod Blocks
 pub mod Waiting
+pub mod Places
+pub mod Delivering
+pub mod Playing
+pub mod Telling
+pub mod Running

@@ -1,12 +1,23 @@
-//! The driver of one thread: what waits to be delivered, and in which order it is taken.
+//! The driver of one thread: it delivers posts to actors one after another, in a stated order, until nothing is left to do.
 #![tactic(auto)]
 
 mod block;
+mod coming;
+mod ends;
 mod envelope;
+mod hired;
 mod line;
+mod place;
+mod player;
 mod queue;
+mod run;
+mod sending;
 #[cfg(test)]
 mod tests;
 
 pub use envelope::Envelope;
+pub use hired::{Boxed, Hired, Mouth};
 pub use line::Line;
+pub use place::Place;
+pub use player::Player;
+pub use run::{Done, run_steps};

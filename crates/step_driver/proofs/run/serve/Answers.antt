@@ -1,0 +1,26 @@
+use Rattle.std.proofs.Common.{length}
+use native.Mathlib.Omega.{arith}
+use Rattle.step_driver.specs.Places.{spots}
+use Rattle.step_driver.proofs.Turns.{GoesOn-followed, stood_after, few_lent, place_lent, followed_lent}
+use Rattle.step_driver.proofs.run.serve.Goals as goal
+
+pub follow-requires : goal.follow-requires
+follow-requires g c =
+    let old = spots g.A.Actor.seat g.A.Actor.view c.args.places.now.items in
+    let new = spots g.A.Actor.seat g.A.Actor.view c.serve_at-again.new.places.items in
+    let turn = c.serve_at-again.ensures.turn in
+    record {
+      first = omega (arith, c.count_posts-first.ensures, turn.served.longer);
+      few = few_lent g.A.Actor.seat g.A.Actor.view c.as_slice.result.now c.serve_at-again.new.places.items c.as_slice.ensures.value turn.stage.few;
+      again = stood_after c.args.script.now c.args.taken.post (length old) c.args.taken.place c.count_posts-first.result c.args.book.now c.serve_at-again.new.book old new c.serve_at-again.result turn c.count_posts-first.ensures;
+      place = place_lent g.A.Actor.seat g.A.Actor.view c.as_slice.result.now c.serve_at-again.new.places.items c.args.taken.place c.serve_at-again.result c.as_slice.ensures.value c.serve_at-again.ensures.place;
+    }
+
+pub returns : goal.returns
+returns g c =
+    let old = spots g.A.Actor.seat g.A.Actor.view c.args.places.now.items in
+    let new = spots g.A.Actor.seat g.A.Actor.view c.serve_at-again.new.places.items in
+    GoesOn-followed c.args.script.now c.args.taken.post (length old) c.args.taken.place c.count_posts-first.result c.args.book.now c.serve_at-again.new.book old new c.serve_at-again.result c.args.line.now c.follow.new.line
+    c.serve_at-again.ensures.turn c.count_posts-first.ensures
+    (followed_lent g.A.Actor.seat g.A.Actor.view c.as_slice.result.now c.serve_at-again.new.places.items c.serve_at-again.new.book.config c.args.script.now c.serve_at-again.new.book.posts c.count_posts-first.result c.args.taken.place c.serve_at-again.result
+    c.args.line.now c.follow.new.line c.as_slice.ensures.value c.in_ok-follow.ensures) c.requires.supplied

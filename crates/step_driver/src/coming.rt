@@ -1,0 +1,58 @@
+//! What comes to whom.
+
+ghost use Rattle.std.specs.Prelude.{◌≡◌, length};
+ghost use Rattle.hb_rules.specs.Report.{comes_to, is_drop};
+ghost use Rattle.step_driver.specs.Playing.{comes_found};
+
+use hb_base::Config;
+use hb_rules::PlainBook;
+use hb_wire::{Post, reaches};
+use net_script::{Script, Shape, shape};
+
+// Whether post k comes to this actor of this node: it reaches the actor, and is not dropped on its way.
+pub(crate) fn comes_to(
+    config: &Config,
+    script: &Script,
+    post: &Post,
+    node: u8,
+    actor: u8,
+    k: u32,
+) -> bool
+    ensures { result ≡ comes_to config.now script.now post.now node actor k }
+{
+    reaches(config.n(), post, node, actor) && !is_drop(shape(script, post.from, node, k))
+}
+
+// Whether a post that was looked for stands, and comes to this actor of this node.
+pub(crate) fn comes_found(
+    config: &Config,
+    script: &Script,
+    found: &Option<Post>,
+    node: u8,
+    actor: u8,
+    k: u32,
+) -> bool
+    ensures { result ≡ comes_found config.now script.now found.now node actor k }
+{
+    match found {
+        Some(post) => comes_to(config, script, post, node, actor, k),
+        None => false,
+    }
+}
+
+// How many posts stand.
+pub(crate) fn count_posts(book: &PlainBook) -> u32
+    ensures { result ≡ length book.now.posts }
+{
+    book.history().len() as u32
+}
+
+// Whether posts of this shape are not delivered.
+pub(crate) fn is_drop(shape: Shape) -> bool
+    ensures { result ≡ is_drop shape }
+{
+    match shape {
+        Shape::Drop => true,
+        Shape::Once | Shape::Twice | Shape::Late => false,
+    }
+}

@@ -1,0 +1,182 @@
+//! A node that lies, and what speaks for it.
+
+ghost use Rattle.std.specs.Prelude.{◌≡◌, ◌≤◌, true, count_by};
+ghost use Rattle.hb_base.specs.Limits.{most_lies};
+ghost use Rattle.hb_base.specs.NodeSet.{is_in};
+ghost use Rattle.hb_rules.specs.Book.{IsSeatOf};
+ghost use Rattle.step_driver.specs.Places.{hired_view};
+ghost use Rattle.step_driver.specs.Delivering.{is_from, IsHired, Speaks};
+ghost use Rattle.step_driver.specs.Telling.{Tells};
+
+use crate::coming::is_drop;
+use hb_base::Config;
+use hb_base::limits::MOST_LIES;
+use hb_rules::{Book, PlainBook, PlainSeat};
+use hb_wire::{Lie, Post, reaches};
+use liar_cast::{Liar, LiarSeat, Lies};
+use net_script::{Script, shape};
+use std::alloc::Global;
+
+/// What speaks for a node that lies, as a `Liar` does. Nothing is promised of what it says.
+pub trait Mouth: Drop {
+    /// Speaks before it has heard anything.
+    fn start(&mut self, alloc: Global, me: &LiarSeat, lies: &mut Lies);
+
+    /// Hears a post, and may speak.
+    fn hear(&mut self, alloc: Global, me: &LiarSeat, post: &Post, lies: &mut Lies);
+}
+
+/// A boxed liar.
+#[derive(Drop)]
+pub struct Boxed {
+    liar: Box<dyn Liar>,
+}
+
+impl Boxed {
+    /// The mouth that is this liar.
+    pub fn new(liar: Box<dyn Liar>) -> Boxed {
+        Boxed { liar }
+    }
+}
+
+impl Mouth for Boxed {
+    fn start(&mut self, alloc: Global, me: &LiarSeat, lies: &mut Lies) {
+        self.liar.start(alloc, me, lies);
+    }
+
+    fn hear(&mut self, alloc: Global, me: &LiarSeat, post: &Post, lies: &mut Lies) {
+        self.liar.hear(alloc, me, post, lies);
+    }
+}
+
+/// A node that lies, with what speaks for it until it has heard so many posts.
+#[derive(Drop)]
+pub struct Hired<L> {
+    seat: PlainSeat,
+    said: u32,
+    hears: u32,
+    lies: Lies,
+    mouth: Option<L>,
+}
+
+impl<L: Mouth> Hired<L> {
+    /// One that has said nothing. `seat` is the seat of its node; it hears `hears` posts, and is then dropped.
+    pub fn new(alloc: Global, seat: PlainSeat, hears: u32, mouth: L) -> Hired<L>
+        ensures { hired_view result ≡ record { seat = seat; said = 0 } }
+    {
+        let node = seat.node();
+        Hired {
+            seat,
+            said: 0,
+            hears,
+            lies: Lies::new(alloc, node),
+            mouth: Some(mouth),
+        }
+    }
+
+    pub(crate) fn node(&self) -> u8
+        ensures { result ≡ (hired_view self.now).seat.node }
+    {
+        self.seat.node()
+    }
+
+    // Lets it speak before it has heard anything.
+    pub(crate) fn start(&mut self, alloc: Global, book: &mut PlainBook)
+        requires seat { IsSeatOf book.old (hired_view self.old).seat }
+        requires hired { IsHired book.old.config (hired_view self.old) }
+        ensures { Speaks book.old book.new (hired_view self.old) (hired_view self.new) }
+    {
+        let me = self.me(book);
+        if let Some(mouth) = &mut self.mouth {
+            mouth.start(alloc, &me, &mut self.lies);
+        }
+        self.tell(book);
+    }
+
+    // Delivers post k to it, if it still hears, the post stands, reaches an actor of its node and is not dropped.
+    pub(crate) fn hear(&mut self, alloc: Global, script: &Script, book: &mut PlainBook, k: u32)
+        requires seat { IsSeatOf book.old (hired_view self.old).seat }
+        requires hired { IsHired book.old.config (hired_view self.old) }
+        ensures { Speaks book.old book.new (hired_view self.old) (hired_view self.new) }
+    {
+        let me = self.me(book);
+        self.listen(alloc, &me, script, book.history(), k);
+        self.tell(book);
+    }
+
+    fn me(&self, book: &PlainBook) -> LiarSeat {
+        LiarSeat {
+            node: self.seat.node(),
+            config: book.config(),
+        }
+    }
+
+    // Hands post k to what speaks for it. Nothing is posted yet.
+    fn listen(&mut self, alloc: Global, me: &LiarSeat, script: &Script, posts: &[Post], k: u32)
+        ensures { hired_view self.new ≡ hired_view self.old }
+    {
+        let Some(post) = posts.get(k as usize) else {
+            return;
+        };
+        let comes = reaches_node(&me.config, post, me.node)
+            && !is_drop(shape(script, post.from, me.node, k));
+        if self.hears == 0 || !comes {
+            return;
+        }
+        self.hears -= 1;
+        if let Some(mouth) = &mut self.mouth {
+            mouth.hear(alloc, me, post, &mut self.lies);
+        }
+    }
+
+    // Posts what it has said, and drops what speaks for it where it hears no more.
+    fn tell(&mut self, book: &mut PlainBook)
+        requires seat { IsSeatOf book.old (hired_view self.old).seat }
+        requires hired { IsHired book.old.config (hired_view self.old) }
+        ensures { Speaks book.old book.new (hired_view self.old) (hired_view self.new) }
+    {
+        self.said = post_lies(book, &mut self.seat, self.said, self.lies.waiting());
+        self.lies.clear();
+        if self.hears == 0 {
+            self.mouth = None;
+        }
+    }
+}
+
+// Whether a post reaches some actor of this node.
+pub(crate) fn reaches_node(config: &Config, post: &Post, node: u8) -> bool {
+    let n = config.n();
+    (0..n + 1).any(|actor| reaches(n, post, node, actor))
+}
+
+// Posts these lies under the seat's node, as long as fewer than 4,096 stand under it, and answers how many stand then. A lie
+// that the book refuses is dropped.
+fn post_lies(book: &mut PlainBook, seat: &mut PlainSeat, said: u32, lies: &[Lie]) -> u32
+    requires seat { IsSeatOf book.old seat.old }
+    requires liar { is_in book.old.config.liars seat.old.node ≡ true }
+    requires said { count_by (is_from seat.old.node) seat.old.seen ≡ said }
+    requires few { said ≤ most_lies }
+    ensures { Tells book.old book.new seat.old seat.new result }
+{
+    let mut said = said;
+    for lie in lies {
+        said = post_lie(book, seat, said, lie);
+    }
+    said
+}
+
+fn post_lie(book: &mut PlainBook, seat: &mut PlainSeat, said: u32, lie: &Lie) -> u32
+    requires seat { IsSeatOf book.old seat.old }
+    requires liar { is_in book.old.config.liars seat.old.node ≡ true }
+    requires said { count_by (is_from seat.old.node) seat.old.seen ≡ said }
+    requires few { said ≤ most_lies }
+    ensures { Tells book.old book.new seat.old seat.new result }
+{
+    if said >= MOST_LIES {
+        return said;
+    }
+    match book.lie(seat, lie.actor, lie.to, lie.bytes.as_slice()) {
+        Ok(_) => said + 1,
+        Err(_) => said,
+    }
+}
