@@ -16,7 +16,7 @@ pub(crate) struct Case {
     /// is ?.
     pub(crate) own: &'static str,
 
-    /// What it hears: D or d of a lane that decides 1 or 0, V of one that delivers; then the lane, the epoch, and the
+    /// What it hears: + or - of a lane that decides 1 or 0, = of one that delivers; then the lane, the epoch, and the
     /// transactions that are delivered.
     pub(crate) script: &'static str,
 
@@ -32,7 +32,7 @@ pub(crate) const CASES: [Case; 12] = [
         batch: 2,
         submitted: "abcde",
         own: "",
-        script: "D00 D10 D20 V00ab V10xy V20c d30 D01 V01cd D11 V11e D21 V21 D31 V31z D02 D12 D22 D32 V32 V22ab V12e V02q",
+        script: "+00 +10 +20 =00ab =10xy =20c -30 +01 =01cd +11 =11e +21 =21 +31 =31z +02 +12 +22 +32 =32 =22ab =12e =02q",
         wanted: "P0ab . . N0 . . . C00ab1xy2c+P1de . . . . N1 . . C10cd1e23z+P2 . . N2 . . . . C20q1e2ab3",
     },
     // the last first, and all three closed at once
@@ -42,7 +42,7 @@ pub(crate) const CASES: [Case; 12] = [
         batch: 2,
         submitted: "abcdefg",
         own: "",
-        script: "D02 V02ef D12 V12g D22 V22 d32 D01 V01cd D11 V11x D21 V21b d31 D00 V00ab D10 V10c D20 V20 d30",
+        script: "+02 =02ef +12 =12g +22 =22 -32 +01 =01cd +11 =11x +21 =21b -31 +00 =00ab +10 =10c +20 =20 -30",
         wanted: "P0ab . . . . N2 . . . . . . N1 . . . . . . N0 . C00ab1c2+C10cd1x2b+C20ef1g2+P1de+P2ef",
     },
     // two at once, by a delivery; bytes that are no batch
@@ -52,7 +52,7 @@ pub(crate) const CASES: [Case; 12] = [
         batch: 3,
         submitted: "abcabd",
         own: "",
-        script: "V01c D01 V11a D11 V21? D21 d31 d00 V10bx D10 V20 D20 D30 D22 V22 D32 V32 D12 V12d V30d d02",
+        script: "=01c +01 =11a +11 =21? +21 -31 -00 =10bx +10 =20 +20 +30 +22 =22 +32 =32 +12 =12d =30d -02",
         wanted: "P0abc . . . . . N1 . . . . . . N0 . . . . N2 . C01bx23d+C10c1a2?+P1ac+P2 C21d23",
     },
     // of a lane the first of each counts; an epoch that the run has not
@@ -62,7 +62,7 @@ pub(crate) const CASES: [Case; 12] = [
         batch: 1,
         submitted: "abc",
         own: "",
-        script: "D00 d00 V00a V00b D10 V10? D20 V20b d30 D30 D01 D11 D21 d31 V11 V01 D03 V03c d33 V21c d02 d12 d22 d32",
+        script: "+00 -00 =00a =00b +10 =10? +20 =20b -30 +30 +01 +11 +21 -31 =11 =01 +03 =03c -33 =21c -02 -12 -22 -32",
         wanted: "P0a . . . . . . N0 . C00a1?2b+P1c . . . N1 . . . . . . C1012c+P2 . . . C2",
     },
     // lanes that decided 0 are left out, whatever they deliver
@@ -72,7 +72,7 @@ pub(crate) const CASES: [Case; 12] = [
         batch: 2,
         submitted: "ab",
         own: "",
-        script: "V00b d00 d10 d20 d30 d01 d11 V21a d21 d31 d02 d12 d22 d32",
+        script: "=00b -00 -10 -20 -30 -01 -11 =21a -21 -31 -02 -12 -22 -32",
         wanted: "P0ab . . . . C0+P1ab . . . . C1+P2ab . . . C2",
     },
     // one node that nothing was submitted to
@@ -82,7 +82,7 @@ pub(crate) const CASES: [Case; 12] = [
         batch: 4,
         submitted: "",
         own: "",
-        script: "D00 V00 V01ab D01 D02 V02",
+        script: "+00 =00 =01ab +01 +02 =02",
         wanted: "P0 N0 C00+P1 . N1+C10ab+P2 N2 C20",
     },
     // one node, the last first; what comes twice is proposed once
@@ -92,7 +92,7 @@ pub(crate) const CASES: [Case; 12] = [
         batch: 4,
         submitted: "aabba",
         own: "",
-        script: "V02b D02 V01 D01 V00a D00",
+        script: "=02b +02 =01 +01 =00a +00",
         wanted: "P0ab . N2 . N1 . N0+C00a+C10+C20b+P1b+P2b",
     },
     // seven nodes
@@ -102,7 +102,7 @@ pub(crate) const CASES: [Case; 12] = [
         batch: 3,
         submitted: "abcdefghijk",
         own: "",
-        script: "D60 V60k V50ab D50 D40 V40c D30 V30a D20 V20 d10 d00 D01 V01def D11 V11 d21 d31 D41 V41g D51 V51 D61 V61h",
+        script: "+60 =60k =50ab +50 +40 =40c +30 =30a +20 =20 -10 -00 +01 =01def +11 =11 -21 -31 +41 =41g +51 =51 +61 =61h",
         wanted: "P0abc . . . . . . . . N0 . . C023a4c5ab6k+P1def . . . . . . . . . . N1 C10def14g56h+P2ij",
     },
     // closed before the first proposal was cast
@@ -112,7 +112,7 @@ pub(crate) const CASES: [Case; 12] = [
         batch: 2,
         submitted: "abcd",
         own: "N0+C00a1bx2+P1cd",
-        script: "D01 D11 D21 V01 V11c V21x d31",
+        script: "+01 +11 +21 =01 =11c =21x -31",
         wanted: "P0ab . . N1 . . . C101c2x+P2d",
     },
     // all closed, and nothing proposed first
@@ -122,7 +122,7 @@ pub(crate) const CASES: [Case; 12] = [
         batch: 2,
         submitted: "abc",
         own: "C00ab+P1c+C10+P2c+C20c",
-        script: "D00 V00 D02",
+        script: "+00 =00 +02",
         wanted: "P0ab N0 . N2",
     },
     // wanted no more in a later epoch
@@ -132,7 +132,7 @@ pub(crate) const CASES: [Case; 12] = [
         batch: 1,
         submitted: "ab",
         own: "P0a+N1",
-        script: "D01 D11 D21 D00 D10 D20 V00b V10 V20 d30",
+        script: "+01 +11 +21 +00 +10 +20 =00b =10 =20 -30",
         wanted: ". . . . . . N0 . . . C00b12+P1a",
     },
     // a closed batch that is none
@@ -142,7 +142,7 @@ pub(crate) const CASES: [Case; 12] = [
         batch: 3,
         submitted: "ab",
         own: "P0ab+N0+C00?+P1ab",
-        script: "D01 V01ba",
+        script: "+01 =01ba",
         wanted: ". N1 C10ba+P2",
     },
 ];

@@ -143,13 +143,13 @@ pub(crate) fn said(alloc: Global, text: &[u8]) -> Result<(u8, Vote), Fail> {
         [kind, lane, epoch, letters @ ..] => {
             let epoch = epoch.saturating_sub(b'0');
             let vote = match kind {
-                b'V' => Vote::Delivered {
+                b'=' => Vote::Delivered {
                     epoch,
                     value: batch_of(alloc, letters)?,
                 },
                 _ => Vote::Decided {
                     epoch,
-                    bit: *kind == b'D',
+                    bit: *kind == b'+',
                 },
             };
             Ok((lane.saturating_sub(b'0'), vote))
