@@ -17,6 +17,7 @@ use Rattle.hb_rules.specs.Marks.{single, Mark, delivery, est, any_est, bval, any
 use Rattle.hb_rules.specs.Parts.{in_agreement, read_in_agreement}
 use Rattle.hb_rules.specs.Slots.{IsIdle, when}
 use Rattle.hb_rules.proofs.Lists.{any_within}
+use Rattle.hb_rules.proofs.Starting.{choice_none}
 use Rattle.aba_core.specs.declared.marks.Marks.{Marks}
 use Rattle.aba_core.specs.declared.round.Round.{Round}
 use Rattle.aba_core.specs.Bits.{no_bits}
@@ -119,32 +120,10 @@ Stands-idle a own shows idle = record { idle = idle; shows = shows }
 
 -- ---- where nothing was cast and heard, nothing is owed
 
-none_made : (c : Numbers) (i j e : ℕ) (name : AgreementSlot) → choice_of c i j e name (view_of c i j e [] []) ≡ None
-unfolding choice_of
-none_made c i j e (Begin true) = refl
-none_made c i j e (Begin false) = refl
-none_made c i j e (Support r b) = refl
-none_made c i j e (Accept r) = refl
-none_made c i j e (ConfirmOne r b) = refl
-none_made c i j e (ConfirmBoth r) = refl
-none_made c i j e (PickOne r b) = by (confirms c)
-  where
-    by : (confirm : Bool) → when (is_left_one confirm c (view_of c i j e [] []) r b) (Pick e r (single b)) ≡ None
-    by true = refl
-    by false = refl
-none_made c i j e (PickBoth r) = by (confirms c)
-  where
-    by : (confirm : Bool) → when (is_left_both confirm c (view_of c i j e [] []) r) (Pick e r Both) ≡ None
-    by true = refl
-    by false = refl
-none_made c i j e (ShowShare r) = refl
-none_made c i j e (GoOn r) = rw (no_coin c j e r) refl
-none_made c i j e (Decide r) = rw (no_coin c j e r) refl
-
 pub Stands-none : (a : AbaView) → 1 ≤ a.config.rounds → Shows a [] [] → Stands a [] []
 Stands-none a some shows =
     Stands-idle a [] shows
-    (calm_idle a [] [] shows some (λ name known below. inr (choice_shown a [] [] shows name below ∙ none_made a.config a.node a.lane a.epoch name)))
+    (calm_idle a [] [] shows some (λ name known below. inr (choice_shown a [] [] shows name below ∙ choice_none a.config a.node a.lane a.epoch name)))
 
 -- ---- only votes that the agreement reads are marked
 

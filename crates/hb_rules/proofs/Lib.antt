@@ -13,6 +13,7 @@ pub mod AgreementParts
 pub mod FirstShares
 pub mod AgreementSlots
 pub mod LaneSlots
+pub mod Starting
 pub mod DeskParts
 pub mod DeskSlots
 pub mod Lawful

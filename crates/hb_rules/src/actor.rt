@@ -1,4 +1,4 @@
-ghost use Rattle.std.specs.Prelude.{◌≡◌, ℕ, ◌+◌, ◌≤◌, ◌⊎◌, true, false, List, [], ◌∷◌, ◌++◌, length, IfOk, IfErr, OnOk, OnErr, IsErrOf, slice_get};
+ghost use Rattle.std.specs.Prelude.{◌≡◌, ℕ, ◌+◌, ◌≤◌, ◌⊎◌, true, false, List, [], ◌∷◌, ◌++◌, length, IfOk, IfErr, IsOk, OnOk, OnErr, IsErrOf, slice_get};
 ghost use Rattle.hb_base.specs.Outside.{Rose};
 ghost use Rattle.disk_model.specs.Supply.{IsNamed};
 ghost use Rattle.hb_base.specs.Limits.{most_posts, most_stops};
@@ -111,6 +111,7 @@ pub trait Actor<B: Book>: Drop {
         ensures watched { Watched (B.config (seat self.old)) (B.node (seat self.old)) (B.actor (seat self.old))
             (B.seen (seat self.old)) (B.seen (seat self.new)) }
         ensures found { IfOk result (λ post. post ≡ slice_get (B.seen (seat self.new)) k) }
+        ensures none { length (B.seen (seat self.new)) ≤ k → IsOk result }
         ensures still { view self.new ≡ view self.old };
 
     /// Recovers its journal and casts what is owed. It is called once, before any other.

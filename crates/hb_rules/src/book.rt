@@ -1,4 +1,4 @@
-ghost use Rattle.std.specs.Prelude.{◌≡◌, ℕ, ◌<◌, ◌⊎◌, true, List, length, IfOk, IfSome, OnErr, slice_get};
+ghost use Rattle.std.specs.Prelude.{◌≡◌, ℕ, ◌<◌, ◌≤◌, ◌⊎◌, true, List, length, IfOk, IfSome, IsOk, OnErr, slice_get};
 ghost use Rattle.hb_base.specs.Numbers.{Numbers};
 ghost use Rattle.hb_base.specs.NodeSet.{is_in};
 ghost use Rattle.hb_wire.specs.declared.post.Post.{Post};
@@ -106,7 +106,7 @@ pub trait Book {
         ensures memory { result ≡ Err BookFault.Memory → length (seen seat.new) < most_posts };
 
     /// Post k, which is of one of the n nodes, and None exactly where there are no more than k. It shares the post's bytes and
-    /// takes no memory; Err is as of `Bytes::clone`.
+    /// takes no memory; Err is as of `Bytes::clone`, and never told of a post that does not stand.
     fn read(&mut self, seat: &mut Self::Seat, k: u32) -> Result<Option<Post>, AllocError>
         requires seat { knows self.old seat.old }
         ensures seat { knows self.new seat.new }
@@ -115,7 +115,8 @@ pub trait Book {
         ensures whole { is_whole self.old self.new seat.old seat.new }
         ensures watched { Watched (config seat.old) (node seat.old) (actor seat.old) (seen seat.old) (seen seat.new) }
         ensures found { IfOk result (λ post. post ≡ slice_get (seen seat.new) k) }
-        ensures known { IfOk result (λ post. IfSome post (λ p. p.from < (config seat.old).n)) };
+        ensures known { IfOk result (λ post. IfSome post (λ p. p.from < (config seat.old).n)) }
+        ensures none { length (seen seat.new) ≤ k → IsOk result };
 
     /// How many posts stand.
     fn posts(&mut self, seat: &mut Self::Seat) -> u32

@@ -1,4 +1,4 @@
-ghost use Rattle.std.specs.Prelude.{◌≡◌, ◌+◌, ◌-◌, ◌^◌, ◌≤◌, min, [], ◌∷◌, ◌++◌, OnOk, OnErr, IsOk};
+ghost use Rattle.std.specs.Prelude.{◌≡◌, ◌+◌, ◌-◌, ◌^◌, ◌≤◌, min, [], ◌∷◌, ◌++◌, length, OnOk, OnErr, IsOk};
 
 use hb_wire::Vote;
 use std::alloc::{AllocError, Global};
@@ -74,10 +74,10 @@ impl Due {
         self.votes.as_slice()
     }
 
-    /// Forgets all votes, and keeps their room.
+    /// Forgets all votes, and keeps their room: what they took is room for others.
     pub fn clear(&mut self)
         ensures votes { self.new.votes ≡ [] }
-        ensures room { self.old.spare ≤ self.new.spare }
+        ensures room { self.new.spare ≡ self.old.spare + length self.old.votes }
     {
         self.votes.clear();
     }

@@ -133,14 +133,15 @@ pub fn agreement_slot_laws()
 /// hearings alone. So what one hearing makes owed, where nothing was owed before, is one pass over the broadcast's slots of
 /// its epoch, and then what the agreement's slots of that epoch owe. The vote of each slot fills it, and what fills it is
 /// not undone; a slot that makes nothing of what was heard makes nothing where nothing is heard; own votes count by tests
-/// alone. So one list is owed, and where what was heard has spellings it may be cast one vote after another by all that is
-/// heard, now or later, and has spellings.
+/// alone. So one list is owed, none where nothing was cast and heard; and where what was heard has spellings it may be cast
+/// one vote after another by all that is heard, now or later, and has spellings.
 pub fn lane_slot_laws()
     ensures parts { (c : Numbers) (i j : ℕ) → AreRows in_epoch heard_in_epoch in_epoch (broadcast_rows c i j ++ agreement_rows c i j) }
     ensures hears { (c : Numbers) (i j : ℕ) (own : List Vote) (heard : List Hearing) (h : Hearing) (votes : List Vote) → epoch_of h.vote < c.epochs
         → IsIdle (lane_slots c i j) own heard
         → IsOwed (agreement_slots c i j (epoch_of h.vote)) (own ++ pass (broadcast_slots c i j (epoch_of h.vote)) own (heard ++ h ∷ [])) (heard ++ h ∷ []) votes
         → IsOwed (lane_slots c i j) own (heard ++ h ∷ []) (pass (broadcast_slots c i j (epoch_of h.vote)) own (heard ++ h ∷ []) ++ votes) }
+    ensures starts { (c : Numbers) (i j : ℕ) → IsIdle (lane_slots c i j) [] [] }
     ensures guarded { (c : Numbers) (i j : ℕ) → AllByRecursion IsGuarded (lane_slots c i j) }
     ensures forgetful { (c : Numbers) (i j : ℕ) → AllByRecursion IsForgetful (lane_slots c i j) }
     ensures tested { (c : Numbers) (i j : ℕ) → AllByRecursion IsTested (lane_slots c i j) }

@@ -1,4 +1,4 @@
-ghost use Rattle.std.specs.Prelude.{◌≡◌, ◌<◌, ◌≤◌, true, false, Err, [], ◌∷◌, ◌++◌, length, IsOkAnd, IfOk, IfSome, OnOk, OnErr, slice_get};
+ghost use Rattle.std.specs.Prelude.{◌≡◌, ◌<◌, ◌≤◌, true, false, Err, [], ◌∷◌, ◌++◌, length, IsOk, IsOkAnd, IfOk, IfSome, OnOk, OnErr, slice_get};
 ghost use Rattle.hb_base.specs.Limits.{most_posts};
 ghost use Rattle.hb_base.specs.NodeSet.{is_in};
 ghost use Rattle.hb_wire.specs.declared.post.Post.{Post};
@@ -96,10 +96,11 @@ impl Posts {
     }
 
     /// Post k, which is of one of the n nodes, and None exactly where there are no more than k. It shares the post's bytes and
-    /// takes no memory; Err is as of `Bytes::clone`. It takes constant time.
+    /// takes no memory; Err is as of `Bytes::clone`, and never told of a post that does not stand. It takes constant time.
     pub fn read(&self, k: u32) -> Result<Option<Post>, AllocError>
         ensures found { IfOk result (λ post. post ≡ slice_get self.now.posts k) }
         ensures known { IfOk result (λ post. IfSome post (λ p. p.from < self.now.config.n)) }
+        ensures none { length self.now.posts ≤ k → IsOk result }
     {
         match self.items.get(k as usize) {
             None => Ok(None),

@@ -14,7 +14,7 @@ use Rattle.hb_rules.proofs.Passing.{IsOwed-unique, owed_idle, idle_owed}
 use Rattle.hb_rules.proofs.LaneSlots.{lane-guarded, lane-owed}
 use Rattle.rbc_core.specs.Broadcast.{IsShort}
 use Rattle.lane_core.specs.Lane.{LaneView, slots_at, lane_terms, IsSameLane, Stands, Hears}
-use Rattle.lane_core.proofs.Starting.{starts_idle}
+use Rattle.hb_rules.proofs.Starting.{lane_starts}
 
 -- what a vote with a spelling carries is short
 pub short_by : (c : Numbers) (vote : Vote) → HasSpelling c vote → IsShort vote
@@ -60,7 +60,7 @@ pub kept_idle : (l : LaneView) (seen : List Post) (own : List Vote) → l.lane <
 kept_idle l seen own below votes = by votes.rest
   where
     by : ((own ≡ []) ⊎ ((lane_terms l).owed own [] ≡ [])) → IsIdle (slots_at l) own []
-    by (inl none) = subst (λ (own : List Vote). IsIdle (slots_at l) own []) (sym none) (starts_idle l.config l.node l.lane)
+    by (inl none) = subst (λ (own : List Vote). IsIdle (slots_at l) own []) (sym none) (lane_starts l.config l.node l.lane)
     by (inr rests) =
         idle_owed (slots_at l) (lane-guarded l.config l.node l.lane) own [] (sym (owed-lane l own [] below) ∙ rests)
 

@@ -314,8 +314,3 @@ fn hear_at(
         None => Ok(()),
     }
 }
-
-/// A lane that has cast nothing and heard nothing owes nothing.
-pub fn start_laws()
-    ensures { (c : Numbers) (i j : ℕ) → IsIdle (lane_slots c i j) [] [] }
-{}

@@ -6,4 +6,4 @@ mod lane;
 #[cfg(test)]
 mod tests;
 
-pub use lane::{LaneCore, start_laws};
+pub use lane::LaneCore;

@@ -1,4 +1,5 @@
 use Rattle.hb_rules.proofs.LaneSlots.{lane-parts, lane_hears, lane-guarded, lane-forgets, lane-tested, lane-owed, lane_in_turn, lane_spelled}
+use Rattle.hb_rules.proofs.Starting.{lane_starts}
 use Rattle.hb_rules.proofs.laws.lane_slot_laws.Goals as goal
 
 pub returns-clause-parts : goal.returns-clause-parts
@@ -6,6 +7,9 @@ returns-clause-parts c = lane-parts
 
 pub returns-clause-hears : goal.returns-clause-hears
 returns-clause-hears c = lane_hears
+
+pub returns-clause-starts : goal.returns-clause-starts
+returns-clause-starts c = lane_starts
 
 pub returns-clause-guarded : goal.returns-clause-guarded
 returns-clause-guarded c = lane-guarded

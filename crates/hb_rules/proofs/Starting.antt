@@ -1,4 +1,4 @@
--- A lane that has cast nothing and heard nothing owes nothing.
+-- Where nothing was cast and nothing was heard, nothing is owed.
 use Rattle.std.proofs.Common.{◌≡◌, ℕ, ◌+◌, Bool, true, false, [], Option, None, Some, if◌then◌else◌, ◌==◌, refl}
 use Rattle.std.specs.Option.{option_map, option_and_then}
 use Rattle.hb_base.specs.Numbers.{Numbers}
@@ -41,7 +41,7 @@ delivery_none : (c : Numbers) (e : ℕ) → (delivery_slot c e).choice [] [] ≡
 unfolding delivery_slot
 delivery_none c e = refl
 
-choice_none : (c : Numbers) (i j e : ℕ) (name : AgreementSlot) → choice_of c i j e name (view_of c i j e [] []) ≡ None
+pub choice_none : (c : Numbers) (i j e : ℕ) (name : AgreementSlot) → choice_of c i j e name (view_of c i j e [] []) ≡ None
 unfolding choice_of
 choice_none c i j e (Begin true) = refl
 choice_none c i j e (Begin false) = refl
@@ -77,8 +77,8 @@ slot_none : (c : Numbers) (i j e : ℕ) (name : AgreementSlot) → (agreement_sl
 unfolding agreement_slot
 slot_none c i j e name = choice_none c i j e name
 
-pub starts_idle : (c : Numbers) (i j : ℕ) → IsIdle (lane_slots c i j) [] []
-starts_idle c i j =
+pub lane_starts : (c : Numbers) (i j : ℕ) → IsIdle (lane_slots c i j) [] []
+lane_starts c i j =
     let settled : (slot : Slot Vote Hearing) → slot.choice [] [] ≡ None → IsSettledAt slot [] [] = λ slot none. settled_if_none slot [] [] none in
     pass_settled (lane_slots c i j) [] []
     (lane_hold (λ (slot : Slot Vote Hearing). IsSettledAt slot [] []) c i j
