@@ -1,12 +1,1 @@
-pub mod Apart
-pub mod Counts
-pub mod Earlier
-pub mod Few
-pub mod Items
-pub mod Lengths
 pub mod Lying
-pub mod Names
-pub mod Planned
-pub mod Steps
-pub mod Texts
-pub mod Writing

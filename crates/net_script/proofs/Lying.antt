@@ -8,7 +8,7 @@ use Rattle.std.proofs.lemmas.Grind.{get_or-set_at}
 use Rattle.hb_base.specs.Limits.{most_nodes}
 use Rattle.hb_base.specs.NodeSet.{is_in}
 use Rattle.net_script.specs.declared.script.LiarAt.{LiarAt}
-use Rattle.net_script.specs.Plans.{with_nodes_of, nodes_of}
+use Rattle.net_script.specs.Sound.{with_nodes_of, nodes_of}
 use Rattle.net_script.specs.Sound.{IsLiar}
 
 -- whether one of these liars is at a node

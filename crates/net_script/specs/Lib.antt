@@ -1,10 +1,3 @@
 pub mod Delivery
-pub mod Entries
-pub mod Fault
-pub mod Fields
-pub mod Line
-pub mod Place
-pub mod Plans
-pub mod Reading
 pub mod Scenario
 pub mod Sound

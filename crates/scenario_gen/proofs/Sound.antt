@@ -8,7 +8,7 @@ use Rattle.std.proofs.lemmas.List.FromFn.{length-map-range_with_len, get_or-map-
 use Rattle.hb_base.specs.Limits.{most_nodes}
 use Rattle.hb_base.specs.NodeSet.{is_in}
 use Rattle.disk_model.specs.declared.plan.Stop.{Stop}
-use Rattle.net_script.specs.Plans.{nodes_of}
+use Rattle.net_script.specs.Sound.{nodes_of}
 use Rattle.net_script.proofs.Lying.{those_lie}
 use Rattle.net_script.specs.Sound.{IsSubmit, IsLiar, AreApart, IsLink, IsNumbered, IsPlan, IsBefore, IsScenario}
 use Rattle.seed_words.specs.Words.{word}

@@ -2,7 +2,9 @@
 use crate::rows::{BOUNDS, FAULTS, KINDS, LIARS, LINKS, LONG, NUMBERS, STOPS, SUBMIT, WHOLE};
 use disk_model::{Leave, Stop};
 use hb_base::{LiarName, MemorySink};
-use net_script::{LiarAt, Link, Order, Script, Shape, read_script, shape, write_fault};
+use net_script::{LiarAt, Link, Order, Script, Shape, shape};
+use script_fault::write_fault;
+use script_reader::read_script;
 use std::alloc::{AllocError, Global};
 use std::process::Abort;
 use std::test::Fail;

@@ -1,7 +1,0 @@
-use Rattle.std.proofs.Common.{◌≡◌, [], take, drop}
-use Rattle.net_script.specs.Entries.{each_once}
-use Rattle.net_script.proofs.liars.each_once.Given as goal
-
--- the liars that are left, behind those before them, decide as all do
-abbrev pub invariant-loop-i : goal.invariant-loop-i
-invariant-loop-i l = each_once (take l.i l.liars) (drop l.i l.liars) ≡ each_once [] l.liars

@@ -1,0 +1,9 @@
+pub mod Apart
+pub mod Counts
+pub mod Earlier
+pub mod Few
+pub mod Items
+pub mod Names
+pub mod Planned
+pub mod Steps
+pub mod Texts

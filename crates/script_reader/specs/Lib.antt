@@ -1,0 +1,6 @@
+pub mod Bounds
+pub mod Entries
+pub mod Fault
+pub mod Fields
+pub mod Plans
+pub mod Reading
