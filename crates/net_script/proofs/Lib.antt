@@ -1,1 +1,2 @@
+pub mod ListsOfLists
 pub mod Lying

@@ -8,9 +8,8 @@ ghost use Rattle.script_reader.specs.Fault.{Gives};
 ghost use Rattle.script_reader.specs.Fields.{list_at};
 ghost use Rattle.script_reader.specs.Entries.{entries_of};
 
-use script_fault::ScriptFault;
 use crate::fields::found;
-use script_fault::{KeyName, Spot};
+use script_fault::{KeyName, ScriptFault, Spot};
 use serde_json::Value;
 use std::alloc::Global;
 

@@ -6,9 +6,8 @@ ghost use Rattle.script_fault.specs.Place.{key_text, required_keys};
 ghost use Rattle.script_reader.specs.Fields.{found, have_all, is_one_of, is_known, no_other, entry_at, required, number_of, number_at, number_if};
 ghost use Rattle.script_reader.specs.Fields.{number_or, node_at, node_if, node_or_any, text_of, text_at};
 
-use script_fault::ScriptFault;
-use script_fault::{KeyName, ListName, Place, Spot};
 use hb_base::Bytes;
+use script_fault::{KeyName, ListName, Place, ScriptFault, Spot};
 use serde_json::{Map, Value};
 use std::alloc::Global;
 

@@ -7,13 +7,12 @@ ghost use Rattle.net_script.specs.Sound.{IsLiar};
 ghost use Rattle.script_reader.specs.Entries.{liar_at, liars_at, each_once, all_cast};
 
 use crate::entries::{Entry, entries_of, list_at};
-use script_fault::ScriptFault;
 use crate::fields::{check_entry, node_at, number_or};
-use script_fault::{KeyName, ListName, Spot};
-use net_script::LiarAt;
 use crate::words::name_at;
 use hb_base::LiarName;
 use hb_base::limits::MOST_POSTS;
+use net_script::LiarAt;
+use script_fault::{KeyName, ListName, ScriptFault, Spot};
 use serde_json::Value;
 use std::alloc::Global;
 

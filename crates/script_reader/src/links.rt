@@ -7,12 +7,11 @@ ghost use Rattle.net_script.specs.Sound.{IsLink};
 ghost use Rattle.script_reader.specs.Entries.{link_at, links_at};
 
 use crate::entries::{Entry, entries_of, list_at};
-use script_fault::ScriptFault;
 use crate::fields::{check_entry, node_or_any, number_at};
-use script_fault::{KeyName, ListName, Spot};
-use net_script::Link;
 use crate::words::shape_at;
 use hb_base::limits::MOST_LINKS;
+use net_script::Link;
+use script_fault::{KeyName, ListName, ScriptFault, Spot};
 use serde_json::Value;
 use std::alloc::Global;
 

@@ -5,13 +5,13 @@ ghost use Rattle.script_reader.specs.Fault.{Gives};
 ghost use Rattle.script_reader.specs.Bounds.{AreListed};
 ghost use Rattle.script_reader.specs.Reading.{listed, lists_at};
 
-use script_fault::ScriptFault;
 use crate::liars::liars_at;
 use crate::links::links_at;
-use net_script::{LiarAt, Link, Submit};
 use crate::stops::{CallAt, StopAt, faults_at, stops_at};
 use crate::submits::submits_at;
 use hb_base::LiarName;
+use net_script::{LiarAt, Link, Submit};
+use script_fault::ScriptFault;
 use serde_json::Value;
 use std::alloc::Global;
 

@@ -9,10 +9,10 @@ ghost use Rattle.net_script.specs.Sound.{nodes_of};
 ghost use Rattle.script_reader.specs.Plans.{stops_of, faults_of, actor_plan, node_plans, plans_of};
 
 use crate::lists::Lists;
-use net_script::{ActorPlan, LiarAt};
 use crate::stops::{CallAt, StopAt};
 use disk_model::{Plan, Stop};
 use hb_base::NodeSet;
+use net_script::{ActorPlan, LiarAt};
 use std::alloc::{AllocError, Global};
 
 // The nodes of the liars.

@@ -10,13 +10,13 @@ ghost use Rattle.net_script.specs.Sound.{IsScenario};
 ghost use Rattle.script_reader.specs.Bounds.{HasAtMost, AreBounded, AreListed};
 ghost use Rattle.script_reader.specs.Reading.{listed, scenario, scenario_at, json_of, scenario_of};
 
-use script_fault::ScriptFault;
 use crate::lists::{Lists, lists_at};
 use crate::plans::{nodes_of, plans_of};
-use net_script::Script;
 use crate::top::{Head, Sizes, head_at};
 use hb_base::limits::LONGEST_SCENARIO;
 use hb_base::{Config, LiarName, NodeSet};
+use net_script::Script;
+use script_fault::ScriptFault;
 use serde_json::Value;
 use std::alloc::Global;
 

@@ -7,12 +7,11 @@ ghost use Rattle.script_reader.specs.Bounds.{IsStop, IsCall};
 ghost use Rattle.script_reader.specs.Entries.{is_call_of, is_stop_of, stop_of, room_for, call_at, stop_at, stops_at, fault_at, faults_at};
 
 use crate::entries::{Entry, entries_of, list_at};
-use script_fault::ScriptFault;
 use crate::fields::{check_entry, node_at, number_at};
-use script_fault::{KeyName, ListName, Spot};
 use crate::words::leave_at;
 use disk_model::{Leave, Stop};
 use hb_base::limits::{MOST_FAULTS, MOST_STOPS};
+use script_fault::{KeyName, ListName, ScriptFault, Spot};
 use serde_json::Value;
 use std::alloc::Global;
 

@@ -7,11 +7,10 @@ ghost use Rattle.net_script.specs.Sound.{IsSubmit};
 ghost use Rattle.script_reader.specs.Entries.{submit_at, submits_at};
 
 use crate::entries::{Entry, entries_of, list_at};
-use script_fault::ScriptFault;
 use crate::fields::{check_entry, node_at};
-use script_fault::{KeyName, ListName, Spot};
-use net_script::Submit;
 use crate::words::transaction_at;
+use net_script::Submit;
+use script_fault::{KeyName, ListName, ScriptFault, Spot};
 use serde_json::Value;
 use std::alloc::Global;
 

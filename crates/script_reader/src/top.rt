@@ -7,14 +7,13 @@ ghost use Rattle.script_reader.specs.Fault.{Gives};
 ghost use Rattle.script_reader.specs.Reading.{sizes_at, with_usual, head_at};
 ghost use Rattle.script_reader.specs.Bounds.{AreBounded};
 
-use script_fault::ScriptFault;
 use crate::fields::{check_entry, number_at, number_or};
-use script_fault::{KeyName, Spot};
-use net_script::Order;
 use crate::words::order_or_fifo;
 use hb_base::limits::{
     LATEST_VERSION, MOST_BATCH, MOST_EPOCHS, MOST_FAULTY, MOST_NODES, MOST_ROUNDS, MOST_WORKERS,
 };
+use net_script::Order;
+use script_fault::{KeyName, ScriptFault, Spot};
 use serde_json::Value;
 use std::alloc::Global;
 

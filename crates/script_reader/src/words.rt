@@ -7,13 +7,12 @@ ghost use Rattle.script_reader.specs.Fault.{Gives};
 ghost use Rattle.script_reader.specs.Fields.{known_word, order_named, order_or_fifo, shape_named, shape_at, leave_named, leave_at, name_of, name_at};
 ghost use Rattle.script_reader.specs.Fields.{transaction_from, transaction_at};
 
-use script_fault::ScriptFault;
 use crate::fields::{found, text_at, text_of};
-use script_fault::Place;
-use net_script::{Order, Shape};
 use disk_model::Leave;
 use hb_base::limits::LONGEST_TRANSACTION;
 use hb_base::{Bytes, LiarName};
+use net_script::{Order, Shape};
+use script_fault::{Place, ScriptFault};
 use serde_json::Value;
 use std::alloc::{AllocError, Global};
 
