@@ -1,6 +1,5 @@
 -- How often a vote was cast.
-use Rattle.std.proofs.Common.{◌≡◌, ℕ, ◌<◌, ◌≤◌, ◌+◌, Bool, true, false, ◌||◌, List, [], ◌∷◌, ◌++◌, length, take, drop, if◌then◌else◌, refl, sym, ap, ◌∙◌, subst, arith, append-nil}
-use Rattle.std.specs.Prelude.{count_by}
+use Rattle.std.proofs.Common.{◌≡◌, ℕ, ◌≤◌, ◌+◌, Bool, true, false, ◌||◌, List, [], ◌∷◌, ◌++◌, take, drop, if◌then◌else◌, refl, sym, ap, ◌∙◌, subst, arith}
 use Rattle.std.specs.List.{list_any}
 use Rattle.std.proofs.Math.Bool.{or-false}
 use Rattle.std.proofs.lemmas.Bool.{or_right}
@@ -12,7 +11,7 @@ use Rattle.hb_wire.specs.declared.post.Post.{Post}
 use Rattle.hb_wire.proofs.Equality.{one_vote}
 use Rattle.hb_rules.specs.Actor.{IsFew}
 use Rattle.hb_rules.specs.Hearing.{Hearing}
-use Rattle.hb_rules.specs.Same.{same_vote, firsts, count}
+use Rattle.hb_rules.specs.Same.{same_vote, count}
 use Rattle.hb_rules.specs.Terms.{Terms, AreCastable, AreVotes, cast_in, heard_all}
 use Rattle.journaled_actor.specs.Kept.{IsAll, CastSome}
 use Rattle.journaled_actor.proofs.SameRules.{new_vote}

@@ -1,11 +1,11 @@
 -- What a crash leaves after a step of a journal, and why a step failed.
-use Rattle.std.proofs.Common.{◌≡◌, ℕ, ◌<◌, ◌≤◌, ◌+◌, ◌-◌, ◌^◌, min, Bool, true, false, List, Result, Ok, Err, refl, sym, ap, ◌∙◌, subst, arith}
+use Rattle.std.proofs.Common.{◌≡◌, ℕ, ◌<◌, ◌≤◌, Bool, true, false, Result, Ok, Err, refl, ◌∙◌, arith}
 use Rattle.std.specs.Prelude.{IfErr}
 use Rattle.hb_base.specs.Outside.{Rose}
 use Rattle.disk_model.specs.Image.{Image}
 use Rattle.disk_model.specs.Disk.{LeavesOnly}
 use Rattle.disk_model.specs.Supply.{Supply, Draws}
-use Rattle.vote_journal.specs.Runs.{IsStep, HasReason, Runs}
+use Rattle.vote_journal.specs.Runs.{HasReason}
 use Rattle.vote_journal.specs.declared.fault.JournalFault.{JournalFault}
 
 -- what holds of all images since a call began holds of those that are left now

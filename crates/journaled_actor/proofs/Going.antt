@@ -1,6 +1,6 @@
 -- A seat and a disk over several calls.
-use Rattle.std.proofs.Common.{◌≡◌, ℕ, ◌≤◌, List, Result, Ok, Err, refl, sym, ap, ◌∙◌, subst, arith}
-use Rattle.std.specs.Prelude.{IsErrOf, OnOk, IfErr}
+use Rattle.std.proofs.Common.{◌≡◌, ℕ, ◌≤◌, List, Result, Ok, Err, refl, ap, ◌∙◌, subst, arith}
+use Rattle.std.specs.Prelude.{IsErrOf}
 use Rattle.disk_model.specs.Supply.{Supply, Draws}
 use Rattle.hb_base.specs.Numbers.{Numbers}
 use Rattle.hb_base.specs.Outside.{Rose}
@@ -9,8 +9,7 @@ use Rattle.vote_journal.specs.Runs.{HasReason}
 use Rattle.vote_journal.specs.declared.fault.JournalFault.{JournalFault}
 use Rattle.vote_journal.specs.declared.fault.JournalFault.TheVariants.{Failed, NotAJournal, Memory as JournalMemory}
 use Rattle.hb_rules.specs.declared.actor.ActorFault.{ActorFault}
-use Rattle.hb_rules.specs.declared.actor.ActorFault.TheVariants.{Journal, Full, Memory}
-use Rattle.hb_rules.specs.Actor.{Told}
+use Rattle.hb_rules.specs.declared.actor.ActorFault.TheVariants.{Journal, Full}
 use Rattle.hb_rules.specs.Book.{Watched}
 use Rattle.hb_rules.specs.Terms.{Terms}
 use Rattle.journaled_actor.specs.Faults.{actor_fault}

@@ -1,8 +1,8 @@
 -- What an actor heard of the posts that it received.
-use Rattle.std.proofs.Common.{◌≡◌, ℕ, ◌<◌, ◌≤◌, ◌==◌, nat_lt, ◌&&◌, if◌then◌else◌, zero, suc, Bool, true, false, inl, inr, List, [], ◌∷◌, ◌++◌, length, Contains, Option, None, Some, slice_get, refl, sym, ap, ◌∙◌, subst, arith, append-nil}
-use Rattle.std.specs.List.{filter_map, AllByRecursion, cons_option}
+use Rattle.std.proofs.Common.{◌≡◌, ℕ, ◌<◌, ◌==◌, nat_lt, ◌&&◌, if◌then◌else◌, zero, suc, Bool, true, false, inl, inr, List, [], ◌∷◌, ◌++◌, Contains, Option, None, Some, slice_get, refl, sym, ap, ◌∙◌, subst, arith}
+use Rattle.std.specs.List.{filter_map, cons_option}
 use Rattle.std.specs.Option.{option_to_list}
-use Rattle.std.proofs.lemmas.Bool.{eqb-true, ltb-true, and_parts, cases_Bool}
+use Rattle.std.proofs.lemmas.Bool.{eqb-true, ltb-true, and_parts}
 use Rattle.std.proofs.lemmas.List.Elements.{filter_map-append, Contains-push_cases}
 use Rattle.hb_base.specs.Numbers.{Numbers}
 use Rattle.hb_wire.specs.declared.vote.Vote.{Vote}
@@ -10,7 +10,7 @@ use Rattle.hb_wire.specs.declared.vote.Vote.TheVariants.{Val, Echo, Ready, Deliv
 use Rattle.hb_wire.specs.declared.post.Post.{Post}
 use Rattle.hb_wire.proofs.VoteLemmas.{vote_takes}
 use Rattle.hb_rules.specs.Actor.{AreSeen, ReachesActor}
-use Rattle.hb_rules.specs.Hearing.{Hearing, hearing, hearing_of, heard_in, heard_of, heeds, name_at, spelled}
+use Rattle.hb_rules.specs.Hearing.{Hearing, hearing_of, heard_in, heeds, name_at}
 use Rattle.hb_rules.specs.History.{HasSpelling}
 use Rattle.hb_rules.specs.Ledger.{IsPrefix}
 use Rattle.hb_rules.specs.Terms.{Terms, AreHeardSpelled, AreAmong, heard_all, heard_got}

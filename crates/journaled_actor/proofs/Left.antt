@@ -1,9 +1,9 @@
 -- What calls leave of a journal, of the votes that are cast, and of what is heard.
-use Rattle.std.proofs.Common.{◌≡◌, ℕ, ◌<◌, ◌≤◌, ◌+◌, ◌-◌, ◌^◌, min, inl, inr, Bool, true, false, ◌&&◌, ◌==◌, nat_lt, List, [], ◌∷◌, ◌++◌, length, take, Option, None, Some, slice_get, get_or, Result, Ok, Err, refl, sym, ap, ◌∙◌, subst, arith, append-nil}
+use Rattle.std.proofs.Common.{◌≡◌, ℕ, ◌<◌, ◌≤◌, ◌+◌, ◌-◌, ◌^◌, min, inl, Bool, true, false, ◌==◌, nat_lt, List, [], ◌∷◌, ◌++◌, length, take, Option, None, Some, slice_get, get_or, Result, Ok, Err, refl, sym, ap, ◌∙◌, subst, arith, append-nil}
 use Rattle.std.specs.Prelude.{OnOk, IfSome}
 use Rattle.hb_wire.specs.Addresses.{reaches}
 use Rattle.std.specs.List.{concat}
-use Rattle.std.proofs.lemmas.Bool.{eqb-true, eq-eqb, ltb-true, lt-ltb, le-ltb, and_parts}
+use Rattle.std.proofs.lemmas.Bool.{eqb-true, eq-eqb, ltb-true, lt-ltb, and_parts}
 use Rattle.std.proofs.lemmas.List.{take_more}
 use Rattle.std.proofs.lemmas.List.Folds.{concat-append}
 use Rattle.disk_model.specs.Image.{Image}
@@ -27,9 +27,9 @@ use Rattle.journaled_actor.specs.Payload.{payload}
 use Rattle.journaled_actor.specs.Kept.{Covers, IsCovered, IsSafe, IsAll, IsOpen, Turn, CastSome, HearsPost, heard_with}
 use Rattle.journaled_actor.proofs.Crashes.{left_now}
 use Rattle.journaled_actor.proofs.Heard.{got_more, got_longer, got_heard, heard_spelled, seen_more, seen_longer, reaches_longer, slice_longer}
-use Rattle.journaled_actor.proofs.Owing.{owed_votes, none_among, open_with, all_watched}
-use Rattle.journaled_actor.proofs.Safe.{usable_says, safe_said, safe_left, safe_maybe, all_covers}
-use Rattle.journaled_actor.proofs.Turns.{turn_begins, turn_after, votes_longer}
+use Rattle.journaled_actor.proofs.Owing.{owed_votes, none_among, open_with}
+use Rattle.journaled_actor.proofs.Safe.{usable_says, safe_said, safe_left, all_covers}
+use Rattle.journaled_actor.proofs.Turns.{turn_after, votes_longer}
 
 -- ---- results
 

@@ -1,10 +1,9 @@
 -- The spelling of a vote is short.
-use Rattle.std.proofs.Common.{◌≡◌, ℕ, ◌<◌, ◌≤◌, ◌+◌, ◌*◌, ◌^◌, List, [], ◌∷◌, ◌++◌, length, refl, ap, ◌∙◌, arith, length-append}
+use Rattle.std.proofs.Common.{◌≡◌, ℕ, ◌≤◌, ◌+◌, ◌*◌, ◌^◌, List, [], ◌∷◌, length, refl, arith, length-append}
 use Rattle.std.specs.List.{flat_map, AllByRecursion}
 use Rattle.std.specs.Int.{w32, to_be_bytes}
-use Rattle.merkle_branch.specs.declared.Branch.{Branch}
 use Rattle.merkle_branch.specs.Branches.{siblings}
-use Rattle.merkle_branch.specs.Digests.{IsDigest, height}
+use Rattle.merkle_branch.specs.Digests.{IsDigest}
 use Rattle.merkle_branch.proofs.HeightLemmas.{height_low}
 use Rattle.hb_wire.specs.declared.items.Item.{Item}
 use Rattle.hb_wire.specs.declared.vote.Vote.{Vote}

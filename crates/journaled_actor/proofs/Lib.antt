@@ -12,3 +12,4 @@ pub mod Payloads
 pub mod Going
 pub mod Nexts
 pub mod Left
+pub mod Actors

@@ -1,6 +1,5 @@
 -- One vote more of votes that are posted in turn.
-use Rattle.std.proofs.Common.{◌≡◌, ℕ, ◌<◌, ◌+◌, ◌⊎◌, inl, inr, List, [], ◌∷◌, ◌++◌, length, take, drop, get_or, Result, Err, refl, sym, ap, ◌∙◌, subst, arith}
-use Rattle.std.specs.Prelude.{IsErrOf}
+use Rattle.std.proofs.Common.{◌≡◌, ℕ, ◌<◌, ◌+◌, ◌⊎◌, inl, inr, List, [], ◌∷◌, ◌++◌, length, take, drop, get_or, Result, Err, refl, sym, subst}
 use Rattle.hb_base.specs.Limits.{most_posts}
 use Rattle.hb_base.specs.Numbers.{Numbers}
 use Rattle.hb_wire.specs.declared.vote.Vote.{Vote}
@@ -10,13 +9,11 @@ use Rattle.hb_rules.specs.declared.actor.ActorFault.TheVariants.{Journal, Full, 
 use Rattle.hb_rules.specs.Actor.{Told}
 use Rattle.hb_rules.specs.Book.{post_of, Watched, Posted}
 use Rattle.hb_rules.specs.History.{HasSpelling, IsAllowed}
-use Rattle.hb_rules.specs.Ledger.{IsPrefix}
-use Rattle.hb_rules.specs.Same.{firsts}
-use Rattle.hb_rules.specs.Terms.{Terms, cast_in}
-use Rattle.journaled_actor.specs.Kept.{IsOf, Turn, Covers, CastSome}
+use Rattle.hb_rules.specs.Terms.{Terms}
+use Rattle.journaled_actor.specs.Kept.{IsOf, Turn, CastSome}
 use Rattle.journaled_actor.specs.Payload.{AreWritten}
 use Rattle.journaled_actor.proofs.Payloads.{next_taken, next_left, holds_at}
-use Rattle.journaled_actor.proofs.Posted.{at_terms, from_terms, told_trans, told_watched, posting_next, posting_failed, posting_covers, posting_done, IsPosting, IsWritten, HasPosted}
+use Rattle.journaled_actor.proofs.Posted.{at_terms, from_terms, told_trans, told_watched, posting_next, posting_failed, IsPosting, IsWritten, HasPosted}
 use Rattle.journaled_actor.proofs.Turns.{turn_spelled, turn_allows}
 
 module _ {t : Terms} {c : Numbers} {i x : ℕ} (is : IsOf t c i x) {old mid : List Post} {votes : List Vote} {k : ℕ} {vote : Vote} {before out : List ℕ}

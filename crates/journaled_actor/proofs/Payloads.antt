@@ -1,6 +1,6 @@
 -- Votes to the bytes of a journal and back.
-use Rattle.std.proofs.Common.{◌≡◌, ℕ, zero, suc, ◌<◌, ◌≤◌, ◌+◌, ◌^◌, List, [], ◌∷◌, ◌++◌, length, Option, None, Some, get_or, take, drop, refl, sym, ap, ◌∙◌, subst, arith, append-nil, append_assoc, length-append}
-use Rattle.std.specs.List.{flat_map, AllByRecursion}
+use Rattle.std.proofs.Common.{◌≡◌, ℕ, zero, suc, ◌<◌, ◌≤◌, ◌+◌, List, [], ◌∷◌, ◌++◌, length, Option, None, Some, get_or, take, drop, refl, sym, ap, ◌∙◌, subst, arith, append-nil, append_assoc, length-append}
+use Rattle.std.specs.List.{AllByRecursion}
 use Rattle.std.proofs.lemmas.Grind.{flat_map-append}
 use Rattle.std.proofs.lemmas.List.{take_more, drop_more}
 use Rattle.std.specs.Int.{w32, to_be_bytes}
@@ -8,7 +8,7 @@ use Rattle.hb_base.specs.ByteLists.{AreBytes}
 use Rattle.hb_base.specs.Numbers.{Numbers}
 use Rattle.hb_wire.specs.declared.vote.Vote.{Vote}
 use Rattle.hb_wire.specs.Reading.{sized_at, vote_at}
-use Rattle.hb_wire.specs.Votes.{IsVote, Spells, spelling, sized_bytes}
+use Rattle.hb_wire.specs.Votes.{Spells, spelling, sized_bytes}
 use Rattle.hb_wire.proofs.FieldLemmas.{IsBytes, SizedFits, bytes_from, reads_sized, some_is}
 use Rattle.hb_wire.proofs.VoteLemmas.{vote_again}
 use Rattle.hb_rules.specs.History.{HasSpelling}

@@ -1,18 +1,16 @@
 -- What images of a disk have of the votes that an actor has cast.
-use Rattle.std.proofs.Common.{◌≡◌, ℕ, inl, inr, ⊎_elim, List, [], ◌∷◌, ◌++◌, refl, sym, ap, ◌∙◌, subst}
-use Rattle.std.specs.List.{concat, flat_map}
+use Rattle.std.proofs.Common.{◌≡◌, ℕ, ⊎_elim, List, [], ◌∷◌, ◌++◌, refl, sym, ap, ◌∙◌, subst}
+use Rattle.std.specs.List.{concat}
 use Rattle.std.proofs.lemmas.Grind.{flat_map-append}
-use Rattle.disk_model.specs.Image.{Image, half_of}
-use Rattle.disk_model.specs.Disk.{Only, LeavesOnly}
+use Rattle.disk_model.specs.Image.{Image}
 use Rattle.hb_wire.specs.declared.vote.Vote.{Vote}
 use Rattle.hb_wire.specs.declared.post.Post.{Post}
 use Rattle.vote_journal.specs.declared.journal.Journal.{Journal}
 use Rattle.vote_journal.specs.Runs.{LeftOrSays}
-use Rattle.vote_journal.specs.Text.{text_of, IsSound, SaysOnly, SaysMaybe, half_entries}
+use Rattle.vote_journal.specs.Text.{text_of, SaysOnly, SaysMaybe}
 use Rattle.vote_journal.specs.Usable.{IsUsable, disk_of, entries_in_journal}
-use Rattle.vote_journal.proofs.Says.{alone, held_says, text_is}
+use Rattle.vote_journal.proofs.Says.{alone, held_says}
 use Rattle.hb_rules.specs.Ledger.{IsPrefix}
-use Rattle.hb_rules.specs.Same.{firsts}
 use Rattle.hb_rules.specs.Terms.{Terms, AreVotes, cast_in}
 use Rattle.journaled_actor.specs.Payload.{payload, vote_bytes}
 use Rattle.journaled_actor.specs.Kept.{Covers, IsCovered, IsSafe, IsAll}

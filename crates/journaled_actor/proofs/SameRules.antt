@@ -1,5 +1,5 @@
 -- Rules look at own votes through tests alone; and no vote may be cast that was cast before.
-use Rattle.std.proofs.Common.{◌≡◌, ℕ, zero, suc, Bool, true, false, ◌&&◌, ◌==◌, inl, inr, ⊎_elim, List, Contains, refl, sym, ap, ◌∙◌, subst}
+use Rattle.std.proofs.Common.{◌≡◌, ℕ, zero, suc, Bool, true, false, ◌&&◌, ◌==◌, inl, inr, ⊎_elim, List, Contains, refl, sym, ◌∙◌, subst}
 use Rattle.std.specs.List.{list_any}
 use Rattle.std.proofs.lemmas.Bool.{eq-eqb, and_from, false_from_ne_true}
 use Rattle.hb_base.specs.Numbers.{Numbers}
@@ -13,7 +13,7 @@ use Rattle.hb_rules.specs.Broadcast.{MayBroadcast}
 use Rattle.hb_rules.specs.Claims.{same_bit, is_val_to, is_any_echo, is_any_ready, is_any_delivery, is_any_decision, is_any_proposal, is_no_more, is_any_closing}
 use Rattle.hb_rules.specs.Desk.{MayAtDesk, is_open}
 use Rattle.hb_rules.specs.Hearing.{Hearing}
-use Rattle.hb_rules.specs.Marks.{same_vals, is_any_est, is_bval, is_any_aux, is_any_conf, is_any_pick, is_any_coin}
+use Rattle.hb_rules.specs.Marks.{is_any_est, is_bval, is_any_aux, is_any_conf, is_any_pick, is_any_coin}
 use Rattle.hb_rules.specs.Parts.{Part, broadcast, agreement, desk, part_of}
 use Rattle.hb_rules.specs.Rules.{MayInPart, MayCast}
 use Rattle.hb_rules.specs.Same.{AreSame, same_vote}

@@ -1,6 +1,6 @@
 -- Votes of a journal that are posted in turn.
-use Rattle.std.proofs.Common.{◌≡◌, ℕ, ◌<◌, ◌≤◌, ◌⊎◌, ◌+◌, Bool, true, false, inl, inr, ⊎_elim, List, [], ◌∷◌, ◌++◌, length, Contains, refl, sym, ap, ◌∙◌, subst, arith, append-nil, append_assoc, length-append}
-use Rattle.std.specs.List.{list_any, filter_map, AllByRecursion}
+use Rattle.std.proofs.Common.{◌≡◌, ◌≤◌, false, inl, inr, List, [], ◌∷◌, ◌++◌, length, sym, ap, ◌∙◌, subst, arith, append-nil, append_assoc, length-append}
+use Rattle.std.specs.List.{list_any}
 use Rattle.std.proofs.lemmas.List.Elements.{filter_map-append}
 use Rattle.hb_wire.specs.declared.vote.Vote.{Vote}
 use Rattle.hb_wire.specs.declared.post.Post.{Post}
@@ -8,9 +8,9 @@ use Rattle.hb_rules.specs.Hearing.{Hearing, hearing_of}
 use Rattle.hb_rules.specs.History.{HasSpelling, IsAllowed}
 use Rattle.hb_rules.specs.Ledger.{IsPrefix}
 use Rattle.hb_rules.specs.Rules.{MayCast}
-use Rattle.hb_rules.specs.Same.{firsts, same_vote, with_vote, AreSame}
-use Rattle.hb_rules.specs.Terms.{Terms, AreVotes, AreCastable, AreProper, AreSpelled, AreAmong, cast_in, heard_all}
-use Rattle.hb_rules.proofs.Lists.{AllByRecursion-append, AllByRecursion-parts}
+use Rattle.hb_rules.specs.Same.{firsts, same_vote, with_vote}
+use Rattle.hb_rules.specs.Terms.{Terms, AreVotes, AreCastable, AreProper, AreAmong, cast_in, heard_all}
+use Rattle.hb_rules.proofs.Lists.{AllByRecursion-parts}
 use Rattle.hb_rules.proofs.MoreHeard.{AreAmong-more, MayCast-among}
 use Rattle.journaled_actor.specs.Kept.{Covers, Turn}
 use Rattle.journaled_actor.proofs.SameRules.{cast_same, new_vote}

@@ -1,6 +1,6 @@
 -- What an actor keeps in its journal: the votes that it may have posted, and maybe more. The letters: t are the actor's
 -- terms, seen is what its seat has seen.
-use Rattle.std.specs.Prelude.{◌≡◌, ℕ, ◌+◌, ◌≤◌, Bool, true, List, [], ◌∷◌, ◌++◌, length, take}
+use Rattle.std.specs.Prelude.{◌≡◌, ℕ, ◌+◌, ◌≤◌, Bool, true, List, [], ◌++◌, length, take}
 use Rattle.hb_base.specs.Numbers.{Numbers}
 use Rattle.hb_base.specs.Limits.{most_stops}
 use Rattle.disk_model.specs.Image.{Image}
@@ -12,8 +12,8 @@ use Rattle.std.specs.Option.{option_to_list}
 use Rattle.hb_rules.specs.Hearing.{Hearing, hearing_of}
 use Rattle.hb_rules.specs.Ledger.{IsPrefix}
 use Rattle.hb_rules.specs.Same.{firsts}
-use Rattle.hb_rules.specs.Terms.{Terms, AreVotes, AreLawful, cast_in, heard_got}
-use Rattle.hb_rules.specs.Actor.{IsFew, AreSeen, budget}
+use Rattle.hb_rules.specs.Terms.{Terms, AreVotes, AreLawful, cast_in}
+use Rattle.hb_rules.specs.Actor.{ActorView, IsFew, AreSeen, budget}
 use Rattle.journaled_actor.specs.Payload.{payload}
 
 -- a seat of this config, node and actor is the one of the terms
@@ -94,3 +94,15 @@ pub record ActorParts (S D C : Type 0) : Type 0 where
   pub live : Bool
   pub got : List ℕ
   pub restarts : ℕ
+
+-- what is known of an actor of these parts
+abbrev pub actor_view : {S D C : Type 0} → (C → Terms) → (D → Supply) → (D → ℕ) → ActorParts S D C → ActorView
+actor_view terms supply faults a = record {
+  terms = terms a.core;
+  supply = supply a.disk;
+  faults = faults a.disk;
+  fresh = a.fresh;
+  live = a.live;
+  got = a.got;
+  restarts = a.restarts;
+}

@@ -2,6 +2,7 @@
 //! loss of power. What it has to cast a core says, of a lane or of a desk.
 #![tactic(auto)]
 
+mod actor;
 mod beginning;
 mod casting;
 pub mod cores;
@@ -11,4 +12,5 @@ mod reading;
 mod recording;
 mod stepping;
 
+pub use actor::JournaledActor;
 pub use cores::Core;

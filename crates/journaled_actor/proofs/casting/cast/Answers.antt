@@ -1,4 +1,4 @@
-use Rattle.std.proofs.Common.{◌≡◌, ℕ, List, [], ◌++◌, refl, sym, ap, ◌∙◌, subst, arith}
+use Rattle.std.proofs.Common.{◌≡◌, ℕ, List, ◌++◌, sym, ap, ◌∙◌, subst}
 use Rattle.std.proofs.lemmas.Result.{err_from_is_err_and, on_ok_weaker}
 use Rattle.vote_journal.specs.Text.{text_of}
 use Rattle.vote_journal.specs.Usable.{disk_of}
@@ -6,7 +6,7 @@ use Rattle.hb_base.specs.Numbers.{Numbers}
 use Rattle.hb_wire.specs.declared.vote.Vote.{Vote}
 use Rattle.hb_rules.specs.Terms.{AreSpelled}
 use Rattle.journaled_actor.specs.Payload.{payload, AreWritten}
-use Rattle.journaled_actor.proofs.Going.{is_still, seat_still, disk_still, disk_done}
+use Rattle.journaled_actor.proofs.Going.{seat_still, disk_still, disk_done}
 use Rattle.journaled_actor.proofs.Left.{always_ok, safe_covered, safe_all, spelled_due, cast_none, all_as_before, all_cast, nothing_in}
 use Rattle.journaled_actor.proofs.Safe.{safe_maybe, payload_append}
 use Rattle.journaled_actor.proofs.Turns.{turn_after}

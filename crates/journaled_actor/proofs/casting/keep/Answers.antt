@@ -1,4 +1,4 @@
-use Rattle.std.proofs.Common.{◌≡◌, refl, sym, ap, ◌∙◌, subst, arith}
+use Rattle.std.proofs.Common.{arith}
 use Rattle.vote_journal.specs.Usable.{disk_of}
 use Rattle.journaled_actor.proofs.Crashes.{left_now}
 use Rattle.journaled_actor.proofs.Going.{disk_failed, disk_still, fault_not_full}

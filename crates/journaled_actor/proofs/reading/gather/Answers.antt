@@ -1,4 +1,4 @@
-use Rattle.std.proofs.Common.{◌≡◌, ℕ, List, [], ◌++◌, length, take, get_or, sym, ap, ◌∙◌, subst, arith}
+use Rattle.std.proofs.Common.{ℕ, List, ◌++◌, ap, ◌∙◌, arith}
 use Rattle.std.specs.List.{concat}
 use Rattle.std.proofs.lemmas.List.{take_all}
 use Rattle.journaled_actor.proofs.Left.{gathered_more}

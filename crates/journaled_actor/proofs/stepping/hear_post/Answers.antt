@@ -1,4 +1,4 @@
-use Rattle.std.proofs.Common.{◌≡◌, ◌∙◌, sym, subst}
+use Rattle.std.proofs.Common.{◌∙◌, sym, subst}
 use Rattle.hb_rules.specs.Hearing.{Hearing}
 use Rattle.journaled_actor.specs.Cores.{IsHearing}
 use Rattle.journaled_actor.proofs.Heard.{is_hearing}
