@@ -2,8 +2,10 @@
 //! epochs.
 #![tactic(auto)]
 
+mod actor;
 mod desk;
 #[cfg(test)]
 mod tests;
 
+pub use actor::{Desk, new_desk};
 pub use desk::DeskCore;
