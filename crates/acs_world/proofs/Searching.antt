@@ -1,21 +1,26 @@
 -- The lists of a ledger, found one by one.
-use Rattle.std.proofs.Common.{◌≡◌, ℕ, zero, suc, ◌+◌, ◌-◌, ◌<◌, ◌≤◌, Bool, true, false, List, [], ◌∷◌, ◌++◌, length, take, drop, slice_get, slice_index_or, Option, None, Some, if◌then◌else◌, refl, sym, ap, ◌∙◌, arith, append_assoc, append-nil}
+use Rattle.std.proofs.Common.{◌≡◌, ℕ, zero, suc, map, ◌+◌, ◌-◌, ◌<◌, ◌≤◌, Bool, true, false, List, [], ◌∷◌, ◌++◌, length, take, drop, slice_get, slice_index_or, Option, None, Some, if◌then◌else◌, refl, subst, sym, ap, ◌∙◌, arith, append_assoc, append-nil}
 use Rattle.std.specs.List.{list_any, filter_map, flat_map, range_with_len, cons_option, fold}
-use Rattle.std.specs.Option.{option_and_then, option_to_list}
-use Rattle.std.proofs.lemmas.List.{take_more, take-append-drop, length-append, length_push}
-use Rattle.std.proofs.lemmas.Option.{slice_get_past}
+use Rattle.std.specs.Option.{option_and_then, option_map, option_to_list}
+use Rattle.std.proofs.lemmas.List.{take_more, take-append-drop, length-append, length-map, length_push, map-append}
+use Rattle.std.proofs.lemmas.Option.{slice_get_past, slice_get-map}
 use Rattle.std.proofs.lemmas.List.Sums.{fold-append}
 use Rattle.std.proofs.lemmas.List.Elements.{filter_map-append}
 use Rattle.hb_base.specs.Numbers.{Numbers}
 use Rattle.hb_wire.specs.declared.items.Item.{Item}
 use Rattle.hb_wire.specs.declared.vote.Vote.{Vote}
 use Rattle.hb_wire.specs.declared.post.Post.{Post}
+use Rattle.hb_wire.specs.Glances.{IsClosedRest}
+use Rattle.hb_wire.specs.Lists.{listed}
+use Rattle.hb_wire.proofs.GlanceLemmas.{closed_list}
 use Rattle.hb_rules.specs.Claims.{closed_with}
 use Rattle.hb_rules.specs.Hearing.{vote_by, own_in}
 use Rattle.hb_rules.specs.Ledger.{ledger, IsPrefix}
 use Rattle.hb_rules.specs.Same.{same_vote, with_vote, firsts}
 use Rattle.acs_world.specs.Common.{is_like}
-use Rattle.acs_world.specs.Lists.{lists_of, new_list}
+use Rattle.acs_world.specs.Closed.{Closure}
+use Rattle.acs_world.specs.Closures.{closure_of, closures_of, closures, IsClosureAt}
+use Rattle.acs_world.specs.Lists.{lists_of, new_list, IsListAt}
 use Rattle.acs_world.proofs.Counting.{known_first, like_known}
 use Rattle.acs_world.proofs.Ledgers.{closing_added, closing_known}
 
@@ -147,10 +152,6 @@ count_added c i e number posts post list inside is new =
 
 -- ---- epochs
 
--- the lists of the epochs below e
-abbrev pub lists_below : Numbers → ℕ → ℕ → List Post → List (List Item)
-lists_below c i e posts = flat_map (λ (d : ℕ). lists_of c i d posts) (range_with_len 0 e)
-
 flat_split : {X : Type 0} (A : ℕ → List X) (s m k : ℕ)
     → flat_map A (range_with_len s (m + suc k)) ≡ flat_map A (range_with_len s m) ++ (A (s + m) ++ flat_map A (range_with_len (s + m + 1) k))
 flat_split {X} A s zero k =
@@ -165,41 +166,95 @@ flat_split {X} A s (suc m) k =
     ∙ ap (λ (d : ℕ). flat_map A (range_with_len s (suc m)) ++ (A d ++ flat_map A (range_with_len (d + 1) k))) here
 
 -- one epoch on
-pub epoch_more : (c : Numbers) (i e : ℕ) (posts : List Post) → lists_below c i (e + 1) posts ≡ lists_below c i e posts ++ lists_of c i e posts
-epoch_more c i e posts =
+pub below_more : {X : Type 0} (A : ℕ → List X) (e : ℕ) → flat_map A (range_with_len 0 (e + 1)) ≡ flat_map A (range_with_len 0 e) ++ A e
+below_more {X} A e =
     let here : 0 + e ≡ e = omega arith in
-    flat_split (λ (d : ℕ). lists_of c i d posts) 0 e 0
-    ∙ ap (λ (xs : List (List Item)). lists_below c i e posts ++ xs) (append-nil (lists_of c i (0 + e) posts))
-    ∙ ap (λ (d : ℕ). lists_below c i e posts ++ lists_of c i d posts) here
+    flat_split A 0 e 0
+    ∙ ap (λ (xs : List X). flat_map A (range_with_len 0 e) ++ xs) (append-nil (A (0 + e)))
+    ∙ ap (λ (d : ℕ). flat_map A (range_with_len 0 e) ++ A d) here
 
--- a list of an epoch stands in the ledger behind those of the epochs before
-pub ledger_place : (c : Numbers) (i e k : ℕ) (posts : List Post) (list : List Item) → e < 32 → slice_get (lists_of c i e posts) k ≡ Some list
-    → slice_get (ledger c posts i) (length (lists_below c i e posts) + k) ≡ Some list
-ledger_place c i e k posts list low there =
-    let A : ℕ → List (List Item) = λ (d : ℕ). lists_of c i d posts in
-    let left : e + suc (31 - e) ≡ 32 = omega (arith, low) in
+-- what an epoch has stands behind what the epochs before have
+place_below : {X : Type 0} (A : ℕ → List X) (e k n : ℕ) (x : X) → e < n → slice_get (A e) k ≡ Some x
+    → slice_get (flat_map A (range_with_len 0 n)) (length (flat_map A (range_with_len 0 e)) + k) ≡ Some x
+place_below {X} A e k n x low there =
+    let left : e + suc (n - (e + 1)) ≡ n = omega (arith, low) in
     let here : 0 + e ≡ e = omega arith in
-    let rest : List (List Item) = flat_map A (range_with_len (0 + e + 1) (31 - e)) in
-    let whole : ledger c posts i ≡ lists_below c i e posts ++ (A e ++ rest) =
-    ap (λ (m : ℕ). flat_map A (range_with_len 0 m)) (sym left) ∙ flat_split A 0 e (31 - e)
-    ∙ ap (λ (d : ℕ). lists_below c i e posts ++ (A d ++ rest)) here in
-    ap (λ (xs : List (List Item)). slice_get xs (length (lists_below c i e posts) + k)) whole
-    ∙ place_behind (lists_below c i e posts) (A e ++ rest) k ∙ place_before (A e) rest k list there
+    let before : List X = flat_map A (range_with_len 0 e) in
+    let rest : List X = flat_map A (range_with_len (0 + e + 1) (n - (e + 1))) in
+    let whole : flat_map A (range_with_len 0 n) ≡ before ++ (A e ++ rest) =
+    ap (λ (m : ℕ). flat_map A (range_with_len 0 m)) (sym left) ∙ flat_split A 0 e (n - (e + 1)) ∙ ap (λ (d : ℕ). before ++ (A d ++ rest)) here in
+    ap (λ (xs : List X). slice_get xs (length before + k)) whole ∙ place_behind before (A e ++ rest) k ∙ place_before (A e) rest k x there
 
-pub ledger_found : (c : Numbers) (i e left place : ℕ) (posts : List Post) (list : List Item) → e < 32
-    → length (lists_below c i e posts) + left ≡ place → slice_get (lists_of c i e posts) left ≡ Some list → slice_get (ledger c posts i) place ≡ Some list
-ledger_found c i e left place posts list low is there =
-    ap (λ (k : ℕ). slice_get (ledger c posts i) k) (sym is) ∙ ledger_place c i e left posts list low there
+-- the lists of the epochs below e, each with its epoch
+abbrev pub closures_below : Numbers → ℕ → List Post → ℕ → List Closure
+closures_below c i posts e = flat_map (closures_of c i posts) (range_with_len 0 e)
 
-pub ledger_next : (c : Numbers) (i e left count place : ℕ) (posts : List Post) → length (lists_below c i e posts) + left ≡ place
-    → count ≡ length (lists_of c i e posts) → count ≤ left → length (lists_below c i (e + 1) posts) + (left - count) ≡ place
-ledger_next c i e left count place posts is all few =
-    let more : length (lists_below c i (e + 1) posts) ≡ length (lists_below c i e posts) + length (lists_of c i e posts) =
-    ap (λ (xs : List (List Item)). length xs) (epoch_more c i e posts) ∙ length-append (lists_below c i e posts) (lists_of c i e posts) in
-    omega (arith, more, is, all, few)
+pub closure_found : (c : Numbers) (i e left place : ℕ) (posts : List Post) (list : List Item) → e < 32
+    → length (closures_below c i posts e) + left ≡ place → slice_get (lists_of c i e posts) left ≡ Some list
+    → slice_get (closures c posts i) place ≡ Some (closure_of e list)
+closure_found c i e left place posts list low is there =
+    let here : slice_get (closures_of c i posts e) left ≡ Some (closure_of e list) =
+    slice_get-map (closure_of e) (lists_of c i e posts) left ∙ ap (option_map (closure_of e)) there in
+    ap (λ (k : ℕ). slice_get (closures c posts i) k) (sym is) ∙ place_below (closures_of c i posts) e left 32 (closure_of e list) low here
 
-pub ledger_past : (c : Numbers) (i e left place : ℕ) (posts : List Post) → e ≡ 32 → length (lists_below c i e posts) + left ≡ place
+-- so is the one that a search for it among the lists of its epoch comes to
+pub closure_shown : (c : Numbers) (posts : List Post) (i e left place : ℕ) (rest : List ℕ) → e < 32
+    → length (closures_below c i posts e) + left ≡ place → IsListAt (lists_of c i e posts) left rest → IsClosureAt (closures c posts i) place e rest
+closure_shown c posts i e left place rest low is at =
+    let same : listed rest ≡ at.list = (closed_list rest at.list at.shown).same in
+    record {
+      there = closure_found c i e left place posts at.list low is at.there ∙ ap (λ (list : List Item). Some (closure_of e list)) (sym same);
+      shown = subst (λ (list : List Item). IsClosedRest rest list) (sym same) at.shown;
+    }
+
+pub closure_next : (c : Numbers) (i e left count place : ℕ) (posts : List Post) → length (closures_below c i posts e) + left ≡ place
+    → count ≡ length (lists_of c i e posts) → count ≤ left → length (closures_below c i posts (e + 1)) + (left - count) ≡ place
+closure_next c i e left count place posts is all few =
+    let more : length (closures_below c i posts (e + 1)) ≡ length (closures_below c i posts e) + length (closures_of c i posts e) =
+    ap (λ (xs : List Closure). length xs) (below_more (closures_of c i posts) e)
+    ∙ length-append (closures_below c i posts e) (closures_of c i posts e) in
+    let same : length (closures_of c i posts e) ≡ length (lists_of c i e posts) = length-map (lists_of c i e posts) (closure_of e) in
+    omega (arith, more, same, is, all, few)
+
+pub closure_past : (c : Numbers) (i e left place : ℕ) (posts : List Post) → e ≡ 32 → length (closures_below c i posts e) + left ≡ place
+    → slice_get (closures c posts i) place ≡ None
+closure_past c i e left place posts all is =
+    let whole : length (closures_below c i posts e) ≡ length (closures c posts i) = ap (λ (m : ℕ). length (closures_below c i posts m)) all in
+    slice_get_past (closures c posts i) place (omega (arith, whole, is))
+
+-- ---- the ledger has the lists without their epochs
+
+lists_back : (e : ℕ) (lists : List (List Item)) → map (λ (x : Closure). x.1) (map (closure_of e) lists) ≡ lists
+lists_back e [] = refl
+lists_back e (list ∷ lists) = ap (λ (xs : List (List Item)). list ∷ xs) (lists_back e lists)
+
+epochs_back : (c : Numbers) (i : ℕ) (posts : List Post) (epochs : List ℕ)
+    → map (λ (x : Closure). x.1) (flat_map (closures_of c i posts) epochs) ≡ flat_map (λ (e : ℕ). lists_of c i e posts) epochs
+epochs_back c i posts [] = refl
+epochs_back c i posts (e ∷ epochs) =
+    map-append (λ (x : Closure). x.1) (closures_of c i posts e) (flat_map (closures_of c i posts) epochs)
+    ∙ ap (λ (xs : List (List Item)). xs ++ map (λ (x : Closure). x.1) (flat_map (closures_of c i posts) epochs)) (lists_back e (lists_of c i e posts))
+    ∙ ap (λ (xs : List (List Item)). lists_of c i e posts ++ xs) (epochs_back c i posts epochs)
+
+pub ledger_lists : (c : Numbers) (posts : List Post) (i : ℕ) → map (λ (x : Closure). x.1) (closures c posts i) ≡ ledger c posts i
+ledger_lists c posts i = epochs_back c i posts (range_with_len 0 32)
+
+pub closures_count : (c : Numbers) (posts : List Post) (i : ℕ) → length (closures c posts i) ≡ length (ledger c posts i)
+closures_count c posts i =
+    sym (length-map (closures c posts i) (λ (x : Closure). x.1)) ∙ ap (λ (xs : List (List Item)). length xs) (ledger_lists c posts i)
+
+pub closure_listed : (c : Numbers) (posts : List Post) (i place epoch : ℕ) (rest : List ℕ) → IsClosureAt (closures c posts i) place epoch rest
+    → IsListAt (ledger c posts i) place rest
+closure_listed c posts i place epoch rest at = record {
+  list = listed rest;
+  there =
+      ap (λ (xs : List (List Item)). slice_get xs place) (sym (ledger_lists c posts i))
+      ∙ slice_get-map (λ (x : Closure). x.1) (closures c posts i) place ∙ ap (option_map (λ (x : Closure). x.1)) at.there;
+  shown = at.shown;
+}
+
+pub closure_missing : (c : Numbers) (posts : List Post) (i place : ℕ) → slice_get (closures c posts i) place ≡ None
     → slice_get (ledger c posts i) place ≡ None
-ledger_past c i e left place posts all is =
-    let whole : length (lists_below c i e posts) ≡ length (ledger c posts i) = ap (λ (m : ℕ). length (lists_below c i m posts)) all in
-    slice_get_past (ledger c posts i) place (omega (arith, whole, is))
+closure_missing c posts i place none =
+    ap (λ (xs : List (List Item)). slice_get xs place) (sym (ledger_lists c posts i))
+    ∙ slice_get-map (λ (x : Closure). x.1) (closures c posts i) place ∙ ap (option_map (λ (x : Closure). x.1)) none

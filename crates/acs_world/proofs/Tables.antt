@@ -1,5 +1,5 @@
 -- What tables show of the lists with which correct desks closed epochs.
-use Rattle.std.proofs.Common.{◌≡◌, ℕ, zero, suc, ◌+◌, ◌-◌, ◌==◌, ◌&&◌, ◌||◌, bytes_eq, Bool, true, false, inl, inr, List, [], length, slice_get, slice_index_or, Contains, Option, None, Some, if◌then◌else◌, refl, sym, ap, ◌∙◌, subst, arith}
+use Rattle.std.proofs.Common.{◌≡◌, ℕ, zero, suc, ◌+◌, ◌-◌, ◌==◌, ◌&&◌, ◌||◌, bytes_eq, Bool, true, false, inl, inr, List, [], ◌∷◌, length, slice_get, slice_index_or, Contains, Option, None, Some, if◌then◌else◌, refl, sym, ap, ◌∙◌, subst, arith}
 use Rattle.std.specs.List.{list_all, flat_map, range_with_len}
 use Rattle.std.specs.Option.{option_and_then}
 use Rattle.std.specs.Cmp.Lexicographic.{bytes_decides}
@@ -18,6 +18,7 @@ use Rattle.hb_rules.specs.Lanes.{is_correct}
 use Rattle.hb_rules.specs.Ledger.{ledger, IsCorrect}
 use Rattle.acs_world.specs.Agreed.{ClosingsAgree, ClosingsFollow}
 use Rattle.acs_world.specs.Closed.{Closure, closing, closing_by}
+use Rattle.acs_world.specs.Closures.{IsTabledRest}
 use Rattle.acs_world.specs.Firsts.{place_of, post_at, is_epoch, is_closing, has_closed, has_bytes, agrees, agrees_at, is_like_one, repeats, repeats_at}
 use Rattle.acs_world.proofs.Exact.{each_passes}
 use Rattle.acs_world.proofs.Ledgers.{lists_at, list_has, HasOneList, one_list_at}
@@ -199,11 +200,10 @@ tabled_closed c posts table i e list tabled =
     let epoch : is_epoch e (closing_by c tabled.post) ≡ true = ap (is_epoch e) tabled.closes ∙ eq-eqb e e refl in
     ap (is_closing c i e) tabled.is ∙ and_from (tabled.post.from == i) (is_epoch e (closing_by c tabled.post)) (eq-eqb tabled.post.from i tabled.from) epoch
 
--- so many lists its ledger has of an epoch
-one_or_none : (c : Numbers) (posts : List Post) (table : List (Option ℕ)) (i : ℕ) → list_all (repeats c posts table) posts ≡ true → IsCorrect c i
-    → (e : ℕ) → length (lists_at e (own_in c i c.n posts)) ≡ (if has_closed c posts table i e then 1 else 0)
-one_or_none c posts table i all correct e =
-    by (has_closed c posts table i e) refl (one_list_at e (own_in c i c.n posts) one)
+-- of an epoch its ledger has one list or none
+has_one : (c : Numbers) (posts : List Post) (table : List (Option ℕ)) (i : ℕ) → list_all (repeats c posts table) posts ≡ true → IsCorrect c i
+    → (e : ℕ) → HasOneList e (own_in c i c.n posts) (lists_at e (own_in c i c.n posts))
+has_one c posts table i all correct e = one_list_at e own one
   where
     own : List Vote
     own = own_in c i c.n posts
@@ -214,16 +214,61 @@ one_or_none c posts table i all correct e =
     one : (list other : List Item) → Contains own (Closed e list) → Contains own (Closed e other) → list ≡ other
     one list other first second = tabled_one c posts table i e list other (tabled list first) (tabled other second)
 
+nothing_has : (e : ℕ) (own : List Vote) (list : List Item) → Contains own (Closed e list) → lists_at e own ≡ [] → ⊥
+nothing_has e own list stands none =
+    let nothing : Contains [] list = subst (λ (lists : List (List Item)). Contains lists list) none (list_has e own list stands) in
+    omega (arith, nothing.1)
+
+-- and none exactly where the table leads to none
+pub none_tabled : (c : Numbers) (posts : List Post) (table : List (Option ℕ)) (i : ℕ) → list_all (repeats c posts table) posts ≡ true → IsCorrect c i
+    → (e : ℕ) → has_closed c posts table i e ≡ false → lists_at e (own_in c i c.n posts) ≡ []
+none_tabled c posts table i all correct e not_closed = by (has_one c posts table i all correct e)
+  where
+    own : List Vote
+    own = own_in c i c.n posts
+
+    by : HasOneList e own (lists_at e own) → lists_at e own ≡ []
+    by (inl none) = none
+    by (inr some) =
+        absurd (both_ways (has_closed c posts table i e) not_closed
+        (tabled_closed c posts table i e some.0 (repeated c posts table all i e some.0 correct some.1)))
+
+pub some_tabled : (c : Numbers) (posts : List Post) (table : List (Option ℕ)) (i : ℕ) → list_all (repeats c posts table) posts ≡ true → IsCorrect c i
+    → (e : ℕ) (rest : List ℕ) → (tabled : IsTabledRest c posts table i e rest) → lists_at e (own_in c i c.n posts) ≡ tabled.list ∷ []
+some_tabled c posts table i all correct e rest tabled = by (has_one c posts table i all correct e)
+  where
+    own : List Vote
+    own = own_in c i c.n posts
+
+    is : IsTabled c posts table i e tabled.list
+    is = record { post = tabled.post; is = tabled.is; from = tabled.from; closes = tabled.closes }
+
+    cast : Contains own (Closed e tabled.list)
+    cast =
+        let stands = closing_cast c posts tabled.post (e, tabled.list) (post_stands posts table (place_of i e) tabled.post tabled.is) tabled.closes in
+        subst (λ (a : ℕ). Contains (own_in c a c.n posts) (Closed e tabled.list)) tabled.from stands.cast
+
+    by : HasOneList e own (lists_at e own) → lists_at e own ≡ tabled.list ∷ []
+    by (inl none) = absurd (nothing_has e own tabled.list cast none)
+    by (inr some) =
+        some.2
+        ∙ ap (λ (l : List Item). l ∷ [])
+        (tabled_one c posts table i e some.0 tabled.list (repeated c posts table all i e some.0 correct some.1) is)
+
+-- so many lists its ledger has of an epoch
+one_or_none : (c : Numbers) (posts : List Post) (table : List (Option ℕ)) (i : ℕ) → list_all (repeats c posts table) posts ≡ true → IsCorrect c i
+    → (e : ℕ) → length (lists_at e (own_in c i c.n posts)) ≡ (if has_closed c posts table i e then 1 else 0)
+one_or_none c posts table i all correct e = by (has_closed c posts table i e) refl (has_one c posts table i all correct e)
+  where
+    own : List Vote
+    own = own_in c i c.n posts
+
     by : (b : Bool) → has_closed c posts table i e ≡ b → HasOneList e own (lists_at e own) → length (lists_at e own) ≡ (if b then 1 else 0)
     by true closed (inl none) =
         let cast = found_cast c posts table i e closed in
-        let among : Contains (lists_at e own) cast.0 = list_has e own cast.0 cast.1 in
-        let nothing : Contains [] cast.0 = subst (λ (lists : List (List Item)). Contains lists cast.0) none among in
-        absurd (omega (arith, nothing.1))
+        absurd (nothing_has e own cast.0 cast.1 none)
     by true closed (inr some) = ap (λ (lists : List (List Item)). length lists) some.2
-    by false not_closed (inl none) = ap (λ (lists : List (List Item)). length lists) none
-    by false not_closed (inr some) =
-        absurd (both_ways (has_closed c posts table i e) not_closed (tabled_closed c posts table i e some.0 (tabled some.0 some.1)))
+    by false not_closed one = ap (λ (lists : List (List Item)). length lists) (none_tabled c posts table i all correct e not_closed)
 
 lengths : (A : ℕ → List (List Item)) (p : ℕ → Bool) (s k : ℕ) → ((e : ℕ) → length (A e) ≡ (if p e then 1 else 0))
     → length (flat_map A (range_with_len s k)) + count_nodes s p ≡ count_nodes (s + k) p

@@ -17,9 +17,9 @@ pub(crate) const CLOSED: u8 = 0x12;
 
 /// An epoch that was closed, and what its vote has behind kind and epoch: the list.
 #[derive(Clone, Copy, Debug)]
-pub(crate) struct Closing<'a> {
-    pub(crate) epoch: u8,
-    pub(crate) rest: &'a [u8],
+pub struct Closing<'a> {
+    pub epoch: u8,
+    pub rest: &'a [u8],
 }
 
 /// What a post closes, if it is of a correct node's desk and its vote closes an epoch.
@@ -61,8 +61,8 @@ fn closing_in<'a>(config: &Config, bytes: &'a [u8]) -> Option<Closing<'a>>
     })
 }
 
-/// How many items a closed list has.
-pub(crate) fn count_of(rest: &[u8]) -> u8
+/// How many items a closed list has, by what its vote has behind kind and epoch.
+pub fn count_of(rest: &[u8]) -> u8
     requires { (items : List Item) × IsClosedRest rest.now items }
     ensures { (items : List Item) → IsClosedRest rest.now items → result ≡ length items }
 {

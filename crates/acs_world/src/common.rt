@@ -92,8 +92,8 @@ fn lower(least: Option<usize>, count: usize) -> Option<usize>
     }
 }
 
-// How many lists the ledger of a correct node has.
-fn count_at(
+/// How many lists the ledger of a correct node has.
+pub(crate) fn count_at(
     config: &Config,
     posts: &[Post],
     table: &[Option<usize>],
@@ -124,8 +124,8 @@ fn tabled_count(config: &Config, posts: &[Post], table: &[Option<usize>], node: 
     count
 }
 
-// Whether each post that closes an epoch does so as its desk did before, by the table.
-fn all_repeat(config: &Config, posts: &[Post], table: &[Option<usize>]) -> bool
+/// Whether each post that closes an epoch does so as its desk did before, by the table.
+pub(crate) fn all_repeat(config: &Config, posts: &[Post], table: &[Option<usize>]) -> bool
     ensures { result ≡ list_all (repeats config.now posts.now table.now) posts.now }
 {
     posts.iter().all(|post| repeats(config, posts, table, post))

@@ -10,7 +10,7 @@ ghost use Rattle.acs_world.specs.Prefixes.{same_at, are_alike, may_compare, all_
 
 use crate::closings::{CLOSED, closing_of};
 use crate::firsts::{first_numbers, has_closed, leading_numbers, post_at};
-use crate::lists::{closed_count, list_at};
+use crate::ledger_finder::LedgerFinder;
 use hb_base::Config;
 use hb_rules::{Report, is_correct};
 use hb_wire::Post;
@@ -21,7 +21,8 @@ use hb_wire::Post;
 /// It goes through the posts twice. It compares each closed vote of a correct node's desk with one other, and reads the desk's
 /// closed vote of the epoch before too. So time is linear in the bytes of the history where all closed votes of an epoch are
 /// the same, and each desk closes one epoch after the other, and each once. Where an epoch's closed votes differ, or a desk
-/// leaves one out, the ledgers are compared list by list, and the posts gone through again for each list.
+/// leaves one out, the ledgers are compared list by list; where besides a desk closes an epoch with two lists, the posts are gone
+/// through again for each list.
 pub fn comparable(report: &Report) -> bool
     ensures exact { IsTrue result ↔ AreComparable report.now.config report.now.history.items }
     ensures legal { IsLegal report.now.config report.now.history.items → NoCollision report.now.config report.now.history.items → IsTrue result }
@@ -97,40 +98,39 @@ fn follows(config: &Config, posts: &[Post], table: &[Option<usize>], node: u8, e
 fn all_alike(config: &Config, posts: &[Post]) -> bool
     ensures { result ≡ all_alike config.now posts.now }
 {
-    (0..config.n()).all(|node| alike_to_all(config, posts, node))
+    let ledgers = LedgerFinder::new(config, posts);
+    (0..config.n()).all(|node| alike_to_all(&ledgers, node))
 }
 
 // Whether a node's ledger is alike with that of each other, if these are correct.
-fn alike_to_all(config: &Config, posts: &[Post], node: u8) -> bool
-    ensures { result ≡ list_all (may_compare config.now posts.now node) (range_with_len 0 config.now.n) }
+fn alike_to_all(ledgers: &LedgerFinder, node: u8) -> bool
+    ensures { result ≡ list_all (may_compare ledgers.now.config ledgers.now.posts node) (range_with_len 0 ledgers.now.config.n) }
 {
-    (0..config.n()).all(|other| may_compare(config, posts, node, other))
+    (0..ledgers.config().n()).all(|other| may_compare(ledgers, node, other))
 }
 
 // Whether two nodes' ledgers are alike, if the two are correct.
-fn may_compare(config: &Config, posts: &[Post], node: u8, other: u8) -> bool
-    ensures { result ≡ may_compare config.now posts.now node other }
+fn may_compare(ledgers: &LedgerFinder, node: u8, other: u8) -> bool
+    ensures { result ≡ may_compare ledgers.now.config ledgers.now.posts node other }
 {
-    !is_correct(config, node) || !is_correct(config, other) || are_alike(config, posts, node, other)
+    let config = ledgers.config();
+    !is_correct(config, node) || !is_correct(config, other) || are_alike(ledgers, node, other)
 }
 
 // Whether two nodes' ledgers are alike as far as both go.
-fn are_alike(config: &Config, posts: &[Post], node: u8, other: u8) -> bool
-    ensures { result ≡ are_alike (ledger config.now posts.now node) (ledger config.now posts.now other) }
+fn are_alike(ledgers: &LedgerFinder, node: u8, other: u8) -> bool
+    ensures { result ≡ are_alike (ledger ledgers.now.config ledgers.now.posts node) (ledger ledgers.now.config ledgers.now.posts other) }
 {
-    let count = closed_count(config, posts, node);
-    (0..count).all(|place| same_at(config, posts, node, other, place))
+    let count = ledgers.count(node);
+    (0..count).all(|place| same_at(ledgers, node, other, place))
 }
 
 // Whether two nodes' ledgers have the same list at a place, if both have one there.
-fn same_at(config: &Config, posts: &[Post], node: u8, other: u8, place: usize) -> bool
-    ensures { result ≡ same_at (ledger config.now posts.now node) (ledger config.now posts.now other) place }
+fn same_at(ledgers: &LedgerFinder, node: u8, other: u8, place: usize) -> bool
+    ensures { result ≡ same_at (ledger ledgers.now.config ledgers.now.posts node) (ledger ledgers.now.config ledgers.now.posts other) place }
 {
-    match (
-        list_at(config, posts, node, place),
-        list_at(config, posts, other, place),
-    ) {
-        (Some(list), Some(another)) => list == another,
+    match (ledgers.at(node, place), ledgers.at(other, place)) {
+        (Some(closing), Some(another)) => closing.rest == another.rest,
         _ => true,
     }
 }

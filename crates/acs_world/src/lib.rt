@@ -7,13 +7,16 @@ mod common;
 mod comparing;
 mod firsts;
 pub mod laws;
+mod ledger_finder;
 mod lists;
 mod proposed;
 #[cfg(test)]
 mod tests;
 
 pub use batches::batches_ok;
+pub use closings::{Closing, count_of};
 pub use common::common_epochs;
 pub use comparing::comparable;
 pub use laws::ledger_laws;
+pub use ledger_finder::LedgerFinder;
 pub use proposed::unaltered;

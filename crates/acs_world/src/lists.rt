@@ -6,11 +6,10 @@ ghost use Rattle.hb_wire.specs.declared.items.Item.{Item};
 ghost use Rattle.hb_wire.specs.Glances.{IsClosedRest};
 ghost use Rattle.hb_rules.specs.Ledger.{ledger};
 ghost use Rattle.acs_world.specs.Common.{closes, is_like, is_new};
-ghost use Rattle.acs_world.specs.Lists.{lists_of, new_list, Searched, IsListAt};
+ghost use Rattle.acs_world.specs.Lists.{lists_of, new_list, Searched};
 
 use crate::closings::closing_at;
 use hb_base::Config;
-use hb_base::limits::MOST_EPOCHS;
 use hb_wire::{Post, VoteView, view};
 
 /// How many lists the ledger of a node has. It compares each post that closes an epoch with those before it.
@@ -79,37 +78,23 @@ fn closes(config: &Config, node: u8, post: &Post) -> bool
     }
 }
 
-// What comes of the search for a list: what the vote that closes with it has behind kind and epoch, or how many lists there
-// are.
+/// What comes of the search for a list: what the vote that closes with it has behind kind and epoch, or how many lists there
+/// are.
 #[derive(Clone, Copy, Debug)]
-enum Search<'a> {
+pub(crate) enum Search<'a> {
     Found(&'a [u8]),
     Fewer(usize),
 }
 
-/// What stands behind kind and epoch in the vote whose list is at this place of the ledger of a node, if it has so many. It
-/// goes through the posts once for each epoch, and compares each that closes it with those before.
-pub(crate) fn list_at<'a>(
+/// Looks for the list at a place among those with which the desk of a node closes an epoch. It compares each post that closes
+/// the epoch with those before.
+pub(crate) fn list_in<'a>(
     config: &Config,
     posts: &'a [Post],
     node: u8,
+    epoch: u8,
     place: usize,
-) -> Option<&'a [u8]>
-    ensures none { IfNone result (slice_get (ledger config.now posts.now node) place ≡ None) }
-    ensures some { IfSome result (λ rest. IsListAt (ledger config.now posts.now node) place rest.now) }
-{
-    let mut left = place;
-    for epoch in 0..MOST_EPOCHS {
-        match list_in(config, posts, node, epoch, left) {
-            Search::Found(rest) => return Some(rest),
-            Search::Fewer(count) => left -= count,
-        }
-    }
-    None
-}
-
-// Looks for the list at a place among those with which the desk of a node closes an epoch.
-fn list_in<'a>(config: &Config, posts: &'a [Post], node: u8, epoch: u8, place: usize) -> Search<'a>
+) -> Search<'a>
     ensures { Searched (lists_of config.now node epoch posts.now) place result }
 {
     let mut count = 0;
