@@ -100,16 +100,17 @@ pub record Marks (old new : RbcView) (vote : Vote) : Type 0 where
   pub ready : new.is_ready_cast ≡ (old.is_ready_cast || is_any_ready old.epoch vote)
   pub delivered : new.delivered ≡ option_or old.delivered (delivered old.epoch vote)
 
--- One node more that is ready for the root makes no delivery due: one was cast, or still too few are ready, or its shards
--- do not rebuild.
-abbrev pub MakesNoDelivery : RbcView → List ℕ → Type 0
-MakesNoDelivery r root =
-    (not (is_some r.delivered)
-    && is_delivery_by r.roots.config (count_nodes most_nodes (is_in (view_at r.roots root).readies) + 1) (is_some (view_at r.roots root).value)) ≡ false
+-- A Ready of this node for the root makes no delivery due: it was ready already, or one was cast, or still too few are ready,
+-- or the root's shards do not rebuild.
+abbrev pub MakesNoDelivery : RbcView → ℕ → List ℕ → Type 0
+MakesNoDelivery r from root =
+    (not (is_in (view_at r.roots root).readies from)
+    && (not (is_some r.delivered)
+    && is_delivery_by r.roots.config (count_nodes most_nodes (is_in (view_at r.roots root).readies) + 1) (is_some (view_at r.roots root).value))) ≡ false
 
--- a Ready of the epoch for a root that is known, which makes no delivery due
-pub record IsFurtherReady (r : RbcView) (vote : Vote) : Type 0 where
+-- a Ready of the epoch by this node, for a root that is known, which makes no delivery due
+pub record IsFurtherReady (r : RbcView) (from : ℕ) (vote : Vote) : Type 0 where
   pub root : List ℕ
   pub is : vote ≡ Ready r.epoch root
   pub known : is_some (found r.roots root) ≡ true
-  pub no_delivery : MakesNoDelivery r root
+  pub no_delivery : MakesNoDelivery r from root

@@ -124,7 +124,7 @@ impl Rbc {
         ensures ok { OnOk result (Hears self.old self.new (hearing from vote.now) due.old.votes due.new.votes) }
         ensures err { OnErr result (Keeps self.old self.new) }
         ensures due { OnErr result (due.new.votes ≡ due.old.votes) }
-        ensures enough { IsFurtherReady self.old vote.now → 1 ≤ due.old.spare → IsOk result }
+        ensures enough { IsFurtherReady self.old from vote.now → 1 ≤ due.old.spare → IsOk result }
     {
         if vote.epoch() != self.epoch {
             return Ok(());
@@ -301,7 +301,7 @@ impl Rbc {
             (hearing from (Ready self.old.epoch root.now)) due.old.votes due.new.votes) }
         ensures err { OnErr result (Keeps self.old self.new) }
         ensures due { OnErr result (due.new.votes ≡ due.old.votes) }
-        ensures enough { is_some (found self.old.roots root.now) ≡ true → MakesNoDelivery self.old root.now → 1 ≤ due.old.spare → IsOk result }
+        ensures enough { is_some (found self.old.roots root.now) ≡ true → MakesNoDelivery self.old from root.now → 1 ≤ due.old.spare → IsOk result }
     {
         let n = self.roots.config().n();
         prove!(from < n);
