@@ -5,6 +5,7 @@ ghost use Rattle.hb_wire.specs.declared.post.Post.{Post};
 ghost use Rattle.hb_rules.specs.Book.{mine_in, Watched};
 ghost use Rattle.hb_rules.specs.History.{IsLegal};
 ghost use Rattle.hb_rules.specs.Ledger.{IsPrefix};
+ghost use Rattle.turn_book.specs.Entries.{AddsAtMostOne};
 ghost use Rattle.post_book.specs.Numbering.{IsPlace, seat_number, post_number};
 ghost use Rattle.post_book.specs.SharedSeats.{AllJoined};
 
@@ -68,12 +69,26 @@ impl<J: Naming> PostBook<J> {
         self.turns.begin(rt, seat)
     }
 
+    // Ends the turn of a seat, which has then seen these posts. They are legal.
+    pub(crate) fn pass(&self, seat: &mut Seat<NamedPosts<J>>, posts: NamedPosts<J>)
+        requires book { seat.old.book ≡ self.now }
+        requires turn { seat.old.in_turn ≡ true }
+        requires value { AddsAtMostOne (post_number J.config) seat.old.number seat.old.seen posts }
+        ensures turn { seat.new ≡ record seat.old { in_turn = false; seen = posts; mine = seat.new.mine } }
+        ensures legal { IsLegal J.config posts }
+    {
+        posts.are_legal();
+        self.turns.pass(seat, posts);
+    }
+
     /// A book with no post, and its first seat. The error means want of memory.
     pub fn new(alloc: Global, config: &Config) -> Result<(PostBook<J>, FirstSeat<J>), AllocError>
         requires { config.now ≡ J.config }
         ensures { IfOk result (λ r. r.1 ≡ record { book = r.0; seen = []; given = []; joined = [] }) }
     {
-        let (turns, seat) = TurnBook::new(alloc, NamedPosts::new(alloc, config))?;
+        let none = NamedPosts::new(alloc, config);
+        none.are_legal();
+        let (turns, seat) = TurnBook::new(alloc, none)?;
         let book = PostBook {
             alloc,
             config: *config,

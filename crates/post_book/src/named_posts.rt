@@ -1,5 +1,5 @@
 //! What the turn book keeps.
-ghost use Rattle.std.specs.Prelude.{◌≡◌, ◌<◌, true, Err, List, [], ◌∷◌, ◌++◌, All, length, IsOkAnd, IfOk, IfSome, OnOk, OnErr, slice_get};
+ghost use Rattle.std.specs.Prelude.{◌≡◌, ◌<◌, ◌≤◌, true, Err, List, [], ◌∷◌, ◌++◌, All, length, IsOk, IsOkAnd, IfOk, IfSome, OnOk, OnErr, slice_get};
 ghost use Rattle.hb_base.specs.Limits.{most_posts};
 ghost use Rattle.hb_base.specs.NodeSet.{is_in};
 ghost use Rattle.hb_wire.specs.Votes.{Spells};
@@ -63,6 +63,7 @@ impl<J: Naming> NamedPosts<J> {
     pub(crate) fn read(&self, k: u32) -> Result<Option<Post>, AllocError>
         ensures found { IfOk result (λ post. post ≡ slice_get self.now k) }
         ensures known { IfOk result (λ post. IfSome post (λ p. p.from < J.config.n)) }
+        ensures none { length self.now ≤ k → IsOk result }
     {
         self.posts.read(k)
     }
@@ -104,6 +105,13 @@ impl<J: Naming> NamedPosts<J> {
         ensures memory { result ≡ Err BookFault.Memory → length self.old < most_posts }
     {
         self.posts.add_lie(node, actor, to, bytes)
+    }
+
+    // The posts are legal. It does nothing: its contract tells so.
+    pub(crate) fn are_legal(&self)
+        ensures { IsLegal J.config self.now }
+    {
+        let _ = self.posts.as_slice();
     }
 
     // The posts, which are legal and name actors below 256.

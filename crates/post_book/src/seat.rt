@@ -1,5 +1,6 @@
 //! The seat of an actor.
 ghost use Rattle.std.specs.Prelude.{◌≡◌};
+ghost use Rattle.hb_rules.specs.History.{IsLegal};
 
 use crate::named_posts::NamedPosts;
 use crate::naming::Naming;
@@ -17,6 +18,7 @@ pub struct SharedSeat<J: Naming> {
 
 impl<J: Naming> Model for SharedSeat<J> {
     ghost use Rattle.std.specs.Prelude.{◌≡◌, ◌<◌, false};
+    ghost use Rattle.hb_rules.specs.History.{IsLegal};
     ghost use Rattle.post_book.specs.Numbering.{IsPlace, seat_number};
     ghost use Rattle.post_book.specs.SharedSeats.{SharedView};
 
@@ -29,7 +31,7 @@ impl<J: Naming> Model for SharedSeat<J> {
     } };
 
     ghost invariant = { λ s. (s.seat.number ≡ seat_number s.node s.actor) × (s.seat.in_turn ≡ false)
-        × (s.node < J.config.n) × IsPlace J.config s.node s.actor };
+        × (s.node < J.config.n) × IsPlace J.config s.node s.actor × IsLegal J.config s.seat.seen };
 }
 
 impl<J: Naming> SharedSeat<J> {
@@ -45,5 +47,12 @@ impl<J: Naming> SharedSeat<J> {
         ensures { result ≡ self.now.seat.actor }
     {
         self.actor
+    }
+
+    /// What it has seen is a legal history. The call does nothing; its contract tells so.
+    pub fn seen_is_legal(&self)
+        ensures { IsLegal self.now.seat.config self.now.seat.seen }
+    {
+        let _ = &self.seat;
     }
 }

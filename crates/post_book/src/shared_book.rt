@@ -69,7 +69,7 @@ impl<'a, R: Wait, J: Naming> Book for SharedBook<'a, R, J> {
         let bytes = spell(book.alloc, &book.config, vote);
         let mut posts = book.begin(self.rt, &mut seat.seat, node, actor);
         let posted = posts.add_vote(node, actor, vote, bytes);
-        book.turns.pass(&mut seat.seat, posts);
+        book.pass(&mut seat.seat, posts);
         posted
     }
 
@@ -84,7 +84,7 @@ impl<'a, R: Wait, J: Naming> Book for SharedBook<'a, R, J> {
         let bytes = Bytes::copy(book.alloc, bytes);
         let mut posts = book.begin(self.rt, &mut seat.seat, seat.node, seat.actor);
         let posted = posts.add_lie(seat.node, as_actor, to, bytes);
-        book.turns.pass(&mut seat.seat, posts);
+        book.pass(&mut seat.seat, posts);
         posted
     }
 
@@ -92,7 +92,7 @@ impl<'a, R: Wait, J: Naming> Book for SharedBook<'a, R, J> {
         let book = self.book;
         let posts = book.begin(self.rt, &mut seat.seat, seat.node, seat.actor);
         let found = posts.read(k);
-        book.turns.pass(&mut seat.seat, posts);
+        book.pass(&mut seat.seat, posts);
         found
     }
 
@@ -100,7 +100,7 @@ impl<'a, R: Wait, J: Naming> Book for SharedBook<'a, R, J> {
         let book = self.book;
         let posts = book.begin(self.rt, &mut seat.seat, seat.node, seat.actor);
         let count = posts.count();
-        book.turns.pass(&mut seat.seat, posts);
+        book.pass(&mut seat.seat, posts);
         count
     }
 
