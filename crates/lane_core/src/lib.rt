@@ -1,9 +1,11 @@
 //! A lane: its broadcasts and its agreements of all epochs at one node.
 #![tactic(auto)]
 
+mod actor;
 mod cores;
 mod lane;
 #[cfg(test)]
 mod tests;
 
+pub use actor::{Lane, new_lane};
 pub use lane::LaneCore;
