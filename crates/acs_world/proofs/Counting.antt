@@ -25,7 +25,7 @@ use Rattle.hb_rules.proofs.Cast.{cast_from, cast_stands}
 use Rattle.hb_rules.proofs.Lists.{list_any-from}
 use Rattle.acs_world.specs.Closed.{closing}
 use Rattle.acs_world.specs.Common.{is_like, is_new}
-use Rattle.acs_world.proofs.Ledgers.{firsts_have, firsts_from}
+use Rattle.hb_rules.proofs.Firsts.{firsts_have, firsts_from}
 
 -- ---- lists of epochs from s on
 

@@ -1,8 +1,8 @@
 -- Ledgers: what stands in them, and that one of two begins with the other.
-use Rattle.std.proofs.Common.{◌≡◌, ℕ, zero, suc, ◌+◌, ◌<◌, ◌≤◌, ◌⊎◌, Bool, true, false, inl, inr, List, [], ◌∷◌, ◌++◌, length, take, Contains, Option, None, Some, if◌then◌else◌, refl, sym, ap, ◌∙◌, subst, arith, append_assoc, append-nil}
+use Rattle.std.proofs.Common.{◌≡◌, ℕ, zero, suc, ◌+◌, ◌<◌, ◌≤◌, ◌⊎◌, Bool, true, false, inl, inr, List, [], ◌∷◌, ◌++◌, length, take, Contains, Option, None, Some, refl, sym, ap, ◌∙◌, subst, arith, append_assoc, append-nil}
 use Rattle.std.specs.List.{list_any, filter_map, flat_map, range_with_len, cons_option, fold}
 use Rattle.std.proofs.lemmas.List.{take-append-le}
-use Rattle.std.proofs.lemmas.List.Elements.{Contains-append_left, Contains-append_right, Contains-append_cases, Contains-push, Contains-push_cases, filter_map-append}
+use Rattle.std.proofs.lemmas.List.Elements.{Contains-append_left, Contains-append_right, Contains-append_cases, Contains-push, filter_map-append}
 use Rattle.std.proofs.lemmas.Bool.{false_from_ne_true}
 use Rattle.hb_base.specs.Numbers.{Numbers}
 use Rattle.hb_wire.specs.declared.items.Item.{Item}
@@ -15,55 +15,10 @@ use Rattle.hb_rules.specs.Hearing.{own_in}
 use Rattle.hb_rules.specs.Ledger.{ledger, IsPrefix}
 use Rattle.hb_rules.specs.Same.{same_vote, with_vote, firsts}
 use Rattle.hb_rules.proofs.Among.{any_stands}
+use Rattle.hb_rules.proofs.Firsts.{with_keeps, with_has, firsts_have, firsts_from}
 use Rattle.hb_rules.proofs.LaneVotes.{cast_low}
-use Rattle.hb_rules.proofs.Lists.{source_of, Contains-filter_map, Contains-cases, Contains-later, list_any-from}
-use Rattle.acs_world.proofs.Backed.{closing-is, closing-gives}
-
--- ---- votes at their first places
-
-with_keeps : (votes : List Vote) (w v : Vote) → Contains votes v → Contains (with_vote votes w) v
-with_keeps votes w v stands = by (list_any (same_vote w) votes)
-  where
-    by : (b : Bool) → Contains (if b then votes else votes ++ w ∷ []) v
-    by true = stands
-    by false = Contains-append_left votes (w ∷ []) v stands
-
-with_has : (votes : List Vote) (w : Vote) → Contains (with_vote votes w) w
-with_has votes w = by (list_any (same_vote w) votes) refl
-  where
-    by : (b : Bool) → list_any (same_vote w) votes ≡ b → Contains (if b then votes else votes ++ w ∷ []) w
-    by true among =
-        let found = any_stands (same_vote w) votes among in
-        subst (λ (v : Vote). Contains votes v) (sym ((one_vote w found.0).0 found.2)) found.1
-    by false new = Contains-push votes w
-
-with_from : (votes : List Vote) (w v : Vote) → Contains (with_vote votes w) v → Contains votes v ⊎ (w ≡ v)
-with_from votes w v stands = by (list_any (same_vote w) votes) stands
-  where
-    by : (b : Bool) → Contains (if b then votes else votes ++ w ∷ []) v → Contains votes v ⊎ (w ≡ v)
-    by true among = inl among
-    by false among = Contains-push_cases votes w v among
-
-firsts_keep : (votes before : List Vote) (v : Vote) → Contains before v → Contains (fold with_vote before votes) v
-firsts_keep [] before v stands = stands
-firsts_keep (w ∷ votes) before v stands = firsts_keep votes (with_vote before w) v (with_keeps before w v stands)
-
-pub firsts_have : (votes before : List Vote) (v : Vote) → Contains votes v → Contains (fold with_vote before votes) v
-firsts_have [] before v stands = absurd (omega (arith, stands.1))
-firsts_have (w ∷ votes) before v stands =
-    Contains-cases w votes v stands (Contains (fold with_vote before (w ∷ votes)) v)
-    (λ is. firsts_keep votes (with_vote before w) v (subst (λ (x : Vote). Contains (with_vote before w) x) is (with_has before w)))
-    (λ later. firsts_have votes (with_vote before w) v later)
-
-pub firsts_from : (votes before : List Vote) (v : Vote) → Contains (fold with_vote before votes) v → Contains before v ⊎ Contains votes v
-firsts_from [] before v stands = inl stands
-firsts_from (w ∷ votes) before v stands = elim (firsts_from votes (with_vote before w) v stands) [
-  | inl front ↦ elim (with_from before w v front) [
-    | inl already ↦ inl already
-    | inr is ↦ inr (subst (λ (x : Vote). Contains (w ∷ votes) x) is (Contains-append_left (w ∷ []) votes w (Contains-push [] w)))
-  ]
-  | inr later ↦ inr (Contains-later w votes v later)
-]
+use Rattle.hb_rules.proofs.Lists.{source_of, Contains-filter_map, Contains-later, list_any-from}
+use Rattle.hb_rules.proofs.DeskVotes.{closing-is, closing-gives}
 
 -- ---- the lists of one epoch
 

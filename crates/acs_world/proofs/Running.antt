@@ -1,20 +1,20 @@
 -- The least number of lists in running nodes' ledgers, up to which these are the same.
-use Rattle.std.proofs.Common.{◌≡◌, ℕ, zero, suc, ◌+◌, ◌<◌, ◌≤◌, ◌&&◌, not, nat_lt, min, Bool, true, false, inl, inr, List, [], ◌∷◌, ◌++◌, length, map, take, Contains, Option, None, Some, if◌then◌else◌, refl, sym, ap, ◌∙◌, subst, arith}
+use Rattle.std.proofs.Common.{◌≡◌, ℕ, zero, suc, ◌+◌, ◌<◌, ◌≤◌, min, Bool, true, false, inl, inr, List, [], ◌∷◌, ◌++◌, length, map, take, Contains, Option, None, Some, if◌then◌else◌, refl, sym, ap, ◌∙◌, subst, arith}
 use Rattle.std.specs.List.{filter, fold, range_with_len}
 use Rattle.std.specs.Option.{unwrap_or}
-use Rattle.std.proofs.lemmas.Bool.{cases_lt, and_parts, ltb-true, not-true}
+use Rattle.std.proofs.lemmas.Bool.{cases_lt}
 use Rattle.std.proofs.lemmas.List.{map-id, map-append}
 use Rattle.std.proofs.lemmas.List.FromFn.{map-range_with_len_more}
 use Rattle.std.proofs.lemmas.List.Sums.{fold-append}
 use Rattle.std.proofs.lemmas.List.Elements.{filter-append}
 use Rattle.hb_base.specs.Numbers.{AreSound}
-use Rattle.hb_base.specs.NodeSet.{is_in}
 use Rattle.hb_wire.specs.declared.items.Item.{Item}
 use Rattle.hb_rules.specs.declared.report.Report.{Report}
 use Rattle.hb_rules.specs.History.{IsLegal}
-use Rattle.hb_rules.specs.Ledger.{ledger, IsCorrect}
-use Rattle.hb_rules.specs.Report.{is_running, all_work}
+use Rattle.hb_rules.specs.Ledger.{ledger}
+use Rattle.hb_rules.specs.Report.{is_running}
 use Rattle.hb_rules.specs.Strings.{NoCollision}
+use Rattle.hb_rules.proofs.Reports.{running_correct}
 use Rattle.hb_rules.proofs.Lists.{Contains-first, Contains-later, Contains-cases}
 use Rattle.acs_world.specs.Common.{lower, least_of, least, closed_count, counts_below, common_epochs, AreCommon}
 use Rattle.acs_world.proofs.Ledgers.{prefix_take}
@@ -96,12 +96,6 @@ counted f p s (suc k) i low high passes = elim (cases_lt s i) [
     by false later = later
 
 -- ---- running nodes
-
-pub running_correct : (report : Report) (i : ℕ) → is_running report i ≡ true → IsCorrect report.config i
-running_correct report i runs =
-    let parts = and_parts (nat_lt i report.config.n) (not (is_in report.config.liars i) && all_work report.config.n report.ends.items i) runs in
-    let inner = and_parts (not (is_in report.config.liars i)) (all_work report.config.n report.ends.items i) parts.1 in
-    record { known = ltb-true i report.config.n parts.0; honest = not-true (is_in report.config.liars i) inner.0 }
 
 common_low : (report : Report) (i : ℕ) → is_running report i ≡ true → common_epochs report ≤ length (ledger report.config report.history.items i)
 common_low report i runs =

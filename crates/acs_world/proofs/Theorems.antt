@@ -11,7 +11,8 @@ use Rattle.hb_rules.specs.Strings.{NoCollision}
 use Rattle.hb_rules.proofs.Lists.{Contains-first}
 use Rattle.acs_world.specs.Agreed.{ClosingsAgree, ClosingsFollow}
 use Rattle.acs_world.specs.Backing.{ClosingsAreBacked}
-use Rattle.acs_world.proofs.Backed.{closing_backed, closing_follows}
+use Rattle.hb_rules.proofs.DeskVotes.{closing_follows}
+use Rattle.acs_world.proofs.Backed.{closing_backed}
 use Rattle.acs_world.proofs.OneList.{one_list, list_enough, item_unaltered}
 use Rattle.acs_world.proofs.Ledgers.{lists_at, list_from, list_has, one_list_at, ledger_from, IsChain, chains_comparable}
 

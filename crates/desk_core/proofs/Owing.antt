@@ -1,22 +1,12 @@
 -- What a desk owes, by its terms: the letters are as in the rules.
-use Rattle.std.proofs.Common.{◌≡◌, ℕ, Bool, true, false, nat_lt, ◌==◌, List, [], ◌++◌, refl, sym, ap, subst, ◌∙◌, arith, if◌then◌else◌, append-nil}
-use Rattle.std.proofs.lemmas.Bool.{ltb-true, eq-eqb}
+use Rattle.std.proofs.Common.{◌≡◌, ℕ, List, [], ◌++◌, sym, ap, ◌∙◌, subst, append-nil}
 use Rattle.hb_base.specs.Numbers.{Numbers}
 use Rattle.hb_wire.specs.declared.vote.Vote.{Vote}
 use Rattle.hb_rules.specs.Hearing.{Hearing}
-use Rattle.hb_rules.specs.Owing.{lane_slots, desk_slots, slots_of}
+use Rattle.hb_rules.specs.Owing.{desk_slots}
 use Rattle.hb_rules.specs.Slots.{Slot, IsIdle, IsOwed, owed}
 use Rattle.hb_rules.specs.Terms.{terms_of}
-
--- the slots of actor n are the desk's
-pub slots_of-desk : (c : Numbers) (submitted : List (List ℕ)) (i : ℕ) → slots_of c submitted i c.n ≡ desk_slots c submitted
-slots_of-desk c submitted i = by (nat_lt c.n c.n) (c.n == c.n) refl (eq-eqb c.n c.n refl)
-  where
-    by : (lane desk : Bool) → nat_lt c.n c.n ≡ lane → desk ≡ true
-        → (if lane then lane_slots c i c.n else (if desk then desk_slots c submitted else [])) ≡ desk_slots c submitted
-    by true desk is_lane is_desk = absurd (omega (arith, ltb-true c.n c.n is_lane))
-    by false true is_lane is_desk = refl
-    by false false is_lane is_desk = absurd (cc (is_desk))
+use Rattle.hb_rules.proofs.DeskParts.{slots_of-desk}
 
 -- by its terms a desk owes what its slots make owed
 pub owed-desk : (c : Numbers) (submitted : List (List ℕ)) (i : ℕ) (own : List Vote) (heard : List Hearing)

@@ -239,3 +239,9 @@ was_allowed c i x correct history legal =
       | inl earlier ↦ later_allowed c i x before post vote (holds front vote earlier)
       | inr new ↦ record { before = before; later = post ∷ []; is = refl; legal = front; addressed = addressed; may = new.may }
     ]) history legal legal
+
+-- what was cast when a vote was allowed stays cast
+pub said_later : (c : Numbers) (i x a y : ℕ) (history : List Post) (vote v : Vote) → (was : WasAllowed c i x history vote)
+    → Contains (own_in c a y was.before) v → Contains (own_in c a y history) v
+said_later c i x a y history vote v was stands =
+    subst (λ (posts : List Post). Contains (own_in c a y posts) v) (sym was.is) (cast_stays c a y was.before was.later v stands)

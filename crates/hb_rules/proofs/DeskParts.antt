@@ -1,9 +1,9 @@
 -- The slots of the desk: what they make, that their votes fill them, and what they ask of own votes.
-use Rattle.std.proofs.Common.{◌≡◌, ℕ, zero, suc, ◌-◌, ◌≤◌, Bool, true, false, not, ◌==◌, nat_le, List, [], ◌++◌, take, Option, None, Some, if◌then◌else◌, refl, sym, ap, ap₂, ◌∙◌, arith}
+use Rattle.std.proofs.Common.{◌≡◌, ℕ, zero, suc, ◌-◌, ◌≤◌, Bool, true, false, not, ◌==◌, nat_lt, nat_le, List, [], ◌++◌, take, Option, None, Some, if◌then◌else◌, refl, sym, ap, ap₂, ◌∙◌, arith}
 use Rattle.std.proofs.Math.Path.{fun_ext}
 use Rattle.std.specs.List.{AllByRecursion, filter}
 use Rattle.std.specs.Option.{option_map, option_and_then}
-use Rattle.std.proofs.lemmas.Bool.{eq-eqb, lt-leb}
+use Rattle.std.proofs.lemmas.Bool.{eq-eqb, lt-leb, ltb-true}
 use Rattle.std.proofs.lemmas.Option.{cond_some}
 use Rattle.hb_base.specs.Counting.{count_nodes}
 use Rattle.hb_base.specs.Numbers.{Numbers, AreSound}
@@ -17,6 +17,7 @@ use Rattle.hb_rules.specs.Hearing.{Hearing}
 use Rattle.hb_rules.specs.Desk.{is_open}
 use Rattle.hb_rules.specs.Pool.{settles_below, pool_value}
 use Rattle.hb_rules.specs.Slots.{Slot, IsGuarded, IsForgetful}
+use Rattle.hb_rules.specs.Owing.{lane_slots, desk_slots, slots_of}
 use Rattle.hb_rules.specs.Tested.{IsTested}
 use Rattle.hb_rules.specs.Same.{AreSame}
 use Rattle.hb_rules.specs.DeskRows.{decision_of, delivery_of, items_of, accepted_below, proposal_slot, no_more_slot, closing_slot, desk_rows}
@@ -178,3 +179,13 @@ pub desk-forgets : (c : Numbers) → AreSound c → (submitted : List (List ℕ)
 desk-forgets c sound submitted =
     desk_hold (λ e slot. IsForgetful slot) c submitted
     (λ e. proposal_slot-forgets c submitted e) (λ e. no_more_slot-forgets c sound e) (λ e. closing_slot-forgets c sound e)
+
+-- the slots of actor n are the desk's
+pub slots_of-desk : (c : Numbers) (submitted : List (List ℕ)) (i : ℕ) → slots_of c submitted i c.n ≡ desk_slots c submitted
+slots_of-desk c submitted i = by (nat_lt c.n c.n) (c.n == c.n) refl (eq-eqb c.n c.n refl)
+  where
+    by : (lane desk : Bool) → nat_lt c.n c.n ≡ lane → desk ≡ true
+        → (if lane then lane_slots c i c.n else (if desk then desk_slots c submitted else [])) ≡ desk_slots c submitted
+    by true desk is_lane is_desk = absurd (omega (arith, ltb-true c.n c.n is_lane))
+    by false true is_lane is_desk = refl
+    by false false is_lane is_desk = absurd (cc (is_desk))

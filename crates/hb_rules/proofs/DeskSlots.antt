@@ -64,7 +64,7 @@ claim_heard {A} j claim heard result h = by source.element source.stands (source
     }
     by g stands false same gives = absurd (cc (gives))
 
-decision_heard : (e j : ℕ) (heard : List Hearing) (bit : Bool) → decision_of e heard j ≡ Some bit → heard_by heard j (is_decision e bit) ≡ true
+pub decision_heard : (e j : ℕ) (heard : List Hearing) (bit : Bool) → decision_of e heard j ≡ Some bit → heard_by heard j (is_decision e bit) ≡ true
 decision_heard e j heard bit h =
     let claimed = claim_heard j (decided e) heard bit h in
     list_any-from (λ (g : Hearing). (g.from == j) && is_decision e bit g.vote) heard (hearing j claimed.vote) claimed.stands

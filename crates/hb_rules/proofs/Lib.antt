@@ -22,6 +22,10 @@ pub mod Addressed
 pub mod Cast
 pub mod LaneVotes
 pub mod Once
+pub mod DeskVotes
+pub mod Firsts
+pub mod PoolRule
+pub mod Reports
 pub mod Said
 pub mod Seats
 pub mod PlainBooks

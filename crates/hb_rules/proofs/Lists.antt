@@ -1,8 +1,9 @@
 -- Lists: what holds of each element, what filters keep, and where results come from.
-use Rattle.std.proofs.Common.{◌≡◌, ℕ, zero, suc, ◌<◌, Bool, true, false, ◌||◌, inl, inr, List, [], ◌∷◌, ◌++◌, Contains, Option, None, Some, if◌then◌else◌, refl, sym, ap, ◌∙◌, map, arith}
+use Rattle.std.proofs.Common.{◌≡◌, ℕ, zero, suc, ◌<◌, Bool, true, false, ◌||◌, inl, inr, List, [], ◌∷◌, ◌++◌, Contains, Option, None, Some, if◌then◌else◌, refl, sym, ap, ◌∙◌, subst, map, arith, slice_get}
 use Rattle.std.specs.List.{list_any, list_all, filter, filter_map, cons_option, AllByRecursion}
 use Rattle.std.specs.Option.{option_or, is_some}
 use Rattle.std.proofs.lemmas.Bool.{both_ways, and_parts, false_from_ne_true}
+use Rattle.std.proofs.lemmas.Option.{slice_get-get_or}
 use Rattle.std.proofs.lemmas.List.Elements.{Contains-append_left, Contains-append_right, Contains-append_cases, Contains-push, Contains-push_cases, All-from_recursion, All-contains}
 use Rattle.std.proofs.lemmas.List.Folds.{list_any-from_Any}
 use Rattle.hb_rules.specs.Slots.{each, first_of}
@@ -55,6 +56,15 @@ Contains-cases x xs y stands P first later = elim (Contains-append_cases (x ∷ 
   ]
   | inr rest ↦ later rest
 ]
+
+-- an element stands at some place, and what stands at a place is an element
+pub contains_at : {A : Type 0} (xs : List A) (x : A) → Contains xs x → (p : ℕ) × (slice_get xs p ≡ Some x)
+contains_at xs x stands = (stands.0, slice_get-get_or xs stands.0 x stands.1 ∙ ap (λ y. Some y) stands.2)
+
+pub at_contains : {A : Type 0} (xs : List A) (p : ℕ) (x : A) → slice_get xs p ≡ Some x → Contains xs x
+at_contains [] p x stands = absurd (cc (stands))
+at_contains (y ∷ xs) zero x stands = let is : y ≡ x = cc in subst (λ z. Contains (z ∷ xs) x) (sym is) (Contains-first x xs)
+at_contains (y ∷ xs) (suc p) x stands = Contains-later y xs x (at_contains xs p x stands)
 
 -- one that passes a test, of a list
 pub list_any-from : {A : Type 0} (test : A → Bool) (xs : List A) (x : A) → Contains xs x → test x ≡ true → list_any test xs ≡ true

@@ -15,7 +15,7 @@ use Rattle.hb_rules.specs.Same.{same_vote, count}
 use Rattle.hb_rules.specs.Terms.{Terms, AreCastable, AreVotes, cast_in, heard_all}
 use Rattle.journaled_actor.specs.Kept.{IsAll, CastSome}
 use Rattle.journaled_actor.proofs.SameRules.{new_vote}
-use Rattle.journaled_actor.proofs.Firsts.{same_firsts}
+use Rattle.hb_rules.proofs.Firsts.{same_firsts}
 
 count-append : (vote : Vote) (xs ys : List Vote) → count vote (xs ++ ys) ≡ count vote xs + count vote ys
 count-append vote xs ys = sum_by-append (λ (v : Vote). if same_vote vote v then 1 else 0) xs ys

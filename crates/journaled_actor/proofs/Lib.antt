@@ -1,5 +1,4 @@
 pub mod SameRules
-pub mod Firsts
 pub mod Turns
 pub mod Lengths
 pub mod Posted

@@ -9,7 +9,7 @@ use Rattle.hb_rules.specs.Same.{firsts, AreSame}
 use Rattle.hb_rules.specs.Terms.{Terms, AreVotes, AreProper, AreLawful, AreHeardSpelled, AreAmong, cast_in, heard_all}
 use Rattle.hb_rules.proofs.Lists.{AllByRecursion-append}
 use Rattle.journaled_actor.specs.Kept.{Covers, IsAll, IsOpen}
-use Rattle.journaled_actor.proofs.Firsts.{same_firsts, same_sym}
+use Rattle.hb_rules.proofs.Firsts.{same_firsts, same_sym}
 use Rattle.journaled_actor.proofs.Turns.{castable_append, proper_append, proper_front, votes_longer}
 
 -- with the votes that are owed they are votes that the actor may keep

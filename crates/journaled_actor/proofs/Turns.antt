@@ -14,7 +14,7 @@ use Rattle.hb_rules.proofs.Lists.{AllByRecursion-parts}
 use Rattle.hb_rules.proofs.MoreHeard.{AreAmong-more, MayCast-among}
 use Rattle.journaled_actor.specs.Kept.{Covers, Turn}
 use Rattle.journaled_actor.proofs.SameRules.{cast_same, new_vote}
-use Rattle.journaled_actor.proofs.Firsts.{same_firsts, firsts_cast, firsts_more, with_known, with_new, front_cases, front_whole}
+use Rattle.hb_rules.proofs.Firsts.{same_firsts, firsts_cast, firsts_more, with_known, with_new, front_cases, front_whole}
 
 -- ---- lists of votes, of which each may be cast after those before it
 

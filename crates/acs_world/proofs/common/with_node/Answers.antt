@@ -1,6 +1,7 @@
 use Rattle.std.proofs.Common.{sym, ◌∙◌}
 use Rattle.hb_rules.proofs.LaneVotes.{correct_from}
-use Rattle.acs_world.proofs.Running.{running_correct, one_more_runs, one_more_rests}
+use Rattle.hb_rules.proofs.Reports.{running_correct}
+use Rattle.acs_world.proofs.Running.{one_more_runs, one_more_rests}
 use Rattle.acs_world.proofs.common.with_node.Goals as goal
 
 pub count_at-count-requires-clause-correct : goal.count_at-count-requires-clause-correct

@@ -1,6 +1,7 @@
 -- Votes at their first places.
-use Rattle.std.proofs.Common.{◌≡◌, ◌<◌, ◌≤◌, ◌⊎◌, Bool, true, false, ◌||◌, inl, inr, List, [], ◌∷◌, ◌++◌, length, Contains, if◌then◌else◌, refl, sym, ap, ◌∙◌, subst, arith, append-nil, length-append}
+use Rattle.std.proofs.Common.{◌≡◌, ◌<◌, ◌≤◌, ◌⊎◌, Bool, true, false, ◌||◌, inl, inr, List, [], ◌∷◌, ◌++◌, length, Contains, if◌then◌else◌, refl, sym, ap, ◌∙◌, subst, arith, append-nil, append_assoc, length-append}
 use Rattle.std.specs.List.{list_any, fold}
+use Rattle.std.proofs.lemmas.List.Elements.{Contains-append_left, Contains-push, Contains-push_cases}
 use Rattle.std.proofs.lemmas.List.Folds.{list_any-append}
 use Rattle.std.proofs.lemmas.List.Sums.{fold-append}
 use Rattle.std.proofs.Math.Bool.{or-false}
@@ -9,7 +10,53 @@ use Rattle.hb_wire.proofs.Equality.{one_vote}
 use Rattle.hb_rules.specs.Ledger.{IsPrefix}
 use Rattle.hb_rules.specs.Same.{same_vote, with_vote, firsts, AreSame}
 use Rattle.hb_rules.proofs.Among.{any_stands}
-use Rattle.hb_rules.proofs.Lists.{list_any-from, Contains-first, Contains-later}
+use Rattle.hb_rules.proofs.Lists.{list_any-from, Contains-cases, Contains-first, Contains-later}
+
+-- ---- which votes stand there
+
+pub with_keeps : (votes : List Vote) (w v : Vote) → Contains votes v → Contains (with_vote votes w) v
+with_keeps votes w v stands = by (list_any (same_vote w) votes)
+  where
+    by : (b : Bool) → Contains (if b then votes else votes ++ w ∷ []) v
+    by true = stands
+    by false = Contains-append_left votes (w ∷ []) v stands
+
+pub with_has : (votes : List Vote) (w : Vote) → Contains (with_vote votes w) w
+with_has votes w = by (list_any (same_vote w) votes) refl
+  where
+    by : (b : Bool) → list_any (same_vote w) votes ≡ b → Contains (if b then votes else votes ++ w ∷ []) w
+    by true among =
+        let found = any_stands (same_vote w) votes among in
+        subst (λ (v : Vote). Contains votes v) (sym ((one_vote w found.0).0 found.2)) found.1
+    by false new = Contains-push votes w
+
+pub with_from : (votes : List Vote) (w v : Vote) → Contains (with_vote votes w) v → Contains votes v ⊎ (w ≡ v)
+with_from votes w v stands = by (list_any (same_vote w) votes) stands
+  where
+    by : (b : Bool) → Contains (if b then votes else votes ++ w ∷ []) v → Contains votes v ⊎ (w ≡ v)
+    by true among = inl among
+    by false among = Contains-push_cases votes w v among
+
+pub firsts_keep : (votes before : List Vote) (v : Vote) → Contains before v → Contains (fold with_vote before votes) v
+firsts_keep [] before v stands = stands
+firsts_keep (w ∷ votes) before v stands = firsts_keep votes (with_vote before w) v (with_keeps before w v stands)
+
+pub firsts_have : (votes before : List Vote) (v : Vote) → Contains votes v → Contains (fold with_vote before votes) v
+firsts_have [] before v stands = absurd (omega (arith, stands.1))
+firsts_have (w ∷ votes) before v stands =
+    Contains-cases w votes v stands (Contains (fold with_vote before (w ∷ votes)) v)
+    (λ is. firsts_keep votes (with_vote before w) v (subst (λ (x : Vote). Contains (with_vote before w) x) is (with_has before w)))
+    (λ later. firsts_have votes (with_vote before w) v later)
+
+pub firsts_from : (votes before : List Vote) (v : Vote) → Contains (fold with_vote before votes) v → Contains before v ⊎ Contains votes v
+firsts_from [] before v stands = inl stands
+firsts_from (w ∷ votes) before v stands = elim (firsts_from votes (with_vote before w) v stands) [
+  | inl front ↦ elim (with_from before w v front) [
+    | inl already ↦ inl already
+    | inr is ↦ inr (subst (λ (x : Vote). Contains (w ∷ votes) x) is (Contains-append_left (w ∷ []) votes w (Contains-push [] w)))
+  ]
+  | inr later ↦ inr (Contains-later w votes v later)
+]
 
 -- ---- no test tells votes from those at their first places
 
@@ -53,11 +100,10 @@ same_sym own other same = record { tests = λ test. sym (same.tests test) }
 
 -- a vote at its first place was cast
 pub firsts_cast : (own : List Vote) (vote : Vote) → Contains (firsts own) vote → Contains own vote
-firsts_cast own vote stands =
-    let among : list_any (same_vote vote) own ≡ true =
-    sym ((same_firsts own).tests (same_vote vote)) ∙ list_any-from (same_vote vote) (firsts own) vote stands ((one_vote vote vote).1 refl) in
-    let found = any_stands (same_vote vote) own among in
-    subst (λ (v : Vote). Contains own v) (sym ((one_vote vote found.0).0 found.2)) found.1
+firsts_cast own vote stands = elim (firsts_from own [] vote stands) [
+  | inl none ↦ absurd (omega (arith, none.1))
+  | inr among ↦ among
+]
 
 -- ---- one vote more
 
@@ -99,3 +145,24 @@ front_whole front done prefix far =
     nothing : (votes : List Vote) → length votes ≤ 0 → votes ≡ []
     nothing [] few = refl
     nothing (vote ∷ votes) few = absurd (omega (arith, few))
+
+-- ---- more votes
+
+fold_front : (before more : List Vote) → IsPrefix before (fold with_vote before more)
+fold_front before [] = record { rest = []; is = sym (append-nil before) }
+fold_front before (vote ∷ more) =
+    let later : IsPrefix (with_vote before vote) (fold with_vote (with_vote before vote) more) = fold_front (with_vote before vote) more in
+    by (list_any (same_vote vote) before) refl later
+  where
+    by : (b : Bool) → list_any (same_vote vote) before ≡ b → IsPrefix (with_vote before vote) (fold with_vote (with_vote before vote) more)
+        → IsPrefix before (fold with_vote (with_vote before vote) more)
+    by true among later = record { rest = later.rest; is = later.is ∙ ap (λ (front : List Vote). front ++ later.rest) (rw among refl) }
+    by false new later = record {
+      rest = vote ∷ later.rest;
+      is = later.is ∙ ap (λ (front : List Vote). front ++ later.rest) (with_new before vote new) ∙ append_assoc before (vote ∷ []) later.rest;
+    }
+
+-- with more votes those at their first places go on
+pub firsts_front : (own more : List Vote) → IsPrefix (firsts own) (firsts (own ++ more))
+firsts_front own more =
+    subst (λ (votes : List Vote). IsPrefix (firsts own) votes) (sym (fold-append with_vote [] own more)) (fold_front (firsts own) more)
