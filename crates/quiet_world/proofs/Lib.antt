@@ -1,0 +1,3 @@
+pub mod Hearings
+pub mod Closings
+pub mod Theorems
