@@ -3,13 +3,14 @@ use Rattle.std.proofs.Common.{◌≡◌, ℕ, zero, suc, ◌+◌, ◌<◌, ◌�
 use Rattle.std.specs.Prelude.{nat_lt, count_by, filter_map}
 use Rattle.std.specs.List.{flat_map, range_with_len}
 use Rattle.std.proofs.lemmas.Bool.{cases_lt, and_parts, eqb-true, false_from_ne_true}
-use Rattle.std.proofs.lemmas.Option.{slice_get-get_or, slice_get_within}
+use Rattle.std.proofs.lemmas.Option.{slice_get_within}
 use Rattle.std.proofs.lemmas.List.Elements.{Contains-append_left, Contains-append_right, Contains-get_or, filter_map-append}
 use Rattle.std.proofs.lemmas.List.FromFn.{length-range_with_len, get_or-range_with_len}
 use Rattle.hb_base.specs.Numbers.{Numbers}
 use Rattle.hb_base.specs.NodeSet.{is_in}
 use Rattle.hb_base.specs.Limits.{most_lies}
 use Rattle.hb_wire.specs.declared.vote.Vote.{Vote}
+use Rattle.hb_wire.specs.declared.vote.Vote.TheVariants.{Propose}
 use Rattle.hb_wire.specs.declared.post.Post.{Post}
 use Rattle.net_script.specs.declared.script.Script.{Script}
 use Rattle.hb_rules.specs.declared.report.Fate.{Fate}
@@ -20,12 +21,15 @@ use Rattle.hb_rules.specs.Book.{SeatView, mine_in, Watched, IsSeatOf}
 use Rattle.hb_rules.specs.Hearing.{hearing_of, heard_of, own_in, vote_by, is_by}
 use Rattle.hb_rules.specs.History.{MayFollow, IsLegal}
 use Rattle.hb_rules.specs.Ledger.{IsCorrect}
-use Rattle.hb_rules.specs.Same.{count}
+use Rattle.hb_rules.specs.Pool.{pool_value}
+use Rattle.hb_rules.specs.Same.{count, firsts}
 use Rattle.hb_rules.specs.Slots.{Slot, pass, passes, owed, IsIdle}
 use Rattle.hb_rules.specs.Owing.{slots_of}
-use Rattle.hb_rules.specs.Report.{actors, submitted_at, stops_of, IsReceived, IsSettled, IsQuiet, HasPlannedFault, StaysWithinPlan}
+use Rattle.hb_rules.specs.Terms.{is_proper, AreProper}
+use Rattle.hb_rules.specs.Report.{actors, submitted_at, stops_of, IsReceived, IsSettled, IsQuiet, HasPlannedFault, StaysWithinPlan, FollowsPoolRule}
 use Rattle.hb_rules.proofs.Addressed.{legal_induction}
-use Rattle.hb_rules.proofs.Lists.{Contains-cases, Contains-first, Contains-later, source_of}
+use Rattle.hb_rules.proofs.Lists.{Contains-cases, Contains-first, Contains-later, contains_at, source_of}
+use Rattle.hb_rules.proofs.PoolRule.{pool_rule}
 use Rattle.hb_rules.proofs.Seats.{own_in-watched}
 use Rattle.step_driver.specs.declared.run.Done.{Done}
 use Rattle.step_driver.specs.Waiting.{nothing_waits}
@@ -36,14 +40,6 @@ use Rattle.step_driver.proofs.Playing.{slice_get-front, IsReceived-on}
 use Rattle.step_driver.proofs.Tellings.{count_append, count_none}
 
 -- ---- elements of lists
-
-contains_at : {A : Type 0} (xs : List A) (x : A) → Contains xs x → (p : ℕ) × (slice_get xs p ≡ Some x)
-contains_at xs x stands = (stands.0, slice_get-get_or xs stands.0 x stands.1 ∙ ap (λ y. Some y) stands.2)
-
-at_contains : {A : Type 0} (xs : List A) (p : ℕ) (x : A) → slice_get xs p ≡ Some x → Contains xs x
-at_contains [] p x stands = absurd (cc (stands))
-at_contains (y ∷ xs) zero x stands = let is : y ≡ x = cc in subst (λ z. Contains (z ∷ xs) x) (sym is) (Contains-first x xs)
-at_contains (y ∷ xs) (suc p) x stands = Contains-later y xs x (at_contains xs p x stands)
 
 Contains-map : {A B : Type 0} (f : A → B) (xs : List A) (x : A) → Contains xs x → Contains (map f xs) (f x)
 Contains-map f [] x stands = absurd (omega (arith, stands.1))
@@ -377,4 +373,39 @@ plan all c s done ended same = record {
   votes = λ i x vote is_correct. plan_votes all c s done.history.items i x vote ended is_correct;
   lies = λ a liar. plan_lies all c s done.history.items a ended liar;
   journals = λ end stands journal. plan_journal all c s done.history.items (end_view end) ended (is_end_of all done.ends.items end same stands) journal;
+}
+
+-- ---- proposals
+
+-- what a desk tells of its votes, of the whole history
+proper_at : (all : List Spot) (c : Numbers) (s : Script) (posts : List Post) (i x : ℕ) → HasEnded c s posts all → (there : IsThere all i x)
+    → AreProper there.player.view.terms [] (firsts (own_in c i x posts))
+proper_at all c s posts i x ended there =
+    let pl = there.player in
+    let t = pl.view.terms in
+    let seat = ended.stage.seats there.place (correct pl) there.stands in
+    let kept = kept_at c s posts all there.place pl ended there.stands in
+    let here : AreProper t [] (firsts (own_in c pl.seat.node pl.seat.actor pl.seat.seen)) =
+    proper_same pl c pl.seat.node pl.seat.actor t.config t.node t.actor (sym seat.config ∙ kept.config) kept.node kept.actor kept.proper in
+    let all_here : AreProper t [] (firsts (own_in c pl.seat.node pl.seat.actor posts)) =
+    subst (λ (own : List Vote). AreProper t [] (firsts own)) (sym (own_seen c posts pl.seat seat)) here in
+    subst (λ (y : ℕ). AreProper t [] (firsts (own_in c i y posts))) there.actor
+    (subst (λ (a : ℕ). AreProper t [] (firsts (own_in c a pl.seat.actor posts))) there.node all_here)
+  where
+    proper_same : (pl : PlayerView) (c : Numbers) (i x : ℕ) (d : Numbers) (a y : ℕ) → c ≡ d → i ≡ a → x ≡ y
+        → AreProper pl.view.terms [] (firsts (own_in d a y pl.seat.seen)) → AreProper pl.view.terms [] (firsts (own_in c i x pl.seat.seen))
+    proper_same pl c i x d a y same_c same_i same_x proper = rw (same_c, same_i, same_x) proper
+
+rule_at : (all : List Spot) (c : Numbers) (s : Script) (posts : List Post) (i e : ℕ) (value : List ℕ) → HasEnded c s posts all → IsCorrect c i
+    → Contains (own_in c i c.n posts) (Propose e value) → value ≡ pool_value c (submitted_at s i) e (own_in c i c.n posts)
+rule_at all c s posts i e value ended is_correct stands =
+    let there : IsThere all i c.n = is_there c all i c.n ended.team is_correct (omega arith) in
+    let player = player_at c s posts all there.place there.player ended there.stands in
+    pool_rule c (submitted_at s i) i e value there.player.view.terms posts
+    (λ own vote. player.sound.proper there.actor own vote ∙ ap (λ (a : ℕ). is_proper c (submitted_at s a) own vote) there.node)
+    is_correct.honest ended.legal (proper_at all c s posts i c.n ended there) stands
+
+pub rule : (all : List Spot) (c : Numbers) (s : Script) (done : Done) → HasEnded c s done.history.items all → FollowsPoolRule (report_of c s done)
+rule all c s done ended = record {
+  proposals = λ i e value is_correct stands. rule_at all c s done.history.items i e value ended is_correct stands;
 }

@@ -17,7 +17,7 @@ use Rattle.hb_rules.specs.Ledger.{IsPrefix}
 use Rattle.hb_rules.specs.Report.{comes_to, IsReceived, is_running_fate, submitted_at}
 use Rattle.hb_rules.specs.Owing.{slots_of}
 use Rattle.hb_rules.specs.Slots.{owed}
-use Rattle.hb_rules.specs.Terms.{Terms}
+use Rattle.hb_rules.specs.Terms.{Terms, is_proper}
 use Rattle.std.specs.Prelude.{IfSome, IfErr, OnErr, IsErrOf, Result, Ok, Err}
 use Rattle.step_driver.specs.Places.{PlayerView, left}
 use Rattle.step_driver.specs.Delivering.{IsSound, IsPlayer, HasFate, HasMetFault, Passes, Plays, HasHeard, WasRestarted}
@@ -87,6 +87,9 @@ IsSound-on c s old new sound node actor more terms planned less got = record {
       ap (λ (t : Terms). t.owed own heard) terms ∙ sound.owes own heard
       ∙ ap (λ (i : ℕ). owed (slots_of c (submitted_at s i) i old.seat.actor) own heard) (sym node)
       ∙ ap (λ (x : ℕ). owed (slots_of c (submitted_at s new.seat.node) new.seat.node x) own heard) (sym actor);
+  proper = λ desk own vote.
+      ap (λ (t : Terms). t.proper own vote) terms ∙ sound.proper (sym actor ∙ desk) own vote
+      ∙ ap (λ (i : ℕ). is_proper c (submitted_at s i) own vote) (sym node);
   planned = rw (node, actor, planned) sound.planned;
   bound = rw (node, actor) (omega (arith, sound.bound, less));
   few = omega (arith, sound.few, less);
@@ -103,12 +106,6 @@ Contains-none : {A : Type 0} (xs : List A) (x : A) → xs ≡ [] → Contains xs
 Contains-none xs x none stands = omega (arith, stands.1, ap length none)
 
 -- ---- what becomes of fates
-
-pub running_of : (fate : Fate) → is_running_fate fate ≡ true → fate ≡ Running
-running_of Running is = refl
-running_of Memory is = absurd (cc (is))
-running_of Journal is = absurd (cc (is))
-running_of Full is = absurd (cc (is))
 
 pub not_running : (fate : Fate) → is_running_fate fate ≡ false → fate ≡ Running → ⊥
 not_running fate not is = cc (not, ap is_running_fate is)
@@ -280,6 +277,7 @@ IsSound-fate : (c : Numbers) (s : Script) (p : PlayerView) (fate : Fate) → IsS
 IsSound-fate c s p fate sound = record {
   honest = sound.honest;
   owes = sound.owes;
+  proper = sound.proper;
   planned = sound.planned;
   bound = sound.bound;
   few = sound.few;

@@ -16,6 +16,7 @@ use Rattle.hb_rules.specs.Book.{SeatView, BookView, AreTwo, IsSeatOf, Moved}
 use Rattle.hb_rules.specs.Hearing.{Hearing}
 use Rattle.hb_rules.specs.Slots.{owed}
 use Rattle.hb_rules.specs.Owing.{slots_of}
+use Rattle.hb_rules.specs.Terms.{is_proper}
 use Rattle.hb_rules.specs.Report.{submitted_at, stops_of, faults_of, comes_to, IsReceived}
 use Rattle.step_driver.specs.Waiting.{Waiting, envelope, with_envelope, count_waiting}
 use Rattle.step_driver.specs.Places.{PlayerView, HiredView, Spot, correct, lying, seat_of, name_of, left, left_at}
@@ -36,12 +37,13 @@ HasFate started Memory seat v = Unit {0}
 HasFate started Journal seat v = HasMetFault v
 HasFate started Full seat v = length seat.seen ≡ most_posts
 
--- An actor of a correct node goes by the script: it owes by the submissions at its node, its disk stops and fails as planned,
--- and it received only what comes to it.
+-- An actor of a correct node goes by the script: it owes by the submissions at its node, and if it is the desk its pool is of
+-- these; its disk stops and fails as planned; and it received only what comes to it.
 pub record IsSound (c : Numbers) (s : Script) (p : PlayerView) : Type 0 where
   pub honest : is_in c.liars p.seat.node ≡ false
   pub owes : (own : List Vote) (heard : List Hearing)
       → p.view.terms.owed own heard ≡ owed (slots_of c (submitted_at s p.seat.node) p.seat.node p.seat.actor) own heard
+  pub proper : p.seat.actor ≡ c.n → (own : List Vote) (vote : Vote) → p.view.terms.proper own vote ≡ is_proper c (submitted_at s p.seat.node) own vote
   pub planned : p.view.supply.planned ≡ faults_of s p.seat.node p.seat.actor
   pub bound : budget p.view.restarts p.view.supply ≤ stops_of s p.seat.node p.seat.actor
   pub few : budget p.view.restarts p.view.supply ≤ most_stops

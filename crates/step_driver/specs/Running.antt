@@ -1,5 +1,5 @@
 -- A whole run.
-use Rattle.std.specs.Prelude.{◌≡◌, ℕ, ◌+◌, ◌<◌, ◌≤◌, true, List, length, map, filter_map, if◌then◌else◌, Option, Some, None, slice_get}
+use Rattle.std.specs.Prelude.{◌≡◌, ℕ, ◌+◌, ◌<◌, ◌≤◌, true, List, [], length, map, filter_map, if◌then◌else◌, Option, Some, None, slice_get}
 use Rattle.std.specs.Option.{option_to_list}
 use Rattle.hb_base.specs.Numbers.{Numbers}
 use Rattle.hb_base.specs.NodeSet.{is_in}
@@ -11,6 +11,8 @@ use Rattle.hb_rules.specs.declared.report.Report.{Report}
 use Rattle.hb_rules.specs.Actor.{IsFew, OwesNothing, AreSeen}
 use Rattle.hb_rules.specs.Book.{BookView}
 use Rattle.hb_rules.specs.Report.{actors}
+use Rattle.hb_rules.specs.Same.{firsts}
+use Rattle.hb_rules.specs.Terms.{AreProper, cast_in}
 use Rattle.step_driver.specs.declared.run.Done.{Done}
 use Rattle.step_driver.specs.Waiting.{Waiting, nothing_waits}
 use Rattle.step_driver.specs.Places.{PlayerView, Spot, correct, lying, Name, name_of}
@@ -66,6 +68,7 @@ pub record IsKept (p : PlayerView) : Type 0 where
   pub node : p.seat.node ≡ p.view.terms.node
   pub actor : p.seat.actor ≡ p.view.terms.actor
   pub few : IsFew p.view.terms p.seat.seen (1 + p.view.restarts)
+  pub proper : AreProper p.view.terms [] (firsts (cast_in p.view.terms p.seat.seen))
   pub seen : p.view.live ≡ true → AreSeen p.view.terms p.seat.seen p.view.got
   pub idle : p.view.live ≡ true → OwesNothing p.view.terms p.seat.seen p.view.got
 

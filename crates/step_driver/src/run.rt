@@ -3,7 +3,7 @@
 ghost use Rattle.std.specs.Prelude.{◌≡◌, ◌+◌, ◌<◌, ◌≤◌, ◌^◌, [], length, map, filter_map, IfOk, IfSome, OnOk};
 ghost use Rattle.hb_base.specs.Limits.{most_posts};
 ghost use Rattle.hb_rules.specs.History.{IsLegal};
-ghost use Rattle.hb_rules.specs.Report.{IsQuiet, StaysWithinPlan};
+ghost use Rattle.hb_rules.specs.Report.{IsQuiet, StaysWithinPlan, FollowsPoolRule};
 ghost use Rattle.net_script.specs.declared.script.Script.{Script};
 ghost use Rattle.step_driver.specs.Waiting.{nothing_waits};
 ghost use Rattle.step_driver.specs.Places.{spots, names};
@@ -49,6 +49,7 @@ pub fn run_steps<A: Actor<PlainBook>, L: Mouth>(
     ensures legal { IfOk result (λ done. IsLegal book.config done.history.items) }
     ensures quiet { IfOk result (λ done. IsQuiet (report_of book.config script.now done)) }
     ensures plan { IfOk result (λ done. StaysWithinPlan (report_of book.config script.now done)) }
+    ensures rule { IfOk result (λ done. FollowsPoolRule (report_of book.config script.now done)) }
 {
     let mut places = places;
     let mut book = book;

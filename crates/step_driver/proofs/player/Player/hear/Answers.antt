@@ -1,6 +1,7 @@
 use Rattle.std.proofs.Common.{sym, ◌∙◌, true}
 use Rattle.step_driver.specs.Places.{player_view}
-use Rattle.step_driver.proofs.Playing.{Plays-ended, Plays-unread, Plays-looked, Plays-after, IsReady-looked, running_of}
+use Rattle.hb_rules.proofs.Reports.{running_of}
+use Rattle.step_driver.proofs.Playing.{Plays-ended, Plays-unread, Plays-looked, Plays-after, IsReady-looked}
 use Rattle.step_driver.proofs.player.Player.hear.Goals as goal
 
 pub returns-then-not-is_running : goal.returns-then-not-is_running

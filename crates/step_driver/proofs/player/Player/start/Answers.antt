@@ -1,7 +1,8 @@
 use Rattle.std.proofs.Common.{length, sym, ◌∙◌, false}
 use Rattle.step_driver.specs.Places.{player_view}
 use Rattle.step_driver.specs.Delivering.{IsSound}
-use Rattle.step_driver.proofs.Playing.{Plays-ended, Plays-started, Plays-failed, IsSound-called, HasGot-none, fresh_of, running_of}
+use Rattle.hb_rules.proofs.Reports.{running_of}
+use Rattle.step_driver.proofs.Playing.{Plays-ended, Plays-started, Plays-failed, IsSound-called, HasGot-none, fresh_of}
 use Rattle.step_driver.proofs.player.Player.start.Goals as goal
 
 pub returns-then-not-is_running : goal.returns-then-not-is_running
