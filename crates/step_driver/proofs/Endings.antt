@@ -47,13 +47,13 @@ Contains-map f (y ∷ xs) x stands = Contains-cases y xs x stands (Contains (map
     (λ is. subst (λ z. Contains (f y ∷ map f xs) z) (ap f is) (Contains-first (f y) (map f xs)))
     (λ later. Contains-later (f y) (map f xs) (f x) (Contains-map f xs x later))
 
-Contains-flat_map : {A B : Type 0} (f : A → List B) (xs : List A) (x : A) (y : B) → Contains xs x → Contains (f x) y → Contains (flat_map f xs) y
+pub Contains-flat_map : {A B : Type 0} (f : A → List B) (xs : List A) (x : A) (y : B) → Contains xs x → Contains (f x) y → Contains (flat_map f xs) y
 Contains-flat_map f [] x y stands has = absurd (omega (arith, stands.1))
 Contains-flat_map f (z ∷ zs) x y stands has = Contains-cases z zs x stands (Contains (flat_map f (z ∷ zs)) y)
     (λ is. Contains-append_left (f z) (flat_map f zs) y (subst (λ w. Contains (f w) y) (sym is) has))
     (λ later. Contains-append_right (f z) (flat_map f zs) y (Contains-flat_map f zs x y later has))
 
-node_stands : (n i : ℕ) → i < n → Contains (range_with_len 0 n) i
+pub node_stands : (n i : ℕ) → i < n → Contains (range_with_len 0 n) i
 node_stands n i below =
     let within : i < length (range_with_len 0 n) = omega (arith, below, length-range_with_len 0 n) in
     let same : 0 + i ≡ i = omega arith in
