@@ -1,0 +1,4 @@
+pub mod Among
+pub mod Batches
+pub mod Order
+pub mod Questions

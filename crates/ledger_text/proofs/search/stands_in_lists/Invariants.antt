@@ -1,0 +1,7 @@
+use Rattle.std.proofs.Common.{◌≡◌, false}
+use Rattle.tx_pool.specs.Pool.{is_among}
+use Rattle.ledger_text.specs.Places.{in_lists}
+use Rattle.ledger_text.proofs.search.stands_in_lists.Given as goal
+
+abbrev pub invariant-loop-place : goal.invariant-loop-place
+invariant-loop-place l = is_among (in_lists l.ledgers l.node l.place) l.tx ≡ false

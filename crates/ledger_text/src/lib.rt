@@ -1,0 +1,12 @@
+//! The text of a run: the nodes, the ledgers of the correct ones, and the status; and that of a generated run.
+#![tactic(auto)]
+
+pub mod laws;
+mod ledger;
+mod lines;
+mod nodes;
+mod search;
+mod text;
+
+pub use laws::soak_laws;
+pub use text::{print_run, print_soak};

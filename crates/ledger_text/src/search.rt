@@ -1,0 +1,85 @@
+//! Whether a transaction stands before a place of a ledger.
+
+ghost use Rattle.std.specs.Prelude.{◌≡◌, ◌≤◌, ◌||◌, length, take};
+ghost use Rattle.tx_pool.specs.Pool.{is_among};
+ghost use Rattle.hb_wire.specs.Batches.{batch_of};
+ghost use Rattle.hb_wire.specs.Glances.{IsClosedRest};
+ghost use Rattle.hb_wire.specs.Lists.{listed};
+ghost use Rattle.acs_world.specs.Closures.{closures};
+ghost use Rattle.ledger_text.specs.Places.{in_lists, in_batches, IsSpot};
+
+use acs_world::{LedgerFinder, count_of};
+use hb_wire::{batch_at, batch_len, item};
+
+/// A batch of a ledger: its node, the place of its list in the ledger, what the vote of the list has behind kind and epoch, and
+/// the number of the batch in its list.
+#[derive(Clone, Copy, Debug)]
+pub(crate) struct Spot<'a> {
+    pub(crate) node: u8,
+    pub(crate) place: usize,
+    pub(crate) rest: &'a [u8],
+    pub(crate) index: u8,
+}
+
+/// Whether a transaction stands in the ledger before the batch, or among the first transactions of the batch. It goes through
+/// all transactions before.
+pub(crate) fn stands_before(
+    ledgers: &LedgerFinder,
+    spot: Spot,
+    value: &[u8],
+    t: u8,
+    tx: &[u8],
+) -> bool
+    requires spot { IsSpot ledgers.now spot }
+    requires inside { t ≤ length (batch_of value.now) }
+    ensures { result ≡ (is_among (in_lists ledgers.now spot.entry.node spot.entry.place) tx.now
+        || (is_among (in_batches spot.entry.rest.now spot.entry.index) tx.now || is_among (take t (batch_of value.now)) tx.now)) }
+{
+    stands_in_lists(ledgers, spot.node, spot.place, tx)
+        || stands_in_batches(spot.rest, spot.index, tx)
+        || stands_in_batch(value, t, tx)
+}
+
+// Whether a transaction stands in the first lists of the ledger of a node.
+fn stands_in_lists(ledgers: &LedgerFinder, node: u8, count: usize, tx: &[u8]) -> bool
+    requires { count ≤ length (closures ledgers.now.config ledgers.now.posts node) }
+    ensures { result ≡ is_among (in_lists ledgers.now node count) tx.now }
+{
+    for place in 0..count {
+        let Some(closing) = ledgers.at(node, place) else {
+            return false;
+        };
+        if stands_in_batches(closing.rest, count_of(closing.rest), tx) {
+            return true;
+        }
+    }
+    false
+}
+
+// Whether a transaction stands in the first batches of a list.
+fn stands_in_batches(rest: &[u8], count: u8, tx: &[u8]) -> bool
+    requires list { IsClosedRest rest.now (listed rest.now) }
+    requires inside { count ≤ length (listed rest.now) }
+    ensures { result ≡ is_among (in_batches rest.now count) tx.now }
+{
+    for j in 0..count {
+        let (_, value) = item(rest, j);
+        if stands_in_batch(value, batch_len(value), tx) {
+            return true;
+        }
+    }
+    false
+}
+
+// Whether a transaction is among the first of a batch.
+fn stands_in_batch(value: &[u8], count: u8, tx: &[u8]) -> bool
+    requires { count ≤ length (batch_of value.now) }
+    ensures { result ≡ is_among (take count (batch_of value.now)) tx.now }
+{
+    for t in 0..count {
+        if tx == batch_at(value, t) {
+            return true;
+        }
+    }
+    false
+}
