@@ -4,6 +4,8 @@
 #[cfg(test)]
 mod cases;
 #[cfg(test)]
+mod many;
+#[cfg(test)]
 mod tests;
 #[cfg(test)]
 mod texts;
