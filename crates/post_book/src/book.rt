@@ -77,7 +77,6 @@ impl<J: Naming> PostBook<J> {
         ensures turn { seat.new ≡ record seat.old { in_turn = false; seen = posts; mine = seat.new.mine } }
         ensures legal { IsLegal J.config posts }
     {
-        posts.are_legal();
         self.turns.pass(seat, posts);
     }
 
@@ -86,9 +85,7 @@ impl<J: Naming> PostBook<J> {
         requires { config.now ≡ J.config }
         ensures { IfOk result (λ r. r.1 ≡ record { book = r.0; seen = []; given = []; joined = [] }) }
     {
-        let none = NamedPosts::new(alloc, config);
-        none.are_legal();
-        let (turns, seat) = TurnBook::new(alloc, none)?;
+        let (turns, seat) = TurnBook::new(alloc, NamedPosts::new(alloc, config))?;
         let book = PostBook {
             alloc,
             config: *config,

@@ -107,13 +107,6 @@ impl<J: Naming> NamedPosts<J> {
         self.posts.add_lie(node, actor, to, bytes)
     }
 
-    // The posts are legal. It does nothing: its contract tells so.
-    pub(crate) fn are_legal(&self)
-        ensures { IsLegal J.config self.now }
-    {
-        let _ = self.posts.as_slice();
-    }
-
     // The posts, which are legal and name actors below 256.
     pub(crate) fn into_vec(self) -> Vec<Post>
         ensures posts { result.items ≡ self }
