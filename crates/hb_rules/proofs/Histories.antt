@@ -15,7 +15,7 @@ AreLegalAfter-push c before (first ∷ posts) post legal may =
     (legal.0, AreLegalAfter-push c (before ++ first ∷ []) posts post legal.1 (rw append_assoc may))
 
 -- a legal history with room goes on by a post that may follow
-IsLegal-push : (c : Numbers) (history : List Post) (post : Post) → IsLegal c history → length history < most_posts → MayFollow c history post
+pub IsLegal-push : (c : Numbers) (history : List Post) (post : Post) → IsLegal c history → length history < most_posts → MayFollow c history post
     → IsLegal c (history ++ post ∷ [])
 IsLegal-push c history post legal room may = record {
   short = rw length-append (omega arith);

@@ -25,6 +25,10 @@ pub mod Once
 pub mod DeskVotes
 pub mod Firsts
 pub mod PoolRule
+pub mod SameRules
+pub mod Turns
+pub mod Received
+pub mod Bytes
 pub mod Reports
 pub mod Said
 pub mod Seats

@@ -27,4 +27,5 @@ pub mod Book
 pub mod BookLaws
 pub mod Room
 pub mod Terms
+pub mod Keeping
 pub mod Actor

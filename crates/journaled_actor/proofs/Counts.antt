@@ -14,7 +14,7 @@ use Rattle.hb_rules.specs.Hearing.{Hearing}
 use Rattle.hb_rules.specs.Same.{same_vote, count}
 use Rattle.hb_rules.specs.Terms.{Terms, AreCastable, AreVotes, cast_in, heard_all}
 use Rattle.journaled_actor.specs.Kept.{IsAll, CastSome}
-use Rattle.journaled_actor.proofs.SameRules.{new_vote}
+use Rattle.hb_rules.proofs.SameRules.{new_vote}
 use Rattle.hb_rules.proofs.Firsts.{same_firsts}
 
 count-append : (vote : Vote) (xs ys : List Vote) → count vote (xs ++ ys) ≡ count vote xs + count vote ys

@@ -65,34 +65,7 @@ is_hearing t post h gives known =
       within = heard.within;
     })
 
--- ---- all that was heard has spellings
-
-pub heard_spelled : (c : Numbers) (i x : ℕ) (posts : List Post) → AreHeardSpelled c (heard_in c i x posts)
-heard_spelled c i x [] = tt
-heard_spelled c i x (post ∷ posts) = by (hearing_of c i x post) refl (heard_spelled c i x posts)
-  where
-    by : (o : Option Hearing) → hearing_of c i x post ≡ o → AreHeardSpelled c (heard_in c i x posts)
-        → AreHeardSpelled c (cons_option o (heard_in c i x posts))
-    by None is rest = rest
-    by (Some h) is rest =
-        let heard = heard_is c i x post h is in
-        (subst (λ (g : Hearing). HasSpelling c g.vote) heard.hearing_is (vote_takes c.n c.version post.bytes heard.vote heard.is).fits, rest)
-
 -- ---- what was received
-
--- a post that was received stands in the history
-slice_stands : (posts : List Post) (k : ℕ) (post : Post) → slice_get posts k ≡ Some post → Contains posts post
-slice_stands [] k post is = absurd (cc (is))
-slice_stands (p ∷ posts) zero post is = subst (λ (q : Post). Contains (p ∷ posts) q) (let e : p ≡ post = cc (is) in e) (Contains-first p posts)
-slice_stands (p ∷ posts) (suc k) post is = Contains-later p posts post (slice_stands posts k post is)
-
-pub got_heard : (t : Terms) (seen : List Post) (got : List ℕ) → AreAmong (heard_got t seen got) (heard_all t seen)
-got_heard t seen got = record {
-  each = λ h stands.
-      let heard = source_of (hearing_of t.config t.node t.actor) (filter_map (slice_get seen) got) h stands in
-      Contains-filter_map (hearing_of t.config t.node t.actor) seen heard.element h
-      (let n = source_of (slice_get seen) got heard.element heard.stands in slice_stands seen n.element heard.element n.gives) heard.gives;
-}
 
 -- a post at its place stays there
 pub slice_longer : (old new : List Post) (k : ℕ) (post : Post) → IsPrefix old new → slice_get old k ≡ Some post → slice_get new k ≡ Some post

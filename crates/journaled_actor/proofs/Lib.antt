@@ -1,5 +1,3 @@
-pub mod SameRules
-pub mod Turns
 pub mod Lengths
 pub mod Posted
 pub mod Safe

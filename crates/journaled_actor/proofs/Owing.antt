@@ -10,22 +10,7 @@ use Rattle.hb_rules.specs.Terms.{Terms, AreVotes, AreProper, AreLawful, AreHeard
 use Rattle.hb_rules.proofs.Lists.{AllByRecursion-append}
 use Rattle.journaled_actor.specs.Kept.{Covers, IsAll, IsOpen}
 use Rattle.hb_rules.proofs.Firsts.{same_firsts, same_sym}
-use Rattle.journaled_actor.proofs.Turns.{castable_append, proper_append, proper_front, votes_longer}
-
--- with the votes that are owed they are votes that the actor may keep
-pub owed_votes : (t : Terms) (seen : List Post) (votes : List Vote) (heard : List Hearing) → AreLawful t → AreVotes t seen votes
-    → AreHeardSpelled t.config heard → AreAmong heard (heard_all t seen) → AreVotes t seen (votes ++ t.owed votes heard)
-owed_votes t seen votes heard lawful are spelled among = record {
-  castable = castable_append t (heard_all t seen) [] votes (t.owed votes heard) are.castable
-      (lawful.castable votes heard (heard_all t seen) spelled among are.castable);
-  proper = proper_append t [] votes (t.owed votes heard) are.proper (lawful.proper votes heard);
-  spelled = AllByRecursion-append (HasSpelling t.config) votes (t.owed votes heard) are.spelled (lawful.spelled votes heard spelled);
-  rest = inr (lawful.less (votes ++ t.owed votes heard) heard (lawful.rests votes heard));
-}
-
--- nothing was heard
-pub none_among : (t : Terms) (seen : List Post) → AreAmong [] (heard_all t seen)
-none_among t seen = record { each = λ h stands. absurd (omega (arith, stands.1)) }
+use Rattle.hb_rules.proofs.Turns.{castable_append, proper_append, proper_front, votes_longer}
 
 pub open_with : (t : Terms) (seen : List Post) (text : List ℕ) (stands : List Vote → List Hearing → Type 0) (votes : List Vote) (heard : List Hearing)
     → AreLawful t → IsAll t seen text (votes ++ t.owed votes heard) → stands (votes ++ t.owed votes heard) heard → IsOpen t seen text stands heard

@@ -16,7 +16,7 @@ use Rattle.hb_rules.specs.Same.{firsts}
 use Rattle.hb_rules.specs.Terms.{Terms, cast_in}
 use Rattle.hb_rules.proofs.Seats.{own_in-watched, not_by}
 use Rattle.journaled_actor.specs.Kept.{IsOf, Turn, Covers}
-use Rattle.journaled_actor.proofs.Turns.{turn_watched, turn_next, turn_covers, turn_done}
+use Rattle.hb_rules.proofs.Turns.{IsWritten, post_by, one_cast, turn_watched, turn_next, turn_covers, turn_done}
 
 -- ---- the seat is the one of the terms
 
@@ -50,18 +50,6 @@ posted_prefix c i x k post old new posted =
 
 pub watched_cast : (t : Terms) (old new : List Post) → Watched t.config t.node t.actor old new → cast_in t new ≡ cast_in t old
 watched_cast t old new watched = own_in-watched t.config t.node t.actor old new watched
-
--- a vote's bytes spell it
-abbrev pub IsWritten : Terms → Vote → Type 0
-IsWritten t vote = Spells t.config.n t.config.version (spelling vote) vote
-
-post_by : (t : Terms) (vote : Vote) → is_by t.node t.actor (post_of t.node t.actor vote) ≡ true
-post_by t vote = rw (eq-eqb t.node t.node refl, eq-eqb t.actor t.actor refl) refl
-
-one_cast : (t : Terms) (vote : Vote) → IsWritten t vote → cast_in t (post_of t.node t.actor vote ∷ []) ≡ vote ∷ []
-one_cast t vote written =
-    let is : spelled t.config (post_of t.node t.actor vote) ≡ Some vote = vote_again t.config.n t.config.version (spelling vote) vote written in
-    rw (eq-eqb t.node t.node refl, eq-eqb t.actor t.actor refl, is) refl
 
 pub posted_cast : (t : Terms) (k : ℕ) (vote : Vote) (old new : List Post) → IsWritten t vote
     → Posted t.config t.node t.actor (post_of t.node t.actor vote) k old new → cast_in t new ≡ cast_in t old ++ vote ∷ []

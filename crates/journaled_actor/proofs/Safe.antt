@@ -14,7 +14,7 @@ use Rattle.hb_rules.specs.Ledger.{IsPrefix}
 use Rattle.hb_rules.specs.Terms.{Terms, AreVotes, cast_in}
 use Rattle.journaled_actor.specs.Payload.{payload, vote_bytes}
 use Rattle.journaled_actor.specs.Kept.{Covers, IsCovered, IsSafe, IsAll}
-use Rattle.journaled_actor.proofs.Turns.{covers_watched}
+use Rattle.hb_rules.proofs.Turns.{covers_watched}
 
 pub payload_append : (votes more : List Vote) → payload (votes ++ more) ≡ payload votes ++ payload more
 payload_append votes more = flat_map-append vote_bytes votes more

@@ -10,7 +10,7 @@ use Rattle.hb_wire.specs.declared.post.Post.{Post}
 use Rattle.vote_journal.specs.Text.{IsSound, text_of}
 use Rattle.std.specs.Option.{option_to_list}
 use Rattle.hb_rules.specs.Hearing.{Hearing, hearing_of}
-use Rattle.hb_rules.specs.Ledger.{IsPrefix}
+pub use Rattle.hb_rules.specs.Keeping.{Covers, Turn}
 use Rattle.hb_rules.specs.Same.{firsts}
 use Rattle.hb_rules.specs.Terms.{Terms, AreVotes, AreLawful, cast_in}
 use Rattle.hb_rules.specs.Actor.{ActorView, IsFew, AreSeen, budget}
@@ -21,11 +21,6 @@ pub record IsOf (t : Terms) (config : Numbers) (node actor : ℕ) : Type 0 where
   pub config_is : config ≡ t.config
   pub node_is : node ≡ t.node
   pub actor_is : actor ≡ t.actor
-
--- votes that the actor may keep, and that begin with those that it has cast, each at its first place
-pub record Covers (t : Terms) (seen : List Post) (votes : List Vote) : Type 0 where
-  pub are : AreVotes t seen votes
-  pub posted : IsPrefix (firsts (cast_in t seen)) votes
 
 -- a sound image of a journal of such votes
 pub record IsCovered (t : Terms) (seen : List Post) (image : Image) : Type 0 where
@@ -43,11 +38,6 @@ pub record IsAll (t : Terms) (seen : List Post) (text : List ℕ) (votes : List 
   pub says : text ≡ payload votes
   pub are : AreVotes t seen votes
   pub complete : firsts (cast_in t seen) ≡ votes
-
--- Votes are being posted in their order: those that are done were cast, and nothing beyond them all was.
-pub record Turn (t : Terms) (seen : List Post) (done rest : List Vote) : Type 0 where
-  pub covers : Covers t seen (done ++ rest)
-  pub far : length done ≤ length (firsts (cast_in t seen))
 
 -- The actor works: each vote of its journal is cast, its core stands for these votes and for what was heard, and nothing
 -- is owed.

@@ -8,7 +8,7 @@ use Rattle.journaled_actor.specs.Payload.{payload, AreWritten}
 use Rattle.journaled_actor.proofs.Counts.{few_again}
 use Rattle.journaled_actor.proofs.Going.{is_still, seat_still, seat_then, disk_then, disk_done, disk_again, other_still}
 use Rattle.journaled_actor.proofs.Left.{safe_covered, few_more}
-use Rattle.journaled_actor.proofs.Turns.{turn_begins, votes_longer}
+use Rattle.hb_rules.proofs.Turns.{turn_begins, votes_longer}
 use Rattle.journaled_actor.proofs.beginning.take_up.Goals as goal
 
 pub read_back-requires : goal.read_back-requires

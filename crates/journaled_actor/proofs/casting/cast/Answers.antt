@@ -9,7 +9,7 @@ use Rattle.journaled_actor.specs.Payload.{payload, AreWritten}
 use Rattle.journaled_actor.proofs.Going.{seat_still, disk_still, disk_done}
 use Rattle.journaled_actor.proofs.Left.{always_ok, safe_covered, safe_all, spelled_due, cast_none, all_as_before, all_cast, nothing_in}
 use Rattle.journaled_actor.proofs.Safe.{safe_maybe, payload_append}
-use Rattle.journaled_actor.proofs.Turns.{turn_after}
+use Rattle.hb_rules.proofs.Turns.{turn_after}
 use Rattle.journaled_actor.proofs.casting.cast.Goals as goal
 
 pub returns-then-is_empty : goal.returns-then-is_empty

@@ -1,19 +1,23 @@
 -- Votes of a journal that are posted in turn.
-use Rattle.std.proofs.Common.{◌≡◌, ◌≤◌, false, inl, inr, List, [], ◌∷◌, ◌++◌, length, sym, ap, ◌∙◌, subst, arith, append-nil, append_assoc, length-append}
+use Rattle.std.proofs.Common.{◌≡◌, ◌≤◌, true, false, Some, inl, inr, List, [], ◌∷◌, ◌++◌, length, refl, sym, ap, ◌∙◌, subst, arith, append-nil, append_assoc, length-append}
 use Rattle.std.specs.List.{list_any}
+use Rattle.std.proofs.lemmas.Bool.{eq-eqb}
 use Rattle.std.proofs.lemmas.List.Elements.{filter_map-append}
 use Rattle.hb_wire.specs.declared.vote.Vote.{Vote}
 use Rattle.hb_wire.specs.declared.post.Post.{Post}
-use Rattle.hb_rules.specs.Hearing.{Hearing, hearing_of}
+use Rattle.hb_wire.specs.Votes.{Spells, spelling}
+use Rattle.hb_wire.proofs.VoteLemmas.{vote_again}
+use Rattle.hb_rules.specs.Book.{post_of}
+use Rattle.hb_rules.specs.Hearing.{Hearing, hearing_of, is_by, spelled}
 use Rattle.hb_rules.specs.History.{HasSpelling, IsAllowed}
 use Rattle.hb_rules.specs.Ledger.{IsPrefix}
 use Rattle.hb_rules.specs.Rules.{MayCast}
 use Rattle.hb_rules.specs.Same.{firsts, same_vote, with_vote}
-use Rattle.hb_rules.specs.Terms.{Terms, AreVotes, AreCastable, AreProper, AreAmong, cast_in, heard_all}
-use Rattle.hb_rules.proofs.Lists.{AllByRecursion-parts}
+use Rattle.hb_rules.specs.Terms.{Terms, AreVotes, AreCastable, AreProper, AreHeardSpelled, AreAmong, AreLawful, cast_in, heard_all}
+use Rattle.hb_rules.proofs.Lists.{AllByRecursion-append, AllByRecursion-parts}
 use Rattle.hb_rules.proofs.MoreHeard.{AreAmong-more, MayCast-among}
-use Rattle.journaled_actor.specs.Kept.{Covers, Turn}
-use Rattle.journaled_actor.proofs.SameRules.{cast_same, new_vote}
+use Rattle.hb_rules.specs.Keeping.{Covers, Turn}
+use Rattle.hb_rules.proofs.SameRules.{cast_same, new_vote}
 use Rattle.hb_rules.proofs.Firsts.{same_firsts, firsts_cast, firsts_more, with_known, with_new, front_cases, front_whole}
 
 -- ---- lists of votes, of which each may be cast after those before it
@@ -164,3 +168,32 @@ pub turn_covers : (t : Terms) (seen : List Post) (before done rest votes : List 
     → Covers t seen (before ++ votes)
 turn_covers t seen before done rest votes whole turn =
     subst (Covers t seen) (append_assoc before done rest ∙ ap (λ (xs : List Vote). before ++ xs) whole) turn.covers
+
+-- ---- what is owed, and what a post casts
+
+-- with the votes that are owed they are votes that the actor may keep
+pub owed_votes : (t : Terms) (seen : List Post) (votes : List Vote) (heard : List Hearing) → AreLawful t → AreVotes t seen votes
+    → AreHeardSpelled t.config heard → AreAmong heard (heard_all t seen) → AreVotes t seen (votes ++ t.owed votes heard)
+owed_votes t seen votes heard lawful are spelled among = record {
+  castable = castable_append t (heard_all t seen) [] votes (t.owed votes heard) are.castable
+      (lawful.castable votes heard (heard_all t seen) spelled among are.castable);
+  proper = proper_append t [] votes (t.owed votes heard) are.proper (lawful.proper votes heard);
+  spelled = AllByRecursion-append (HasSpelling t.config) votes (t.owed votes heard) are.spelled (lawful.spelled votes heard spelled);
+  rest = inr (lawful.less (votes ++ t.owed votes heard) heard (lawful.rests votes heard));
+}
+
+-- nothing was heard
+pub none_among : (t : Terms) (seen : List Post) → AreAmong [] (heard_all t seen)
+none_among t seen = record { each = λ h stands. absurd (omega (arith, stands.1)) }
+
+-- a vote's bytes spell it
+abbrev pub IsWritten : Terms → Vote → Type 0
+IsWritten t vote = Spells t.config.n t.config.version (spelling vote) vote
+
+pub post_by : (t : Terms) (vote : Vote) → is_by t.node t.actor (post_of t.node t.actor vote) ≡ true
+post_by t vote = rw (eq-eqb t.node t.node refl, eq-eqb t.actor t.actor refl) refl
+
+pub one_cast : (t : Terms) (vote : Vote) → IsWritten t vote → cast_in t (post_of t.node t.actor vote ∷ []) ≡ vote ∷ []
+one_cast t vote written =
+    let is : spelled t.config (post_of t.node t.actor vote) ≡ Some vote = vote_again t.config.n t.config.version (spelling vote) vote written in
+    rw (eq-eqb t.node t.node refl, eq-eqb t.actor t.actor refl, is) refl
