@@ -1,5 +1,5 @@
 -- What an actor heard of the posts that it received.
-use Rattle.std.proofs.Common.{◌≡◌, ℕ, ◌<◌, ◌==◌, nat_lt, ◌&&◌, if◌then◌else◌, zero, suc, Bool, true, false, inl, inr, List, [], ◌∷◌, ◌++◌, Contains, Option, None, Some, slice_get, refl, sym, ap, ◌∙◌, subst, arith}
+use Rattle.std.proofs.Common.{◌≡◌, ℕ, ◌<◌, ◌==◌, nat_lt, ◌&&◌, if◌then◌else◌, zero, suc, Bool, true, false, inl, inr, List, [], ◌∷◌, ◌++◌, Option, None, Some, slice_get, refl, sym, ap, ◌∙◌, subst, arith}
 use Rattle.std.specs.List.{filter_map, cons_option}
 use Rattle.std.specs.Option.{option_to_list}
 use Rattle.std.proofs.lemmas.Bool.{eqb-true, ltb-true, and_parts}
@@ -11,11 +11,10 @@ use Rattle.hb_wire.specs.declared.post.Post.{Post}
 use Rattle.hb_wire.proofs.VoteLemmas.{vote_takes}
 use Rattle.hb_rules.specs.Actor.{AreSeen, ReachesActor}
 use Rattle.hb_rules.specs.Hearing.{Hearing, hearing_of, heard_in, heeds, name_at}
-use Rattle.hb_rules.specs.History.{HasSpelling}
 use Rattle.hb_rules.specs.Ledger.{IsPrefix}
-use Rattle.hb_rules.specs.Terms.{Terms, AreHeardSpelled, AreAmong, heard_all, heard_got}
+use Rattle.hb_rules.specs.Terms.{Terms, heard_got}
 use Rattle.hb_rules.proofs.Cast.{heard_is}
-use Rattle.hb_rules.proofs.Lists.{source_of, Contains-filter_map, Contains-first, Contains-later}
+use Rattle.hb_rules.proofs.Lists.{Contains-first, Contains-later}
 use Rattle.journaled_actor.specs.Cores.{IsHearing}
 use Rattle.journaled_actor.specs.Kept.{heard_with}
 

@@ -28,9 +28,9 @@ use Rattle.journaled_actor.specs.Kept.{Covers, IsCovered, IsSafe, IsAll, IsOpen,
 use Rattle.journaled_actor.proofs.Crashes.{left_now}
 use Rattle.hb_rules.proofs.Received.{got_heard, heard_spelled}
 use Rattle.journaled_actor.proofs.Heard.{got_more, got_longer, seen_more, seen_longer, reaches_longer, slice_longer}
-use Rattle.journaled_actor.proofs.Owing.{open_with, all_watched}
-use Rattle.journaled_actor.proofs.Safe.{usable_says, safe_said, safe_left, safe_maybe, all_covers}
-use Rattle.hb_rules.proofs.Turns.{turn_begins, turn_after, votes_longer, owed_votes, none_among}
+use Rattle.journaled_actor.proofs.Owing.{open_with}
+use Rattle.journaled_actor.proofs.Safe.{usable_says, safe_said, safe_left, all_covers}
+use Rattle.hb_rules.proofs.Turns.{turn_after, votes_longer, owed_votes, none_among}
 
 -- ---- results
 

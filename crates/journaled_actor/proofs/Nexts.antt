@@ -13,7 +13,7 @@ use Rattle.hb_rules.specs.Terms.{Terms}
 use Rattle.journaled_actor.specs.Kept.{IsOf, Turn, CastSome}
 use Rattle.journaled_actor.specs.Payload.{AreWritten}
 use Rattle.journaled_actor.proofs.Payloads.{next_taken, next_left, holds_at}
-use Rattle.journaled_actor.proofs.Posted.{at_terms, from_terms, told_trans, told_watched, posting_next, posting_failed, posting_covers, posting_done, IsPosting, HasPosted}
+use Rattle.journaled_actor.proofs.Posted.{at_terms, from_terms, told_trans, told_watched, posting_next, posting_failed, IsPosting, HasPosted}
 use Rattle.hb_rules.proofs.Turns.{IsWritten, turn_spelled, turn_allows}
 
 module _ {t : Terms} {c : Numbers} {i x : ℕ} (is : IsOf t c i x) {old mid : List Post} {votes : List Vote} {k : ℕ} {vote : Vote} {before out : List ℕ}

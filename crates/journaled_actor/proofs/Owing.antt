@@ -1,16 +1,14 @@
 -- What an actor owes, by the votes of its journal.
-use Rattle.std.proofs.Common.{◌≡◌, ℕ, inr, List, [], ◌++◌, ap, ◌∙◌, subst, arith}
+use Rattle.std.proofs.Common.{◌≡◌, ℕ, List, [], ◌++◌, ap, ◌∙◌, subst}
 use Rattle.hb_wire.specs.declared.vote.Vote.{Vote}
 use Rattle.hb_wire.specs.declared.post.Post.{Post}
 use Rattle.hb_rules.specs.Hearing.{Hearing}
-use Rattle.hb_rules.specs.History.{HasSpelling}
 use Rattle.hb_rules.specs.Ledger.{IsPrefix}
 use Rattle.hb_rules.specs.Same.{firsts, AreSame}
-use Rattle.hb_rules.specs.Terms.{Terms, AreVotes, AreProper, AreLawful, AreHeardSpelled, AreAmong, cast_in, heard_all}
-use Rattle.hb_rules.proofs.Lists.{AllByRecursion-append}
+use Rattle.hb_rules.specs.Terms.{Terms, AreProper, AreLawful, cast_in}
 use Rattle.journaled_actor.specs.Kept.{Covers, IsAll, IsOpen}
 use Rattle.hb_rules.proofs.Firsts.{same_firsts, same_sym}
-use Rattle.hb_rules.proofs.Turns.{castable_append, proper_append, proper_front, votes_longer}
+use Rattle.hb_rules.proofs.Turns.{proper_front, votes_longer}
 
 pub open_with : (t : Terms) (seen : List Post) (text : List ℕ) (stands : List Vote → List Hearing → Type 0) (votes : List Vote) (heard : List Hearing)
     → AreLawful t → IsAll t seen text (votes ++ t.owed votes heard) → stands (votes ++ t.owed votes heard) heard → IsOpen t seen text stands heard

@@ -1,16 +1,13 @@
 -- What posts of an actor do to what it has cast, and the numbers that are told of them.
-use Rattle.std.proofs.Common.{◌≡◌, ℕ, ◌≤◌, ◌+◌, ◌⊎◌, inl, inr, Bool, true, false, List, [], ◌∷◌, ◌++◌, length, take, drop, Some, if◌then◌else◌, refl, sym, ap, ◌∙◌, subst, arith, append-nil, append_assoc, length-append}
-use Rattle.std.proofs.lemmas.Bool.{eq-eqb}
+use Rattle.std.proofs.Common.{◌≡◌, ℕ, ◌≤◌, ◌+◌, ◌⊎◌, inl, inr, Bool, true, false, List, [], ◌∷◌, ◌++◌, length, take, drop, if◌then◌else◌, refl, sym, ap, ◌∙◌, subst, arith, append-nil, append_assoc, length-append}
 use Rattle.std.proofs.lemmas.List.{take-append-drop, take_all, drop_all}
 use Rattle.std.proofs.lemmas.List.Elements.{filter_map-append}
 use Rattle.hb_base.specs.Numbers.{Numbers}
 use Rattle.hb_wire.specs.declared.vote.Vote.{Vote}
 use Rattle.hb_wire.specs.declared.post.Post.{Post}
-use Rattle.hb_wire.specs.Votes.{Spells, spelling}
-use Rattle.hb_wire.proofs.VoteLemmas.{vote_again}
 use Rattle.hb_rules.specs.Actor.{Told, numbers_from}
 use Rattle.hb_rules.specs.Book.{is_mine, mine_in, post_of, Watched, Posted}
-use Rattle.hb_rules.specs.Hearing.{is_by, vote_by, spelled}
+use Rattle.hb_rules.specs.Hearing.{is_by, vote_by}
 use Rattle.hb_rules.specs.Ledger.{IsPrefix}
 use Rattle.hb_rules.specs.Same.{firsts}
 use Rattle.hb_rules.specs.Terms.{Terms, cast_in}

@@ -1,6 +1,6 @@
 -- What an actor keeps in its journal: the votes that it may have posted, and maybe more. The letters: t are the actor's
 -- terms, seen is what its seat has seen.
-use Rattle.std.specs.Prelude.{◌≡◌, ℕ, ◌+◌, ◌≤◌, Bool, true, List, [], ◌++◌, length, take}
+use Rattle.std.specs.Prelude.{◌≡◌, ℕ, ◌+◌, ◌≤◌, Bool, true, List, [], ◌++◌, take}
 use Rattle.hb_base.specs.Numbers.{Numbers}
 use Rattle.hb_base.specs.Limits.{most_stops}
 use Rattle.disk_model.specs.Image.{Image}
