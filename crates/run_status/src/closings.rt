@@ -1,6 +1,6 @@
 //! Which desks have closed the last epoch.
 
-ghost use Rattle.std.specs.Prelude.{◌≡◌, ℕ, ◌-◌, ◌<◌, IfSome};
+ghost use Rattle.std.specs.Prelude.{◌≡◌, ◌-◌, ◌<◌, IfSome};
 ghost use Rattle.hb_base.specs.Limits.{most_nodes};
 ghost use Rattle.hb_rules.specs.Claims.{is_any_closing};
 ghost use Rattle.hb_rules.specs.Hearing.{spelled};

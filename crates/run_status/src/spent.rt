@@ -1,6 +1,6 @@
 //! Which lanes have spent their rounds: in some epoch they have picked in the last round, and decided nothing.
 
-ghost use Rattle.std.specs.Prelude.{◌≡◌, ℕ, ◌<◌, length, replicate, false, IfSome};
+ghost use Rattle.std.specs.Prelude.{◌≡◌, ◌<◌, length, replicate, false, IfSome};
 ghost use Rattle.hb_wire.specs.Views.{vote_of};
 ghost use Rattle.run_status.specs.Spent.{number_of, number_in, mark_of, entry, is_stuck_in, is_stuck_by, AreMarked, AreMarkedBy};
 

@@ -14,6 +14,7 @@ use std::test::Fail;
 // but for each word of the ends the actor of the node, or all for a star, ended so: M for want of memory, J for a failed journal,
 // F at a full book, R at work, or with no end for a dash. A post is a node, an actor, its kind, and digits: C closes an epoch, P
 // picks in an epoch and a round, D decides in an epoch, and X is the vote of C with one byte more, which spells nothing.
+#[derive(Clone, Copy)]
 struct Case {
     run: (u8, u8, u8),
     liars: &'static str,
@@ -22,98 +23,89 @@ struct Case {
     status: u8,
 }
 
-// Four nodes, of which node 3 lies, with two epochs of three rounds. Actor 4 of a node is its desk.
-const fn of_four(status: u8, ends: &'static str, history: &'static str) -> Case {
-    Case {
-        run: (4, 2, 3),
-        liars: "3",
-        ends,
-        history,
-        status,
-    }
-}
-
-const CASES: [Case; 40] = [
+// Statuses, ends and histories of runs of four nodes, of which node 3 lies, with two epochs of three rounds. Actor 4 of a node is
+// its desk.
+const CASES: [(u8, &str, &str); 40] = [
     // nothing was posted
-    of_four(4, "", ""),
+    (4, "", ""),
     // each closed the last epoch
-    of_four(0, "", "04C1 14C1 24C1"),
+    (0, "", "04C1 14C1 24C1"),
     // posted again, and with an earlier one
-    of_four(0, "", "04C0 14C1 04C1 24C1 04C1"),
+    (0, "", "04C0 14C1 04C1 24C1 04C1"),
     // one did not
-    of_four(4, "", "04C1 24C1"),
+    (4, "", "04C1 24C1"),
     // one closed only the epoch before
-    of_four(4, "", "04C1 14C1 24C0"),
+    (4, "", "04C1 14C1 24C0"),
     // one in bytes that spell no vote
-    of_four(4, "", "04C1 14C1 24X1"),
+    (4, "", "04C1 14C1 24X1"),
     // a lane closed for one
-    of_four(4, "", "04C1 14C1 23C1"),
+    (4, "", "04C1 14C1 23C1"),
     // the liar closed for one
-    of_four(4, "", "04C1 14C1 34C1"),
+    (4, "", "04C1 14C1 34C1"),
     // one that does not run did not
-    of_four(0, "20J", "04C1 14C1"),
+    (0, "20J", "04C1 14C1"),
     // one whose desk has no end did not
-    of_four(0, "24-", "04C1 14C1"),
+    (0, "24-", "04C1 14C1"),
     // none runs
-    of_four(4, "*0F", "04C1 14C1 24C1"),
+    (4, "*0F", "04C1 14C1 24C1"),
     // no end at all
-    of_four(4, "**-", "04C1 14C1 24C1"),
+    (4, "**-", "04C1 14C1 24C1"),
     // no end at all, and a lane that picked in the last round
-    of_four(4, "**-", "01P02"),
+    (4, "**-", "01P02"),
     // a lane found no memory
-    of_four(9, "01M", "04C1 14C1 24C1"),
+    (9, "01M", "04C1 14C1 24C1"),
     // a desk found none
-    of_four(9, "24M", "01P02"),
+    (9, "24M", "01P02"),
     // the liar found none
-    of_four(0, "30M", "04C1 14C1 24C1"),
+    (0, "30M", "04C1 14C1 24C1"),
     // the liar found none, and nothing was posted
-    of_four(4, "3*M", ""),
+    (4, "3*M", ""),
     // other ends than for want of memory
-    of_four(4, "0*J 1*F", ""),
+    (4, "0*J 1*F", ""),
     // a lane picked in the last round
-    of_four(5, "", "01P02"),
+    (5, "", "01P02"),
     // of the last epoch
-    of_four(5, "", "20P12"),
+    (5, "", "20P12"),
     // of an epoch that the run does not have
-    of_four(5, "", "01P92"),
+    (5, "", "01P92"),
     // in the round before
-    of_four(4, "", "01P01"),
+    (4, "", "01P01"),
     // in a round that the run does not have
-    of_four(4, "", "01P03"),
+    (4, "", "01P03"),
     // and decided
-    of_four(4, "", "01P02 01D0"),
+    (4, "", "01P02 01D0"),
     // having decided
-    of_four(4, "", "01D0 01P02"),
+    (4, "", "01D0 01P02"),
     // and decided in another epoch
-    of_four(5, "", "01P02 01D1"),
+    (5, "", "01P02 01D1"),
     // in two epochs, and decided in one
-    of_four(5, "", "01P02 01P12 01D0"),
+    (5, "", "01P02 01P12 01D0"),
     // another lane decided
-    of_four(5, "", "01P02 02D0"),
+    (5, "", "01P02 02D0"),
     // the lane of another node decided
-    of_four(5, "", "01P02 11D0"),
+    (5, "", "01P02 11D0"),
     // a desk picked
-    of_four(4, "", "04P02"),
+    (4, "", "04P02"),
     // an actor beyond the desk picked
-    of_four(4, "", "05P02"),
+    (4, "", "05P02"),
     // the liar picked
-    of_four(4, "", "31P02"),
+    (4, "", "31P02"),
     // and has an end
-    of_four(4, "3*R", "31P02"),
+    (4, "3*R", "31P02"),
     // a node picked that is not of the run
-    of_four(4, "", "41P02"),
+    (4, "", "41P02"),
     // the lane has ended
-    of_four(4, "01J", "01P02"),
+    (4, "01J", "01P02"),
     // at a full book
-    of_four(4, "01F", "01P02"),
+    (4, "01F", "01P02"),
     // or has no end
-    of_four(4, "01-", "01P02"),
+    (4, "01-", "01P02"),
     // another lane has ended
-    of_four(5, "00J", "01P02"),
+    (5, "00J", "01P02"),
     // all is closed besides
-    of_four(0, "", "01P02 04C1 14C1 24C1"),
+    (0, "", "01P02 04C1 14C1 24C1"),
     // all but one closed
-    of_four(5, "", "01P02 04C1 14C1"),
+    (5, "", "01P02 04C1 14C1"),
 ];
 
 // Runs of the fewest and of the most nodes.
@@ -333,8 +325,15 @@ fn report_of(alloc: Global, case: &Case) -> Result<Report, Fail> {
 
 #[test]
 fn statuses(rt: HostRuntime) -> Result<(), Fail> {
-    for case in &CASES {
-        let report = report_of(rt.alloc(), case)?;
+    for (wanted, ends, history) in CASES {
+        let case = Case {
+            run: (4, 2, 3),
+            liars: "3",
+            ends,
+            history,
+            status: wanted,
+        };
+        let report = report_of(rt.alloc(), &case)?;
         assert_eq!(rt;
             status(&report),
             case.status,
