@@ -9,13 +9,9 @@ use Rattle.std.proofs.lemmas.Bool.{or_right}
 use Rattle.std.proofs.lemmas.List.{get_or_push, get_or_append_left, get_or_past}
 use Rattle.hb_rules.specs.Claims.{is_bit, is_any_delivery}
 use Rattle.hb_rules.specs.Coins.{coin_in}
-use Rattle.hb_rules.specs.declared.agreement_slot.AgreementSlot.{AgreementSlot}
-use Rattle.hb_rules.specs.declared.agreement_slot.AgreementSlot.TheVariants.{Begin, Support, Accept, ConfirmOne, ConfirmBoth, PickOne, PickBoth, ShowShare, GoOn, Decide}
-use Rattle.hb_rules.specs.Agreement.{confirms}
-use Rattle.hb_rules.specs.AgreementRows.{view_of, choice_of, is_left_one, is_left_both}
-use Rattle.hb_rules.specs.Marks.{single, Mark, delivery, est, any_est, bval, any_aux, any_conf, pick, any_pick, any_coin, decision, any_decision, bears}
+use Rattle.hb_rules.specs.Marks.{Mark, delivery, est, any_est, bval, any_aux, any_conf, pick, any_pick, any_coin, decision, any_decision, bears}
 use Rattle.hb_rules.specs.Parts.{in_agreement, read_in_agreement}
-use Rattle.hb_rules.specs.Slots.{IsIdle, when}
+use Rattle.hb_rules.specs.Slots.{IsIdle}
 use Rattle.hb_rules.proofs.Lists.{any_within}
 use Rattle.hb_rules.proofs.Starting.{choice_none}
 use Rattle.aba_core.specs.declared.marks.Marks.{Marks}

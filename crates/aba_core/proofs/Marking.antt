@@ -53,52 +53,36 @@ here d e s r b epoch round = rw (eq-eqb d e epoch, eq-eqb s r round) refl
 here_any : (d e s r : ℕ) → d ≡ e → s ≡ r → ((d == e) && (s == r)) ≡ true
 here_any d e s r epoch round = rw (eq-eqb d e epoch, eq-eqb s r round) refl
 
+-- marks with the same picks
+same_picks : (m n : Marks) (t : ℕ) (set : Vals) → n.picks ≡ m.picks → n.pick_both ≡ m.pick_both → is_marked n (pick t set) ≡ is_marked m (pick t set)
+same_picks m n t Zero picks both = ap (λ (bits : Bits). bits.zero) picks
+same_picks m n t One picks both = ap (λ (bits : Bits). bits.one) picks
+same_picks m n t Both picks both = both
+
 pub marked : (e r : ℕ) (vote : Vote) (m : Marks) (mark : Mark) → IsOf e r vote → is_in_round mark ≡ true → mark_round mark ≡ r
     → is_marked (with_vote m vote) mark ≡ (bears e mark vote || is_marked m mark)
+marked e r vote m delivery is kind at = absurd (cc (kind))
+marked e r vote m (decision c) is kind at = absurd (cc (kind))
+marked e r vote m any_decision is kind at = absurd (cc (kind))
 marked e r (Est d s b) m (est t c) is kind at =
     holds-with m.ests b c ∙ ap (λ (x : Bool). x || holds m.ests c) (sym (here d e s t (same_bit b c) is.epoch (some_is s r is.round ∙ sym at)))
 marked e r (Est d s b) m (any_est t) is kind at =
     any-with m.ests b ∙ ap (λ (x : Bool). x || (m.ests.zero || m.ests.one)) (sym (here_any d e s t is.epoch (some_is s r is.round ∙ sym at)))
-marked e r (Est d s b) m delivery is kind at = absurd (cc (kind))
-marked e r (Est d s b) m (decision c) is kind at = absurd (cc (kind))
-marked e r (Est d s b) m any_decision is kind at = absurd (cc (kind))
-marked e r (Est d s b) m (pick t Zero) is kind at = refl
-marked e r (Est d s b) m (pick t One) is kind at = refl
-marked e r (Est d s b) m (pick t Both) is kind at = refl
+marked e r (Est d s b) m (pick t set) is kind at = same_picks m (with_vote m (Est d s b)) t set refl refl
 marked e r (Est d s b) m mark is kind at = refl
 marked e r (Bval d s b) m (bval t c) is kind at =
     holds-with m.bvals b c ∙ ap (λ (x : Bool). x || holds m.bvals c) (sym (here d e s t (same_bit b c) is.epoch (some_is s r is.round ∙ sym at)))
-marked e r (Bval d s b) m delivery is kind at = absurd (cc (kind))
-marked e r (Bval d s b) m (decision c) is kind at = absurd (cc (kind))
-marked e r (Bval d s b) m any_decision is kind at = absurd (cc (kind))
-marked e r (Bval d s b) m (pick t Zero) is kind at = refl
-marked e r (Bval d s b) m (pick t One) is kind at = refl
-marked e r (Bval d s b) m (pick t Both) is kind at = refl
+marked e r (Bval d s b) m (pick t set) is kind at = same_picks m (with_vote m (Bval d s b)) t set refl refl
 marked e r (Bval d s b) m mark is kind at = refl
 marked e r (Aux d s b) m (any_aux t) is kind at = ap (λ (x : Bool). x || m.aux) (sym (here_any d e s t is.epoch (some_is s r is.round ∙ sym at)))
-marked e r (Aux d s b) m delivery is kind at = absurd (cc (kind))
-marked e r (Aux d s b) m (decision c) is kind at = absurd (cc (kind))
-marked e r (Aux d s b) m any_decision is kind at = absurd (cc (kind))
-marked e r (Aux d s b) m (pick t Zero) is kind at = refl
-marked e r (Aux d s b) m (pick t One) is kind at = refl
-marked e r (Aux d s b) m (pick t Both) is kind at = refl
+marked e r (Aux d s b) m (pick t set) is kind at = same_picks m (with_vote m (Aux d s b)) t set refl refl
 marked e r (Aux d s b) m mark is kind at = refl
 marked e r (Conf d s vals) m (any_conf t) is kind at = ap (λ (x : Bool). x || m.conf) (sym (here_any d e s t is.epoch (some_is s r is.round ∙ sym at)))
-marked e r (Conf d s vals) m delivery is kind at = absurd (cc (kind))
-marked e r (Conf d s vals) m (decision c) is kind at = absurd (cc (kind))
-marked e r (Conf d s vals) m any_decision is kind at = absurd (cc (kind))
-marked e r (Conf d s vals) m (pick t Zero) is kind at = refl
-marked e r (Conf d s vals) m (pick t One) is kind at = refl
-marked e r (Conf d s vals) m (pick t Both) is kind at = refl
+marked e r (Conf d s vals) m (pick t set) is kind at = same_picks m (with_vote m (Conf d s vals)) t set refl refl
 marked e r (Conf d s vals) m mark is kind at = refl
 marked e r (Coin d s share salt branch) m (any_coin t) is kind at =
     ap (λ (x : Bool). x || m.coin) (sym (here_any d e s t is.epoch (some_is s r is.round ∙ sym at)))
-marked e r (Coin d s share salt branch) m delivery is kind at = absurd (cc (kind))
-marked e r (Coin d s share salt branch) m (decision c) is kind at = absurd (cc (kind))
-marked e r (Coin d s share salt branch) m any_decision is kind at = absurd (cc (kind))
-marked e r (Coin d s share salt branch) m (pick t Zero) is kind at = refl
-marked e r (Coin d s share salt branch) m (pick t One) is kind at = refl
-marked e r (Coin d s share salt branch) m (pick t Both) is kind at = refl
+marked e r (Coin d s share salt branch) m (pick t set) is kind at = same_picks m (with_vote m (Coin d s share salt branch)) t set refl refl
 marked e r (Coin d s share salt branch) m mark is kind at = refl
 marked e r (Pick d s vals) m mark is kind at = picked vals mark is kind at
   where
@@ -271,6 +255,13 @@ Casts-decided a bit = record { place = refl; marks = λ mark below. by mark; rou
     by delivery = refl
     by mark = refl
 
+-- a mark of a round is that of the round's own marks
+at_round : (a : AbaView) (mark : Mark) → is_in_round mark ≡ true → mark_at a mark ≡ is_marked (round_in a (mark_round mark)).marks mark
+at_round a delivery kind = absurd (cc (kind))
+at_round a (decision b) kind = absurd (cc (kind))
+at_round a any_decision kind = absurd (cc (kind))
+at_round a mark kind = refl
+
 -- a vote of a round is marked there
 pub Casts-round : (a : AbaView) (vote : Vote) (r top : ℕ) → IsOf a.epoch r vote → IsOfRound vote → r < a.config.rounds → length a.rounds ≡ a.config.rounds
     → Casts a (record a { rounds = slice_set a.rounds r (record (round_in a r) { marks = with_vote (round_in a r).marks vote }); top = top }) vote
@@ -290,18 +281,6 @@ Casts-round a vote r top is kind inside count = record {
     here_is : round_in new r ≡ x
     here_is = round-same a.rounds r x (omega (arith, inside, count))
 
-    at_round : (mark : Mark) → is_in_round mark ≡ true → mark_at new mark ≡ is_marked (round_in new (mark_round mark)).marks mark
-    at_round delivery kind = absurd (cc (kind))
-    at_round (decision b) kind = absurd (cc (kind))
-    at_round any_decision kind = absurd (cc (kind))
-    at_round mark kind = refl
-
-    at_old : (mark : Mark) → is_in_round mark ≡ true → mark_at a mark ≡ is_marked (round_in a (mark_round mark)).marks mark
-    at_old delivery kind = absurd (cc (kind))
-    at_old (decision b) kind = absurd (cc (kind))
-    at_old any_decision kind = absurd (cc (kind))
-    at_old mark kind = refl
-
     outside_same : (mark : Mark) → is_in_round mark ≡ false → mark_at new mark ≡ mark_at a mark
     outside_same delivery kind = refl
     outside_same (decision b) kind = refl
@@ -313,12 +292,12 @@ Casts-round a vote r top is kind inside count = record {
         outside_same mark outside ∙ ap (λ (b : Bool). b || mark_at a mark) (sym (bears_apart a.epoch mark vote kind outside))
     by mark true in_round = elim (cases_eq (mark_round mark) r) [
       | inl same ↦
-          at_round mark in_round ∙ ap (λ (s : ℕ). is_marked (round_in new s).marks mark) same ∙ ap (λ (y : Round). is_marked y.marks mark) here_is
+          at_round new mark in_round ∙ ap (λ (s : ℕ). is_marked (round_in new s).marks mark) same ∙ ap (λ (y : Round). is_marked y.marks mark) here_is
           ∙ marked a.epoch r vote (round_in a r).marks mark is in_round same
           ∙ ap (λ (b : Bool). bears a.epoch mark vote || b)
-          (ap (λ (s : ℕ). is_marked (round_in a s).marks mark) (sym same) ∙ sym (at_old mark in_round))
+          (ap (λ (s : ℕ). is_marked (round_in a s).marks mark) (sym same) ∙ sym (at_round a mark in_round))
       | inr apart ↦
-          at_round mark in_round ∙ ap (λ (y : Round). is_marked y.marks mark) (round-other a.rounds r (mark_round mark) x apart) ∙ sym (at_old mark in_round)
+          at_round new mark in_round ∙ ap (λ (y : Round). is_marked y.marks mark) (round-other a.rounds r (mark_round mark) x apart) ∙ sym (at_round a mark in_round)
           ∙ ap (λ (b : Bool). b || mark_at a mark) (sym (bears_round a.epoch r mark vote is.round in_round apart))
     ]
 

@@ -1,5 +1,5 @@
 ghost use Rattle.std.specs.Prelude.{◌≡◌, ◌+◌, ◌<◌, ◌&&◌, nat_le, None, if◌then◌else◌};
-ghost use Rattle.hb_wire.specs.declared.vote.Vote.TheVariants.{Est, Aux, Decided};
+ghost use Rattle.hb_wire.specs.declared.vote.Vote.TheVariants.{Est, Aux, Conf, Pick, Decided};
 ghost use Rattle.hb_rules.specs.declared.agreement_slot.AgreementSlot.TheVariants.{Begin, Support, Accept, ConfirmOne, ConfirmBoth, PickOne, PickBoth, ShowShare, GoOn, Decide};
 ghost use Rattle.std.specs.List.{list_any};
 ghost use Rattle.std.specs.Option.{option_map};
@@ -180,15 +180,7 @@ impl Aba {
         requires { round < self.now.config.rounds }
         ensures { result ≡ choice_at self.now (ConfirmOne round bit) }
     {
-        if self.is_gathered_one(round, bit) {
-            Some(Vote::Conf {
-                epoch: self.epoch,
-                round,
-                vals: single(bit),
-            })
-        } else {
-            None
-        }
+        self.conf_if(self.is_gathered_one(round, bit), round, single(bit))
     }
 
     #[tactic(auto, unfolding(hb_rules::specs::AgreementRows::choice_of))]
@@ -196,15 +188,7 @@ impl Aba {
         requires { round < self.now.config.rounds }
         ensures { result ≡ choice_at self.now (ConfirmBoth round) }
     {
-        if self.is_gathered_both(round) {
-            Some(Vote::Conf {
-                epoch: self.epoch,
-                round,
-                vals: Vals::Both,
-            })
-        } else {
-            None
-        }
+        self.conf_if(self.is_gathered_both(round), round, Vals::Both)
     }
 
     #[tactic(auto, unfolding(hb_rules::specs::AgreementRows::choice_of))]
@@ -217,15 +201,7 @@ impl Aba {
         } else {
             self.is_gathered_one(round, bit)
         };
-        if is_left {
-            Some(Vote::Pick {
-                epoch: self.epoch,
-                round,
-                vals: single(bit),
-            })
-        } else {
-            None
-        }
+        self.pick_if(is_left, round, single(bit))
     }
 
     #[tactic(auto, unfolding(hb_rules::specs::AgreementRows::choice_of))]
@@ -238,11 +214,31 @@ impl Aba {
         } else {
             self.is_gathered_both(round)
         };
-        if are_left {
+        self.pick_if(are_left, round, Vals::Both)
+    }
+
+    fn conf_if(&self, is_due: bool, round: u8, vals: Vals) -> Option<Vote>
+        ensures { result ≡ when is_due (Conf self.now.epoch round vals) }
+    {
+        if is_due {
+            Some(Vote::Conf {
+                epoch: self.epoch,
+                round,
+                vals,
+            })
+        } else {
+            None
+        }
+    }
+
+    fn pick_if(&self, is_due: bool, round: u8, vals: Vals) -> Option<Vote>
+        ensures { result ≡ when is_due (Pick self.now.epoch round vals) }
+    {
+        if is_due {
             Some(Vote::Pick {
                 epoch: self.epoch,
                 round,
-                vals: Vals::Both,
+                vals,
             })
         } else {
             None
