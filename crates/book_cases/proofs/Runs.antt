@@ -2,11 +2,9 @@
 use Rattle.std.proofs.Common.{◌≡◌, ℕ, [], ◌∷◌, inr, refl, sym, subst, arith}
 use Rattle.atomic_table.specs.Seated.{TableId}
 use Rattle.hb_base.specs.Numbers.{Numbers}
-use Rattle.hb_base.specs.Limits.{latest_version}
 use Rattle.hb_wire.specs.declared.vote.Vote.{Vote}
 use Rattle.hb_wire.specs.Votes.{Spells, spelling}
 use Rattle.hb_wire.proofs.FieldLemmas.{bytes_passed}
-use Rattle.hb_rules.specs.Book.{SeatView}
 use Rattle.hb_rules.specs.History.{IsAllowed}
 use Rattle.post_book.specs.SharedSeats.{SharedView}
 use Rattle.book_cases.specs.Run.{IsRun, empty_proposal}

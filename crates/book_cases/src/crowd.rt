@@ -273,12 +273,8 @@ fn closed<J: Naming>(
     }
 }
 
-// The seat of the desk of node 0, 1, 2 or 3, where nothing was posted.
-pub(crate) fn desk_seat<J: Naming>(
-    book: &PostBook<J>,
-    first: &mut FirstSeat<J>,
-    node: u8,
-) -> SharedSeat<J>
+/// The seat of the desk of node 0, 1, 2 or 3, where nothing was posted.
+pub fn desk_seat<J: Naming>(book: &PostBook<J>, first: &mut FirstSeat<J>, node: u8) -> SharedSeat<J>
     requires book { first.old.book ≡ book.now }
     requires run { IsRun J.config }
     requires none { first.old.seen ≡ [] }

@@ -6,7 +6,8 @@ use hb_base::{Bytes, Config, NodeSet};
 use hb_wire::{Post, To, Vote};
 use std::alloc::{AllocError, Global};
 
-pub(crate) fn five_nodes() -> Option<Config>
+/// The config of that run.
+pub fn five_nodes() -> Option<Config>
     ensures { IfSome result (λ c. IsRun c) }
 {
     let mut liars = NodeSet::new();
@@ -14,8 +15,8 @@ pub(crate) fn five_nodes() -> Option<Config>
     Config::new(5, 1, 2, 2, 1, 7, 1, liars)
 }
 
-// The proposal of an empty batch.
-pub(crate) fn proposal(alloc: Global) -> Result<Vote, AllocError>
+/// The proposal of an empty batch.
+pub fn proposal(alloc: Global) -> Result<Vote, AllocError>
     ensures { IfOk result (λ vote. vote ≡ empty_proposal) }
 {
     let value = Bytes::copy(alloc, &[0, 0])?;

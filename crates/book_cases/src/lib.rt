@@ -4,13 +4,15 @@
 //! `pair` is a caller that any user might write, and what is proved of it holds for every schedule.
 #![tactic(auto)]
 
-#[cfg(test)]
 mod alone;
-#[cfg(test)]
 mod crowd;
-#[cfg(test)]
 mod expected;
 mod pair;
 mod seating;
 #[cfg(test)]
 mod tests;
+
+pub use crowd::desk_seat;
+pub use expected::{five_nodes, proposal};
+pub use pair::post_once;
+pub use seating::{close_all, take_in};

@@ -41,8 +41,8 @@ pub(crate) struct Pair {
     pub look: Look,
 }
 
-// Posts a vote.
-pub(crate) fn post_once<'a, J: Naming, R: Wait>(
+/// Posts a vote.
+pub fn post_once<'a, J: Naming, R: Wait>(
     rt: &'a R,
     book: &'a PostBook<J>,
     seat: &mut SharedSeat<J>,
@@ -94,11 +94,13 @@ fn look_by<'a, J: Naming, R: Wait>(
     requires { seat.old.book ≡ book.now }
     ensures same { IsSame seat.old seat.new }
     ensures watched { Watched seat.old.seat.config seat.old.seat.node seat.old.seat.actor seat.old.seat.seen seat.new.seat.seen }
+    ensures legal { IsLegal seat.new.seat.config seat.new.seat.seen }
 {
     let mut shared = SharedBook::at(rt, book);
     let at_0 = shared.read(seat, 0);
     let at_2 = shared.read(seat, 2);
     let count = shared.posts(seat);
+    seat.seen_is_legal();
     Look { at_0, at_2, count }
 }
 

@@ -10,8 +10,8 @@ ghost use Rattle.book_cases.specs.Seating.{AreOut};
 use hb_wire::Post;
 use post_book::{FirstSeat, Naming, PostBook, SharedSeat};
 
-// Takes in a seat that was out.
-pub(crate) fn take_in<J: Naming>(book: &PostBook<J>, first: &mut FirstSeat<J>, seat: SharedSeat<J>)
+/// Takes in a seat that was out.
+pub fn take_in<J: Naming>(book: &PostBook<J>, first: &mut FirstSeat<J>, seat: SharedSeat<J>)
     requires book { (first.old.book ≡ book.now) × (seat.book ≡ book.now) }
     ensures joined { first.new ≡ record first.old {
       seen = first.new.seen;
@@ -24,8 +24,8 @@ pub(crate) fn take_in<J: Naming>(book: &PostBook<J>, first: &mut FirstSeat<J>, s
     book.join(first, seat);
 }
 
-// Closes a book of which no seat is out.
-pub(crate) fn close_all<J: Naming>(book: PostBook<J>, first: FirstSeat<J>) -> Vec<Post>
+/// Closes a book of which no seat is out.
+pub fn close_all<J: Naming>(book: PostBook<J>, first: FirstSeat<J>) -> Vec<Post>
     requires book { first.book ≡ book }
     requires none { AreOut first [] }
     ensures legal { IsLegal J.config result.items }

@@ -1,6 +1,5 @@
 use Rattle.std.proofs.Common.{List, ap, ◌∙◌}
 use Rattle.hb_wire.specs.declared.post.Post.{Post}
-use Rattle.post_book.specs.SharedSeats.{SharedView}
 use Rattle.book_cases.proofs.Runs.{may_post}
 use Rattle.book_cases.proofs.crowd.desk_seat.Goals as goal
 
