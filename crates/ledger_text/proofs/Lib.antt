@@ -1,4 +1,6 @@
 pub mod Among
 pub mod Batches
+pub mod Chains
 pub mod Order
 pub mod Questions
+pub mod Remembered

@@ -3,6 +3,7 @@ use Rattle.std.proofs.Common.{◌≡◌, ℕ, suc, ◌+◌, ◌<◌, List, [], �
 use Rattle.std.specs.List.{flat_map, range_with_len}
 use Rattle.std.proofs.KnownBytes.{Appends-nil}
 use Rattle.std.proofs.Math.Seq.{take-length}
+use Rattle.std.proofs.lemmas.Grind.{flat_map-append}
 use Rattle.std.proofs.lemmas.List.{take-append-drop, take_more, length-take-le}
 use Rattle.std.proofs.lemmas.List.FromFn.{length-range_with_len, get_or-range_with_len}
 use Rattle.hb_base.specs.Outside.{HasCause, Puts}
@@ -41,6 +42,11 @@ pub writes_stop : {T U V E F : Type 0} {h h1 h2 : Option (List ℕ)} {c c1 c2 : 
     → whole ≡ front ++ (piece ++ rest)
     → Writes {E = F} h h1 c c1 (Ok x) front → Writes {T = U} h1 h2 c1 c2 (Err e) piece → Writes {T = V} h h2 c c2 (Err d) whole
 writes_stop rest is first second = rw is (writes_then first (writes_front rest second))
+
+-- a list in front of an element, at it and behind it
+parted : {X : Type 0} (xs : List X) (k : ℕ) (x d : X) → k < length xs → x ≡ get_or xs k d → xs ≡ take k xs ++ x ∷ drop (k + 1) xs
+parted xs k x d below is =
+    sym (take-append-drop k xs) ∙ ap (λ rest. take k xs ++ rest) (rw (add-one) (drop-cons xs k d below) ∙ ap (λ y. y ∷ drop (k + 1) xs) (sym is))
 
 -- ---- texts in order
 
@@ -82,34 +88,24 @@ pub order_split : {X : Type 0} (text : ℕ → List (List ℕ) → X → List �
     ++ (text k (before ++ flat_map transactions (take k xs)) x
     ++ in_order text transactions (k + 1) ((before ++ flat_map transactions (take k xs)) ++ transactions x) (drop (k + 1) xs))
 order_split text transactions before xs k x d below is =
-    let parts : xs ≡ take k xs ++ x ∷ drop (k + 1) xs =
-    sym (take-append-drop k xs) ∙ ap (λ rest. take k xs ++ rest) (rw (add-one) (drop-cons xs k d below) ∙ ap (λ y. y ∷ drop (k + 1) xs) (sym is)) in
+    let parts : xs ≡ take k xs ++ x ∷ drop (k + 1) xs = parted xs k x d below is in
     let many : 0 + length (take k xs) ≡ k = omega (arith, length-take-le k xs (omega (arith, below))) in
     let front : List ℕ = in_order text transactions 0 before (take k xs) in
     let until : List (List ℕ) = before ++ flat_map transactions (take k xs) in
     ap (in_order text transactions 0 before) parts ∙ order_append text transactions 0 before (take k xs) (x ∷ drop (k + 1) xs)
     ∙ ap (λ (n : ℕ). front ++ (text n until x ++ in_order text transactions (n + 1) (until ++ transactions x) (drop (k + 1) xs))) many
 
--- ---- texts that need not know what stands before them
+-- ---- things that need not know what stands before them
 
-each_order : {X : Type 0} (f : X → List ℕ) (number : ℕ) (before : List (List ℕ)) (xs : List X)
-    → flat_map f xs ≡ in_order (λ n b. f) (λ x. []) number before xs
-each_order f number before [] = refl
-each_order f number before (x ∷ xs) = ap (λ (bytes : List ℕ). f x ++ bytes) (each_order f (number + 1) (before ++ []) xs)
-
-pub each_step : {X : Type 0} (f : X → List ℕ) (xs : List X) (k : ℕ) (x d : X) → k < length xs → x ≡ get_or xs k d
+pub each_step : {X A : Type 0} (f : X → List A) (xs : List X) (k : ℕ) (x d : X) → k < length xs → x ≡ get_or xs k d
     → flat_map f (take (k + 1) xs) ≡ flat_map f (take k xs) ++ f x
 each_step f xs k x d below is =
-    each_order f 0 [] (take (k + 1) xs) ∙ order_step (λ n b. f) (λ x. []) [] xs k x d below is
-    ∙ ap (λ (bytes : List ℕ). bytes ++ f x) (sym (each_order f 0 [] (take k xs)))
+    ap (flat_map f) (take_more xs k d below ∙ ap (λ y. take k xs ++ y ∷ []) (sym is)) ∙ flat_map-append f (take k xs) (x ∷ [])
+    ∙ ap (λ rest. flat_map f (take k xs) ++ rest) (append-nil (f x))
 
-pub each_split : {X : Type 0} (f : X → List ℕ) (xs : List X) (k : ℕ) (x d : X) → k < length xs → x ≡ get_or xs k d
+pub each_split : {X A : Type 0} (f : X → List A) (xs : List X) (k : ℕ) (x d : X) → k < length xs → x ≡ get_or xs k d
     → flat_map f xs ≡ flat_map f (take k xs) ++ (f x ++ flat_map f (drop (k + 1) xs))
-each_split f xs k x d below is =
-    each_order f 0 [] xs ∙ order_split (λ n b. f) (λ x. []) [] xs k x d below is
-    ∙ ap (λ (bytes : List ℕ). bytes ++ (f x ++ in_order (λ n b. f) (λ y. []) (k + 1) (([] ++ flat_map (λ y. []) (take k xs)) ++ []) (drop (k + 1) xs)))
-    (sym (each_order f 0 [] (take k xs)))
-    ∙ ap (λ (bytes : List ℕ). flat_map f (take k xs) ++ (f x ++ bytes)) (sym (each_order f (k + 1) (([] ++ flat_map (λ y. []) (take k xs)) ++ []) (drop (k + 1) xs)))
+each_split f xs k x d below is = ap (flat_map f) (parted xs k x d below is) ∙ flat_map-append f (take k xs) (x ∷ drop (k + 1) xs)
 
 -- the numbers below n are where they say
 pub range_at : (n i : ℕ) → i < n → i ≡ get_or (range_with_len 0 n) i i

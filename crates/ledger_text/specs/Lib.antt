@@ -1,3 +1,5 @@
+pub mod Chains
 pub mod Lines
 pub mod Places
+pub mod Seen
 pub mod Text

@@ -1,49 +1,56 @@
 //! The ledger of a node, as it is printed.
 
-ghost use Rattle.std.specs.Prelude.{◌≡◌, ℕ, ◌<◌, ◌≤◌, ◌++◌, length, take, slice_index_or, []};
+ghost use Rattle.std.specs.Prelude.{◌≡◌, ◌<◌, ◌∷◌, ◌++◌, length, take, slice_index_or, [], OnOk};
 ghost use Rattle.hb_wire.specs.Batches.{batch_of, IsBatch};
 ghost use Rattle.hb_wire.specs.Lists.{listed};
+ghost use Rattle.hb_rules.specs.Pool.{transactions_in};
 ghost use Rattle.script_fault.specs.Line.{Writes};
 ghost use Rattle.acs_world.specs.Closures.{closure_of, closures, IsClosureAt};
 ghost use Rattle.ledger_text.specs.Places.{in_lists, before_batch, IsSpot};
+ghost use Rattle.ledger_text.specs.Seen.{Remembers};
 ghost use Rattle.ledger_text.specs.Text.{in_order, alone, tx_text, batch_text, item_text, transactions_of, list_text, ledger_text};
 
 use crate::lines::{put_batch, put_epoch, put_tx};
-use crate::search::{Spot, stands_before};
+use crate::search::{Spot, is_known};
+use crate::seen::Seen;
 use acs_world::{Closing, LedgerFinder, count_of};
 use hb_base::{Failed, Sink};
 use hb_wire::{batch_at, batch_len, item};
 
 /// Prints the ledger of a node: each list with its epoch, each batch of it, and each transaction where it stands for the first
 /// time.
-pub(crate) fn put_ledger<O: Sink>(
-    ledgers: &LedgerFinder,
+pub(crate) fn put_ledger<'a, O: Sink>(
+    ledgers: &LedgerFinder<'a>,
     node: u8,
     out: &mut O,
 ) -> Result<(), Failed>
     ensures { Writes (O.held out.old) (O.held out.new) (O.faults out.old) (O.faults out.new) result
         (ledger_text ledgers.now.config ledgers.now.posts node) }
 {
+    let mut seen: Seen<'a> = Seen::new();
     for place in 0..ledgers.count(node) {
         let Some(closing) = ledgers.at(node, place) else {
             return Ok(());
         };
-        put_list(ledgers, node, place, closing, out)?;
+        put_list(ledgers, &mut seen, node, place, closing, out)?;
     }
     Ok(())
 }
 
 // Prints the list at a place.
 #[tactic(auto, using(script_fault::proofs::Writing::writes_then, script_fault::proofs::Writing::writes_front), unfolding(crate::specs::Text::list_text))]
-fn put_list<O: Sink>(
-    ledgers: &LedgerFinder,
+fn put_list<'a, O: Sink>(
+    ledgers: &LedgerFinder<'a>,
+    seen: &mut Seen<'a>,
     node: u8,
     place: usize,
-    closing: Closing,
+    closing: Closing<'a>,
     out: &mut O,
 ) -> Result<(), Failed>
-    requires { IsClosureAt (closures ledgers.now.config ledgers.now.posts node) place closing.epoch closing.rest.now }
-    ensures { Writes (O.held out.old) (O.held out.new) (O.faults out.old) (O.faults out.new) result
+    requires list { IsClosureAt (closures ledgers.now.config ledgers.now.posts node) place closing.epoch closing.rest.now }
+    requires seen { Remembers seen.old (in_lists ledgers.now node place) }
+    ensures seen { OnOk result (Remembers seen.new (in_lists ledgers.now node place ++ transactions_in (listed closing.entry.rest.now))) }
+    ensures text { Writes (O.held out.old) (O.held out.new) (O.faults out.old) (O.faults out.new) result
         (list_text place (in_lists ledgers.now node place) (closure_of closing.entry.epoch (listed closing.entry.rest.now))) }
 {
     put_epoch(closing.epoch, count_of(closing.rest), out)?;
@@ -53,73 +60,92 @@ fn put_list<O: Sink>(
         rest: closing.rest,
         index: 0,
     };
-    put_batches(ledgers, spot, out)
+    put_batches(ledgers, seen, spot, out)
 }
 
 // Prints the batches of the list of a spot.
-fn put_batches<O: Sink>(ledgers: &LedgerFinder, spot: Spot, out: &mut O) -> Result<(), Failed>
-    requires { IsSpot ledgers.now spot }
-    ensures { Writes (O.held out.old) (O.held out.new) (O.faults out.old) (O.faults out.new) result
+fn put_batches<'a, O: Sink>(
+    ledgers: &LedgerFinder<'a>,
+    seen: &mut Seen<'a>,
+    spot: Spot<'a>,
+    out: &mut O,
+) -> Result<(), Failed>
+    requires spot { IsSpot ledgers.now spot }
+    requires seen { Remembers seen.old (in_lists ledgers.now spot.node spot.place) }
+    ensures seen { OnOk result
+        (Remembers seen.new (in_lists ledgers.now spot.entry.node spot.entry.place ++ transactions_in (listed spot.entry.rest.now))) }
+    ensures text { Writes (O.held out.old) (O.held out.new) (O.faults out.old) (O.faults out.new) result
         (in_order item_text transactions_of 0 (in_lists ledgers.now spot.entry.node spot.entry.place) (listed spot.entry.rest.now)) }
 {
     for index in 0..count_of(spot.rest) {
         let (_, value) = item(spot.rest, index);
         let batch = Spot { index, ..spot };
-        put_value(ledgers, batch, value, out)?;
+        put_value(ledgers, seen, batch, value, out)?;
     }
     Ok(())
 }
 
 // Prints the batch of a spot, by its bytes.
 #[tactic(auto, using(script_fault::proofs::Writing::writes_then, script_fault::proofs::Writing::writes_front), unfolding(crate::specs::Text::batch_text))]
-fn put_value<O: Sink>(
-    ledgers: &LedgerFinder,
-    spot: Spot,
-    value: &[u8],
+fn put_value<'a, O: Sink>(
+    ledgers: &LedgerFinder<'a>,
+    seen: &mut Seen<'a>,
+    spot: Spot<'a>,
+    value: &'a [u8],
     out: &mut O,
 ) -> Result<(), Failed>
-    requires { IsSpot ledgers.now spot }
-    ensures { Writes (O.held out.old) (O.held out.new) (O.faults out.old) (O.faults out.new) result
+    requires spot { IsSpot ledgers.now spot }
+    requires seen { Remembers seen.old (before_batch ledgers.now spot) }
+    ensures seen { OnOk result (Remembers seen.new (before_batch ledgers.now spot.entry ++ batch_of value.now)) }
+    ensures text { Writes (O.held out.old) (O.held out.new) (O.faults out.old) (O.faults out.new) result
         (batch_text spot.entry.index (before_batch ledgers.now spot.entry) value.now) }
 {
     put_batch(spot.index, batch_len(value), out)?;
-    put_transactions(ledgers, spot, value, out)
+    put_transactions(ledgers, seen, spot, value, out)
 }
 
 // Prints the transactions of a batch that are new in the ledger.
-fn put_transactions<O: Sink>(
-    ledgers: &LedgerFinder,
-    spot: Spot,
-    value: &[u8],
+fn put_transactions<'a, O: Sink>(
+    ledgers: &LedgerFinder<'a>,
+    seen: &mut Seen<'a>,
+    spot: Spot<'a>,
+    value: &'a [u8],
     out: &mut O,
 ) -> Result<(), Failed>
-    requires { IsSpot ledgers.now spot }
-    ensures { Writes (O.held out.old) (O.held out.new) (O.faults out.old) (O.faults out.new) result
+    requires spot { IsSpot ledgers.now spot }
+    requires seen { Remembers seen.old (before_batch ledgers.now spot) }
+    ensures seen { OnOk result (Remembers seen.new (before_batch ledgers.now spot.entry ++ batch_of value.now)) }
+    ensures text { Writes (O.held out.old) (O.held out.new) (O.faults out.old) (O.faults out.new) result
         (in_order tx_text alone 0 (before_batch ledgers.now spot.entry) (batch_of value.now)) }
 {
     for t in 0..batch_len(value) {
-        put_transaction(ledgers, spot, value, t, out)?;
+        put_transaction(ledgers, seen, spot, value, t, out)?;
     }
     Ok(())
 }
 
 // Prints a transaction of a batch, if it is new in the ledger.
-fn put_transaction<O: Sink>(
-    ledgers: &LedgerFinder,
-    spot: Spot,
-    value: &[u8],
+fn put_transaction<'a, O: Sink>(
+    ledgers: &LedgerFinder<'a>,
+    seen: &mut Seen<'a>,
+    spot: Spot<'a>,
+    value: &'a [u8],
     t: u8,
     out: &mut O,
 ) -> Result<(), Failed>
     requires spot { IsSpot ledgers.now spot }
     requires inside { t < length (batch_of value.now) }
     requires batch { IsBatch (batch_of value.now) }
-    ensures { Writes (O.held out.old) (O.held out.new) (O.faults out.old) (O.faults out.new) result
+    requires seen { Remembers seen.old (before_batch ledgers.now spot ++ take t (batch_of value.now)) }
+    ensures seen { OnOk result (Remembers seen.new
+        ((before_batch ledgers.now spot.entry ++ take t (batch_of value.now)) ++ slice_index_or (batch_of value.now) t [] ∷ [])) }
+    ensures text { Writes (O.held out.old) (O.held out.new) (O.faults out.old) (O.faults out.new) result
         (tx_text t (before_batch ledgers.now spot.entry ++ take t (batch_of value.now)) (slice_index_or (batch_of value.now) t [])) }
 {
     let tx = batch_at(value, t);
-    if stands_before(ledgers, spot, value, t, tx) {
+    if is_known(ledgers, seen, spot, value, t, tx) {
         return Ok(());
     }
+    seen.add(tx);
     put_tx(tx, out)
 }

@@ -6,6 +6,7 @@ mod ledger;
 mod lines;
 mod nodes;
 mod search;
+mod seen;
 mod text;
 
 pub use laws::soak_laws;

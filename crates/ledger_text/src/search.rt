@@ -1,13 +1,15 @@
 //! Whether a transaction stands before a place of a ledger.
 
-ghost use Rattle.std.specs.Prelude.{◌≡◌, ◌≤◌, ◌||◌, length, take};
+ghost use Rattle.std.specs.Prelude.{◌≡◌, ◌++◌, ◌≤◌, ◌||◌, length, take};
 ghost use Rattle.tx_pool.specs.Pool.{is_among};
 ghost use Rattle.hb_wire.specs.Batches.{batch_of};
 ghost use Rattle.hb_wire.specs.Glances.{IsClosedRest};
 ghost use Rattle.hb_wire.specs.Lists.{listed};
 ghost use Rattle.acs_world.specs.Closures.{closures};
-ghost use Rattle.ledger_text.specs.Places.{in_lists, in_batches, IsSpot};
+ghost use Rattle.ledger_text.specs.Places.{in_lists, in_batches, before_batch, IsSpot};
+ghost use Rattle.ledger_text.specs.Seen.{Remembers};
 
+use crate::seen::Seen;
 use acs_world::{LedgerFinder, count_of};
 use hb_wire::{batch_at, batch_len, item};
 
@@ -21,15 +23,33 @@ pub(crate) struct Spot<'a> {
     pub(crate) index: u8,
 }
 
-/// Whether a transaction stands in the ledger before the batch, or among the first transactions of the batch. It goes through
-/// all transactions before.
-pub(crate) fn stands_before(
-    ledgers: &LedgerFinder,
-    spot: Spot,
-    value: &[u8],
+/// Whether a transaction stands in the ledger before the batch, or among the first transactions of the batch. It is looked for
+/// among those that were seen, and where no more of them fit, it goes through all transactions before.
+pub(crate) fn is_known<'a>(
+    ledgers: &LedgerFinder<'a>,
+    seen: &Seen<'a>,
+    spot: Spot<'a>,
+    value: &'a [u8],
     t: u8,
     tx: &[u8],
 ) -> bool
+    requires spot { IsSpot ledgers.now spot }
+    requires inside { t ≤ length (batch_of value.now) }
+    requires seen { Remembers seen.now (before_batch ledgers.now spot ++ take t (batch_of value.now)) }
+    ensures { result ≡ is_among (before_batch ledgers.now spot.entry ++ take t (batch_of value.now)) tx.now }
+{
+    if seen.has(tx) {
+        return true;
+    }
+    if !seen.is_full() {
+        return false;
+    }
+    stands_before(ledgers, spot, value, t, tx)
+}
+
+// Whether a transaction stands in the ledger before the batch, or among the first transactions of the batch. It goes through
+// all transactions before.
+fn stands_before(ledgers: &LedgerFinder, spot: Spot, value: &[u8], t: u8, tx: &[u8]) -> bool
     requires spot { IsSpot ledgers.now spot }
     requires inside { t ≤ length (batch_of value.now) }
     ensures { result ≡ (is_among (in_lists ledgers.now spot.entry.node spot.entry.place) tx.now
