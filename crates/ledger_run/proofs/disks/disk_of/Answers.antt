@@ -1,0 +1,7 @@
+use Rattle.std.proofs.Common.{◌≡◌, ℕ, length, ap, arith}
+use Rattle.disk_model.specs.declared.plan.Stop.{Stop}
+use Rattle.ledger_run.proofs.Plans.{planned_count}
+use Rattle.ledger_run.proofs.disks.disk_of.Goals as goal
+
+pub new-requires : goal.new-requires
+new-requires c = omega (arith, ap length c.in_ok-plan.ensures.stops, planned_count c.args.script.now c.args.node c.args.actor, c.requires.few)

@@ -1,0 +1,4 @@
+pub mod Cores
+pub mod Actors
+pub mod Team
+pub mod Run

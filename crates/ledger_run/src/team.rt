@@ -1,0 +1,197 @@
+//! The places of a run: each actor of each correct node, and each node that lies.
+ghost use Rattle.std.specs.Prelude.{◌≡◌, ℕ, ◌+◌, ◌<◌, ◌≤◌, true, false, [], ◌∷◌, ◌++◌, map, IfOk, OnOk};
+ghost use Rattle.std.specs.Arc.{arc_value};
+ghost use Rattle.std.specs.List.{range_with_len};
+ghost use Rattle.hb_base.specs.Limits.{most_stops};
+ghost use Rattle.hb_base.specs.NodeSet.{is_in};
+ghost use Rattle.net_script.specs.Scenario.{told};
+ghost use Rattle.net_script.specs.Sound.{IsScenario};
+ghost use Rattle.net_script.specs.declared.script.Script.{Script};
+ghost use Rattle.step_driver.specs.Places.{spot_of, spots, name_of};
+ghost use Rattle.ledger_run.specs.Actors.{node_seat, node_view};
+ghost use Rattle.ledger_run.specs.Team.{IsReady, AreReady, correct_name, lying_name, names_at, names_below};
+
+use crate::disks::disk_of;
+use crate::node_core::NodeCore;
+use crate::submissions::submitted_at;
+use crate::voice::Voice;
+use coin_deal::{Deal, deal};
+use desk_core::DeskCore;
+use disk_model::MemoryDisk;
+use hb_rules::{Fate, PlainBook};
+use journaled_actor::JournaledActor;
+use lane_core::LaneCore;
+use net_script::Script;
+use std::alloc::{AllocError, Global};
+use std::sync::Arc;
+use step_driver::{Hired, Place, Player};
+
+/// An actor of a correct node, over its disk in memory.
+pub type NodeActor = JournaledActor<PlainBook, MemoryDisk, NodeCore>;
+
+// A place of a run.
+pub(crate) type RunPlace = Place<NodeActor, Voice>;
+
+// The places of all nodes, by node; at a correct node those of its lanes and then that of its desk. The voices are those of
+// the script's liars, in their order.
+pub(crate) fn places_of(
+    alloc: Global,
+    script: &Script,
+    voices: Vec<Voice>,
+    book: &mut PlainBook,
+) -> Result<Vec<RunPlace>, AllocError>
+    requires book { book.old ≡ record { config = script.now.config; posts = [] } }
+    requires scenario { IsScenario (told script.now) }
+    ensures book { book.new ≡ book.old }
+    ensures ready { IfOk result (λ places. AreReady script.now (names_below script.now.config script.now.config.n) (spots node_seat node_view places.items)) }
+{
+    let deal = Arc::new(alloc, deal(alloc, &script.config)?)?;
+    let mut voices = voices;
+    let mut places = Vec::new(alloc);
+    for node in 0..script.config.n() {
+        add_node(alloc, script, &deal, &mut voices, book, &mut places, node)?;
+    }
+    Ok(places)
+}
+
+// Adds the places of a node.
+fn add_node(
+    alloc: Global,
+    script: &Script,
+    deal: &Arc<Deal, Global>,
+    voices: &mut Vec<Voice>,
+    book: &mut PlainBook,
+    places: &mut Vec<RunPlace>,
+    node: u8,
+) -> Result<(), AllocError>
+    requires known { node < script.now.config.n }
+    requires deal { arc_value deal.now ≡ script.now.config }
+    requires book { book.old ≡ record { config = script.now.config; posts = [] } }
+    requires scenario { IsScenario (told script.now) }
+    requires ready { AreReady script.now (names_below script.now.config node) (spots node_seat node_view places.old.items) }
+    ensures book { book.new ≡ book.old }
+    ensures ready { OnOk result (AreReady script.now (names_below script.now.config (node + 1)) (spots node_seat node_view places.new.items)) }
+{
+    if script.config.liars().has(node) {
+        let place = lying_place(alloc, script, voices, book, node);
+        places.push(place)?;
+        return Ok(());
+    }
+    add_lanes(alloc, script, deal, book, places, node)?;
+    let place = desk_place(alloc, script, book, node)?;
+    places.push(place)?;
+    Ok(())
+}
+
+// Adds the places of the lanes of a correct node.
+fn add_lanes(
+    alloc: Global,
+    script: &Script,
+    deal: &Arc<Deal, Global>,
+    book: &mut PlainBook,
+    places: &mut Vec<RunPlace>,
+    node: u8,
+) -> Result<(), AllocError>
+    requires known { node < script.now.config.n }
+    requires honest { is_in script.now.config.liars node ≡ false }
+    requires deal { arc_value deal.now ≡ script.now.config }
+    requires book { book.old ≡ record { config = script.now.config; posts = [] } }
+    requires scenario { IsScenario (told script.now) }
+    requires ready { AreReady script.now (names_below script.now.config node) (spots node_seat node_view places.old.items) }
+    ensures book { book.new ≡ book.old }
+    ensures ready { OnOk result (AreReady script.now
+        (names_below script.now.config node ++ map (correct_name node) (range_with_len 0 script.now.config.n))
+        (spots node_seat node_view places.new.items)) }
+{
+    for lane in 0..script.config.n() {
+        let place = lane_place(alloc, script, deal, book, node, lane)?;
+        places.push(place)?;
+    }
+    Ok(())
+}
+
+// The place of a lane of a correct node.
+fn lane_place(
+    alloc: Global,
+    script: &Script,
+    deal: &Arc<Deal, Global>,
+    book: &mut PlainBook,
+    node: u8,
+    lane: u8,
+) -> Result<RunPlace, AllocError>
+    requires known { node < script.now.config.n }
+    requires lane { lane < script.now.config.n }
+    requires honest { is_in script.now.config.liars node ≡ false }
+    requires deal { arc_value deal.now ≡ script.now.config }
+    requires book { book.old ≡ record { config = script.now.config; posts = [] } }
+    requires scenario { IsScenario (told script.now) }
+    ensures book { book.new ≡ book.old }
+    ensures ready { IfOk result (λ place. IsReady script.now (spot_of node_seat node_view place)) }
+    ensures named { IfOk result (λ place. name_of (spot_of node_seat node_view place) ≡ correct_name node lane) }
+{
+    let disk = disk_of(alloc, script, node, lane)?;
+    let core = LaneCore::new(alloc, &script.config, node, lane, deal.clone()?);
+    let seat = book.seat(node, lane);
+    Ok(Place::Correct(Player {
+        actor: JournaledActor::new(alloc, NodeCore::Lane(core), disk, seat),
+        fate: Fate::Running,
+    }))
+}
+
+// The place of the desk of a correct node.
+fn desk_place(
+    alloc: Global,
+    script: &Script,
+    book: &mut PlainBook,
+    node: u8,
+) -> Result<RunPlace, AllocError>
+    requires known { node < script.now.config.n }
+    requires honest { is_in script.now.config.liars node ≡ false }
+    requires book { book.old ≡ record { config = script.now.config; posts = [] } }
+    requires scenario { IsScenario (told script.now) }
+    ensures book { book.new ≡ book.old }
+    ensures ready { IfOk result (λ place. IsReady script.now (spot_of node_seat node_view place)) }
+    ensures named { IfOk result (λ place. name_of (spot_of node_seat node_view place) ≡ correct_name node script.now.config.n) }
+{
+    let actor = script.config.n();
+    let disk = disk_of(alloc, script, node, actor)?;
+    let submitted = submitted_at(alloc, script, node)?;
+    let core = DeskCore::new(&script.config, node, submitted);
+    let seat = book.seat(node, actor);
+    Ok(Place::Correct(Player {
+        actor: JournaledActor::new(alloc, NodeCore::Desk(core), disk, seat),
+        fate: Fate::Running,
+    }))
+}
+
+// The place of a node that lies. Its voice is that of the script's liar at this node.
+fn lying_place(
+    alloc: Global,
+    script: &Script,
+    voices: &mut Vec<Voice>,
+    book: &mut PlainBook,
+    node: u8,
+) -> RunPlace
+    requires known { node < script.now.config.n }
+    requires liar { is_in script.now.config.liars node ≡ true }
+    requires book { book.old ≡ record { config = script.now.config; posts = [] } }
+    ensures book { book.new ≡ book.old }
+    ensures ready { IsReady script.now (spot_of node_seat node_view result) }
+    ensures named { name_of (spot_of node_seat node_view result) ≡ lying_name node }
+{
+    let seat = book.seat(node, 255);
+    let (hears, voice) = voice_at(script, voices, node);
+    Place::Lying(Hired::new(alloc, seat, hears, voice))
+}
+
+// How many posts the liar at a node hears, and its voice.
+fn voice_at(script: &Script, voices: &mut Vec<Voice>, node: u8) -> (u32, Voice) {
+    let Some(place) = script.liars.iter().position(|liar| liar.node == node) else {
+        return (0, Voice::silent());
+    };
+    let hears = script.liars[place].hears;
+    match voices.get_mut(place) {
+        Some(voice) => (hears, voice.taken()),
+        None => (hears, Voice::silent()),
+    }
+}
