@@ -36,9 +36,9 @@ fn answer(alloc: Global, me: &LiarSeat, post: &Post, lies: &mut Lies) -> Result<
 }
 
 impl Liar for Babble {
-    fn name(&self) -> LiarName
-        ensures { result ≡ codes "babble" }
-    {
+    ghost called = { λ _. codes "babble" };
+
+    fn name(&self) -> LiarName {
         LiarName::of("babble").unwrap()
     }
 

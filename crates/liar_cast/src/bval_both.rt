@@ -43,9 +43,9 @@ fn support_both(alloc: Global, me: &LiarSeat, lies: &mut Lies, at: Round) -> Res
 }
 
 impl Liar for BvalBoth {
-    fn name(&self) -> LiarName
-        ensures { result ≡ codes "bval_both" }
-    {
+    ghost called = { λ _. codes "bval_both" };
+
+    fn name(&self) -> LiarName {
         LiarName::of("bval_both").unwrap()
     }
 

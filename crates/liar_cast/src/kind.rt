@@ -36,9 +36,9 @@ pub enum Kind {
 }
 
 impl Liar for Kind {
-    fn name(&self) -> LiarName
-        ensures { result ≡ name_of self.now }
-    {
+    ghost called = { name_of };
+
+    fn name(&self) -> LiarName {
         match self {
             Kind::Silent(liar) => liar.name(),
             Kind::Equivocate(liar) => liar.name(),

@@ -1,5 +1,7 @@
 //! What speaks for a node that lies.
 
+ghost use Rattle.std.specs.Prelude.{◌≡◌, ℕ, List};
+
 use crate::lies::Lies;
 use hb_base::{Config, LiarName};
 use hb_wire::Post;
@@ -22,8 +24,12 @@ pub struct LiarSeat {
 /// knows of the lies after a call only what holds of all `Lies` (`waiting`: at most 4,096, each of at most 20,000
 /// bytes). It posts them under the node that it asked, and itself counts what that node has posted.
 pub trait Liar: Send + Drop {
+    /// The bytes of its name.
+    ghost called: { Self → List ℕ };
+
     /// The name under which a scenario asks for it.
-    fn name(&self) -> LiarName;
+    fn name(&self) -> LiarName
+        ensures { result ≡ called self.now };
 
     /// Speaks before it has heard anything.
     fn start(&mut self, alloc: Global, me: &LiarSeat, lies: &mut Lies);

@@ -20,9 +20,9 @@ impl Silent {
 }
 
 impl Liar for Silent {
-    fn name(&self) -> LiarName
-        ensures { result ≡ codes "silent" }
-    {
+    ghost called = { λ _. codes "silent" };
+
+    fn name(&self) -> LiarName {
         LiarName::of("silent").unwrap()
     }
 
