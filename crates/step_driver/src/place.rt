@@ -8,7 +8,7 @@ ghost use Rattle.step_driver.specs.Delivering.{IsSpot, Serves, IsReachedBy};
 
 use crate::hired::{Hired, Mouth, reaches_node};
 use crate::player::Player;
-use hb_base::Config;
+use hb_base::{Config, Gate};
 use hb_rules::{Actor, PlainBook};
 use hb_wire::{Post, reaches};
 use net_script::Script;
@@ -62,6 +62,14 @@ impl<A: Actor<PlainBook>, L: Mouth> Place<A, L> {
                 hired.hear(alloc, script, book, k);
                 None
             }
+        }
+    }
+
+    // Enters a gate as what is here. A node that lies enters as actor 255.
+    pub(crate) fn enter<G: Gate>(&self, gate: &G) {
+        match self {
+            Place::Correct(player) => gate.enter(player.node(), player.actor()),
+            Place::Lying(hired) => gate.enter(hired.node(), 255),
         }
     }
 

@@ -17,6 +17,7 @@ use crate::hired::Mouth;
 use crate::line::Line;
 use crate::place::Place;
 use crate::sending::{send, send_again};
+use hb_base::Gate;
 use hb_rules::{Actor, End, PlainBook};
 use hb_wire::Post;
 use net_script::Script;
@@ -36,12 +37,13 @@ pub struct Done {
 /// Runs the places on one thread until nothing is left to do. Each place is started, in their order; then posts are delivered
 /// one by one, in the script's order, and those that come of them. An actor that a stop has left without power is restarted at
 /// once, and all earlier posts that come to it are delivered again. An actor with another refusal ends, and the others go on.
-/// Err is want of memory for what waits or for the ends.
-pub fn run_steps<A: Actor<PlainBook>, L: Mouth>(
+/// Before each start and each delivery the gate is entered. Err is want of memory for what waits or for the ends.
+pub fn run_steps<A: Actor<PlainBook>, L: Mouth, G: Gate>(
     alloc: Global,
     script: &Script,
     places: Vec<Place<A, L>>,
     book: PlainBook,
+    gate: &G,
 ) -> Result<Done, AllocError>
     requires empty { book.posts ≡ [] }
     requires team { IsTeam book.config (names (spots A.seat A.view places.items)) }
@@ -53,7 +55,7 @@ pub fn run_steps<A: Actor<PlainBook>, L: Mouth>(
 {
     let mut places = places;
     let mut book = book;
-    let ends = run_all(alloc, script, &mut book, &mut places)?;
+    let ends = run_all(alloc, script, &mut book, &mut places, gate)?;
     Ok(Done {
         history: book.into_history(),
         ends,
@@ -61,11 +63,12 @@ pub fn run_steps<A: Actor<PlainBook>, L: Mouth>(
 }
 
 // Runs the places until nothing is left to do, and answers the ends.
-fn run_all<A: Actor<PlainBook>, L: Mouth>(
+fn run_all<A: Actor<PlainBook>, L: Mouth, G: Gate>(
     alloc: Global,
     script: &Script,
     book: &mut PlainBook,
     places: &mut Vec<Place<A, L>>,
+    gate: &G,
 ) -> Result<Vec<End>, AllocError>
     requires empty { book.old.posts ≡ [] }
     requires team { IsTeam book.old.config (names (spots A.seat A.view places.old.items)) }
@@ -75,19 +78,20 @@ fn run_all<A: Actor<PlainBook>, L: Mouth>(
     ensures ends { IfOk result (λ ends. map end_view ends.items ≡ filter_map end_of (spots A.seat A.view places.new.items)) }
 {
     let mut line = Line::new(alloc);
-    start_all(alloc, script, book, places, &mut line)?;
+    start_all(alloc, script, book, places, &mut line, gate)?;
     let mut words = words_of(book.config().seed(), 1);
-    run_line(alloc, script, book, places, &mut line, &mut words)?;
+    run_line(alloc, script, book, places, &mut line, &mut words, gate)?;
     ends_of(alloc, places.as_slice())
 }
 
 // Starts what is at each place, in their order.
-fn start_all<A: Actor<PlainBook>, L: Mouth>(
+fn start_all<A: Actor<PlainBook>, L: Mouth, G: Gate>(
     alloc: Global,
     script: &Script,
     book: &mut PlainBook,
     places: &mut Vec<Place<A, L>>,
     line: &mut Line,
+    gate: &G,
 ) -> Result<(), AllocError>
     requires stage { IsStage book.old.config script.now 0 book.old.posts (spots A.seat A.view places.old.items) }
     requires supplied { IsSupplied Always book.old.config script.now book.old.posts (spots A.seat A.view places.old.items) line.old }
@@ -95,19 +99,20 @@ fn start_all<A: Actor<PlainBook>, L: Mouth>(
         (spots A.seat A.view places.old.items) (spots A.seat A.view places.new.items) line.old line.new) }
 {
     for number in 0..places.len() {
-        start_one(alloc, script, book, places, line, number)?;
+        start_one(alloc, script, book, places, line, number, gate)?;
     }
     Ok(())
 }
 
 // Starts what is at one place, and adds the envelopes of what comes of it.
-fn start_one<A: Actor<PlainBook>, L: Mouth>(
+fn start_one<A: Actor<PlainBook>, L: Mouth, G: Gate>(
     alloc: Global,
     script: &Script,
     book: &mut PlainBook,
     places: &mut Vec<Place<A, L>>,
     line: &mut Line,
     number: usize,
+    gate: &G,
 ) -> Result<(), AllocError>
     requires within { number < length places.old.items }
     requires stage { IsStage book.old.config script.now number book.old.posts (spots A.seat A.view places.old.items) }
@@ -116,19 +121,20 @@ fn start_one<A: Actor<PlainBook>, L: Mouth>(
         (spots A.seat A.view places.old.items) (spots A.seat A.view places.new.items) line.old line.new) }
 {
     let first = count_posts(book);
-    let again = start_at(alloc, script, book, places, number);
+    let again = start_at(alloc, script, book, places, number, gate);
     follow(script, book, places.as_slice(), line, first, number, again)?;
     Ok(())
 }
 
 // Delivers all that waits, and what comes of it.
-fn run_line<A: Actor<PlainBook>, L: Mouth>(
+fn run_line<A: Actor<PlainBook>, L: Mouth, G: Gate>(
     alloc: Global,
     script: &Script,
     book: &mut PlainBook,
     places: &mut Vec<Place<A, L>>,
     line: &mut Line,
     words: &mut ChaCha20Rng,
+    gate: &G,
 ) -> Result<(), AllocError>
     requires stage { IsStage book.old.config script.now (length (spots A.seat A.view places.old.items)) book.old.posts (spots A.seat A.view places.old.items) }
     requires supplied { IsSupplied Always book.old.config script.now book.old.posts (spots A.seat A.view places.old.items) line.old }
@@ -140,19 +146,20 @@ fn run_line<A: Actor<PlainBook>, L: Mouth>(
     'line: loop {
         match line.take(script.order, words) {
             None => return Ok(()),
-            Some(taken) => serve(alloc, script, book, places, line, taken)?,
+            Some(taken) => serve(alloc, script, book, places, line, taken, gate)?,
         }
     }
 }
 
 // Delivers one envelope, and adds the envelopes of what comes of it.
-fn serve<A: Actor<PlainBook>, L: Mouth>(
+fn serve<A: Actor<PlainBook>, L: Mouth, G: Gate>(
     alloc: Global,
     script: &Script,
     book: &mut PlainBook,
     places: &mut Vec<Place<A, L>>,
     line: &mut Line,
     taken: Envelope,
+    gate: &G,
 ) -> Result<(), AllocError>
     requires stage { IsStage book.old.config script.now (length (spots A.seat A.view places.old.items)) book.old.posts (spots A.seat A.view places.old.items) }
     requires supplied { IsSupplied (But taken.place taken.post) book.old.config script.now book.old.posts (spots A.seat A.view places.old.items) line.old }
@@ -160,7 +167,7 @@ fn serve<A: Actor<PlainBook>, L: Mouth>(
         (spots A.seat A.view places.old.items) (spots A.seat A.view places.new.items) line.old line.new) }
 {
     let first = count_posts(book);
-    let again = serve_at(alloc, script, book, places, taken);
+    let again = serve_at(alloc, script, book, places, taken, gate);
     follow(
         script,
         book,
@@ -174,12 +181,13 @@ fn serve<A: Actor<PlainBook>, L: Mouth>(
 }
 
 // Delivers one envelope. The answer is that of `Place::hear`.
-fn serve_at<A: Actor<PlainBook>, L: Mouth>(
+fn serve_at<A: Actor<PlainBook>, L: Mouth, G: Gate>(
     alloc: Global,
     script: &Script,
     book: &mut PlainBook,
     places: &mut Vec<Place<A, L>>,
     taken: Envelope,
+    gate: &G,
 ) -> Option<u32>
     requires stage { IsStage book.old.config script.now (length (spots A.seat A.view places.old.items)) book.old.posts (spots A.seat A.view places.old.items) }
     ensures turn { IsTurn script.now taken.post (length (spots A.seat A.view places.old.items)) taken.place book.old book.new
@@ -190,16 +198,18 @@ fn serve_at<A: Actor<PlainBook>, L: Mouth>(
         return None;
     }
     let place = &mut places[taken.place];
+    place.enter(gate);
     place.hear(alloc, script, book, taken.post)
 }
 
 // Starts what is at one place. The answer is that of `Place::start`.
-fn start_at<A: Actor<PlainBook>, L: Mouth>(
+fn start_at<A: Actor<PlainBook>, L: Mouth, G: Gate>(
     alloc: Global,
     script: &Script,
     book: &mut PlainBook,
     places: &mut Vec<Place<A, L>>,
     number: usize,
+    gate: &G,
 ) -> Option<u32>
     requires within { number < length places.old.items }
     requires stage { IsStage book.old.config script.now number book.old.posts (spots A.seat A.view places.old.items) }
@@ -208,6 +218,7 @@ fn start_at<A: Actor<PlainBook>, L: Mouth>(
     ensures place { IfSome result (λ _. number < length (spots A.seat A.view places.new.items)) }
 {
     let place = &mut places[number];
+    place.enter(gate);
     place.start(alloc, script, book)
 }
 

@@ -9,14 +9,14 @@ use Rattle.ledger_run.proofs.Ready.{ready_team, ready_stage}
 use Rattle.ledger_run.proofs.run.run_script.Goals as goal
 
 pub run_steps-requires-clause-team : goal.run_steps-requires-clause-team
-run_steps-requires-clause-team g c =
+run_steps-requires-clause-team g c lifetimes outlive =
     let all = spots node_seat node_view c.in_ok-places.places.items in
     let book : c.places_of.new.book ≡ record { config = c.args.script.config; posts = [] } = c.in_ok-places.ensures.book ∙ c.new-book.ensures in
     subst (λ (d : Numbers). IsTeam d (names all)) (sym (ap (λ (b : BookView). b.config) book))
     (ready_team c.args.script all c.requires.scenario c.in_ok-places.ensures.ready)
 
 pub run_steps-requires-clause-stage : goal.run_steps-requires-clause-stage
-run_steps-requires-clause-stage g c =
+run_steps-requires-clause-stage g c lifetimes outlive =
     let all = spots node_seat node_view c.in_ok-places.places.items in
     let book : c.places_of.new.book ≡ record { config = c.args.script.config; posts = [] } = c.in_ok-places.ensures.book ∙ c.new-book.ensures in
     subst (λ (d : Numbers). IsStage d c.args.script 0 [] all) (sym (ap (λ (b : BookView). b.config) book))

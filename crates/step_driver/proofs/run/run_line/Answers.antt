@@ -2,7 +2,7 @@ use Rattle.std.proofs.Common.{length, refl, sym, ◌∙◌}
 use native.Mathlib.Omega.{arith}
 use Rattle.step_driver.specs.Places.{spots}
 use Rattle.step_driver.proofs.Takings.{taken_out, IsSupplied-taken}
-use Rattle.step_driver.proofs.Turns.{GoesOn-refl, GoesOn-rests, GoesOn-taken, nothing_left, weight-fell, stage_all, supplied_on}
+use Rattle.step_driver.proofs.Turns.{GoesOn-refl, GoesOn-rests, GoesOn-taken, nothing_left, weight-fell, supplied_on}
 use Rattle.step_driver.proofs.run.run_line.Goals as goal
 
 pub line-init : goal.line-init
@@ -26,17 +26,13 @@ returns-in-None g c =
       rests = left.1;
     }
 
-pub serve-requires : goal.serve-requires
-serve-requires g c =
+pub serve-requires-clause-supplied : goal.serve-requires-clause-supplied
+serve-requires-clause-supplied g c lifetimes outlive =
     let old = spots g.A.Actor.seat g.A.Actor.view c.args.places.now.items in
     let new = spots g.A.Actor.seat g.A.Actor.view c.line.places.items in
     let out = taken_out c.args.script.now.order c.line.words c.line.line c.take.new.self c.in-Some.taken (sym c.in-Some.is ∙ c.take.ensures.taken) c.take.ensures.rest in
-    let goes = c.line.invariant.goes in
-    record {
-      stage = stage_all c.args.script.now (length old) c.args.book.now c.line.book old new c.args.line.now c.line.line goes refl;
-      supplied = IsSupplied-taken c.line.book.config c.args.script.now c.line.book.posts new c.line.line c.take.new.self c.in-Some.taken out
-          (supplied_on c.args.script.now (length old) c.args.book.now c.line.book old new c.args.line.now c.line.line goes);
-    }
+    IsSupplied-taken c.line.book.config c.args.script.now c.line.book.posts new c.line.line c.take.new.self c.in-Some.taken out
+    (supplied_on c.args.script.now (length old) c.args.book.now c.line.book old new c.args.line.now c.line.line c.line.invariant.goes)
 
 pub line-preserved : goal.line-preserved
 line-preserved g c =
