@@ -1,5 +1,5 @@
 -- The lines of the text of a run. Numbers are in decimal, bytes in lower-case hex. The letters: i is a node of a run with config
--- c, x an actor, e an epoch, j the place of a batch in its list.
+-- c, x an actor, e an epoch, j the node of a batch.
 use Rattle.std.specs.Prelude.{ℕ, Bool, true, false, List, ◌++◌, codes, decimal}
 use Rattle.hex.specs.Hex.{encode_lower}
 use Rattle.hb_base.specs.Numbers.{Numbers}
@@ -34,7 +34,7 @@ actor_line x fate = counted (codes "actor ") x ++ (codes " " ++ (fate_word fate 
 unfoldable pub epoch_line : ℕ → ℕ → List ℕ
 epoch_line e batches = counted (codes "epoch ") e ++ (counted (codes " batches ") batches ++ codes "\n")
 
--- a batch, and how many transactions it has
+-- the batch of a node, and how many transactions it has
 unfoldable pub batch_line : ℕ → ℕ → List ℕ
 batch_line j txs = counted (codes "batch ") j ++ (counted (codes " txs ") txs ++ codes "\n")
 

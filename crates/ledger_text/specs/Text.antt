@@ -33,12 +33,12 @@ alone tx = tx ∷ []
 abbrev pub tx_text : ℕ → List (List ℕ) → List ℕ → List ℕ
 tx_text t before tx = if is_among before tx then [] else tx_line tx
 
--- batch j of a list, by its bytes: how many transactions it has, and those of them that are new
+-- the batch of node j, by its bytes: how many transactions it has, and those of them that are new
 unfoldable pub batch_text : ℕ → List (List ℕ) → List ℕ → List ℕ
 batch_text j before value = batch_line j (length (batch_of value)) ++ in_order tx_text alone 0 before (batch_of value)
 
 abbrev pub item_text : ℕ → List (List ℕ) → Item → List ℕ
-item_text j before item = batch_text j before item.value
+item_text place before item = batch_text item.node before item.value
 
 abbrev pub transactions_of : Item → List (List ℕ)
 transactions_of item = batch_of item.value

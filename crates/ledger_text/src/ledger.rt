@@ -78,19 +78,20 @@ fn put_batches<'a, O: Sink>(
         (in_order item_text transactions_of 0 (in_lists ledgers.now spot.entry.node spot.entry.place) (listed spot.entry.rest.now)) }
 {
     for index in 0..count_of(spot.rest) {
-        let (_, value) = item(spot.rest, index);
+        let (lane, value) = item(spot.rest, index);
         let batch = Spot { index, ..spot };
-        put_value(ledgers, seen, batch, value, out)?;
+        put_value(ledgers, seen, batch, lane, value, out)?;
     }
     Ok(())
 }
 
-// Prints the batch of a spot, by its bytes.
+// Prints the batch of a spot, which is that of a lane, by its bytes.
 #[tactic(auto, using(script_fault::proofs::Writing::writes_then, script_fault::proofs::Writing::writes_front), unfolding(crate::specs::Text::batch_text))]
 fn put_value<'a, O: Sink>(
     ledgers: &LedgerFinder<'a>,
     seen: &mut Seen<'a>,
     spot: Spot<'a>,
+    lane: u8,
     value: &'a [u8],
     out: &mut O,
 ) -> Result<(), Failed>
@@ -98,9 +99,9 @@ fn put_value<'a, O: Sink>(
     requires seen { Remembers seen.old (before_batch ledgers.now spot) }
     ensures seen { OnOk result (Remembers seen.new (before_batch ledgers.now spot.entry ++ batch_of value.now)) }
     ensures text { Writes (O.held out.old) (O.held out.new) (O.faults out.old) (O.faults out.new) result
-        (batch_text spot.entry.index (before_batch ledgers.now spot.entry) value.now) }
+        (batch_text lane (before_batch ledgers.now spot.entry) value.now) }
 {
-    put_batch(spot.index, batch_len(value), out)?;
+    put_batch(lane, batch_len(value), out)?;
     put_transactions(ledgers, seen, spot, value, out)
 }
 

@@ -88,11 +88,11 @@ pub(crate) fn put_epoch<O: Sink>(epoch: u8, batches: u8, out: &mut O) -> Result<
 
 /// Puts the line of a batch, with the number of its transactions.
 #[tactic(auto, unfolding(crate::specs::Lines::batch_line))]
-pub(crate) fn put_batch<O: Sink>(place: u8, transactions: u8, out: &mut O) -> Result<(), Failed>
-    ensures { Writes (O.held out.old) (O.held out.new) (O.faults out.old) (O.faults out.new) result (batch_line place transactions) }
+pub(crate) fn put_batch<O: Sink>(lane: u8, transactions: u8, out: &mut O) -> Result<(), Failed>
+    ensures { Writes (O.held out.old) (O.held out.new) (O.faults out.old) (O.faults out.new) result (batch_line lane transactions) }
 {
     let mut line = Line::new();
-    add_count(&mut line, "batch ", u64::from(place));
+    add_count(&mut line, "batch ", u64::from(lane));
     add_count(&mut line, " txs ", u64::from(transactions));
     line.text("\n");
     out.put(line.as_slice())

@@ -167,14 +167,14 @@ node 3 liar
 end 9
 ",
     ),
-    // epochs out of order, and one left out
+    // epochs out of order, and one left out; lists without the first node, or one in the middle
     (
         Told {
             nodes: 4,
             faulty: 1,
             liars: &[3],
             ends: "rrrrr rrrrr rrrrr -",
-            history: "1dC05a--- 1dC00b--- 1dC03ab--",
+            history: "1dC05---a 1dC00b--- 1dC03-a-b",
             status: 5,
         },
         "run nodes 4 faulty 1 version 2 epochs 32
@@ -184,11 +184,11 @@ epoch 0 batches 1
 batch 0 txs 1
 tx 62
 epoch 3 batches 2
-batch 0 txs 1
-tx 61
 batch 1 txs 1
+tx 61
+batch 3 txs 1
 epoch 5 batches 1
-batch 0 txs 1
+batch 3 txs 1
 node 2 running
 node 3 liar
 end 5
@@ -351,7 +351,7 @@ epoch 31 batches 2
 batch 0 txs 2
 tx 6162
 tx 616263
-batch 1 txs 3
+batch 15 txs 3
 tx 61
 tx 62
 tx ff00

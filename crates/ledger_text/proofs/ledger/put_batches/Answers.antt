@@ -22,9 +22,9 @@ returns-in_err-put_value-clause-text g c =
     let list : List Item = listed c.args.spot.rest.now in
     let count = c.count_of-index-end.ensures list c.requires.spot.list in
     let index : ℕ = c.loop-index.index in
-    let x : Item = item_of c.item.result.0 c.item.result.1.now in
+    let x : Item = item_of c.item-lane.result.0 c.item-lane.result.1.now in
     let inside : index < length list = omega (arith, count, c.loop-index-test.true) in
-    let is : x ≡ get_or list index x = sym (c.item.ensures list c.requires.spot.list x) in
+    let is : x ≡ get_or list index x = sym (c.item-lane.ensures list c.requires.spot.list x) in
     let before : List (List ℕ) = in_lists c.args.ledgers.now c.args.spot.node c.args.spot.place in
     rw p.1 (writes_stop _ (order_split item_text transactions_of before list index x x inside is) c.loop-index.invariant.text c.in_err-put_value.ensures.text)
 
@@ -33,9 +33,9 @@ loop-index-preserved g c =
     let list : List Item = listed c.args.spot.rest.now in
     let count = c.count_of-index-end.ensures list c.requires.spot.list in
     let index : ℕ = c.loop-index.index in
-    let x : Item = item_of c.item.result.0 c.item.result.1.now in
+    let x : Item = item_of c.item-lane.result.0 c.item-lane.result.1.now in
     let inside : index < length list = omega (arith, count, c.loop-index-test.true) in
-    let is : x ≡ get_or list index x = sym (c.item.ensures list c.requires.spot.list x) in
+    let is : x ≡ get_or list index x = sym (c.item-lane.ensures list c.requires.spot.list x) in
     let before : List (List ℕ) = in_lists c.args.ledgers.now c.args.spot.node c.args.spot.place in
     let so_far : List (List ℕ) = in_batches c.args.spot.rest.now index in
     let more : in_batches c.args.spot.rest.now (index + 1) ≡ so_far ++ transactions_of x = each_step transactions_of list index x x inside is in

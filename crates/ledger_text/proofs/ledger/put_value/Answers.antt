@@ -10,9 +10,9 @@ pub returns-in_err-put_batch-clause-text : goal.returns-in_err-put_batch-clause-
 unfolding batch_text
 returns-in_err-put_batch-clause-text g c =
     let p = err_from_is_err_and c.from_residual.result c.from_residual.ensures.1 in
-    rw p.1 (writes_front _ (writes_as (ap (batch_line c.args.spot.index) (sym c.batch_len.ensures.exact)) c.in_err-put_batch.ensures))
+    rw p.1 (writes_front _ (writes_as (ap (batch_line c.args.lane) (sym c.batch_len.ensures.exact)) c.in_err-put_batch.ensures))
 
 pub returns-clause-text : goal.returns-clause-text
 unfolding batch_text
 returns-clause-text g c =
-    writes_then (writes_as (ap (batch_line c.args.spot.index) (sym c.batch_len.ensures.exact)) c.in_ok-put_batch.ensures) c.put_transactions.ensures.text
+    writes_then (writes_as (ap (batch_line c.args.lane) (sym c.batch_len.ensures.exact)) c.in_ok-put_batch.ensures) c.put_transactions.ensures.text
