@@ -1,10 +1,7 @@
-pub mod Casting
+pub mod Answers
+pub mod Commands
 pub mod Input
-pub mod Member
-pub mod Quiet
-pub mod Run
-pub mod Scenario
+pub mod Lines
+pub mod Outcomes
+pub mod Runs
 pub mod Streams
-pub mod Team
-pub mod Text
-pub mod Top

@@ -1,18 +1,12 @@
-//! The program `hb_ledger` over any input and output: what it reads, the run, and what it prints.
+//! The program `hb_ledger` over any input and output: what it is asked for, what it reads, the run, and what it prints.
 #![tactic(auto)]
 
-mod driver;
-mod ends;
+mod command;
 mod input;
-mod line;
-mod member;
-mod scenario;
-#[cfg(test)]
-mod tests;
-mod text;
+mod outcome;
+mod running;
+mod telling;
 mod top;
-#[cfg(test)]
-mod top_tests;
 
-pub use text::NO_MEMORY;
+pub use telling::NO_MEMORY;
 pub use top::hb_main;

@@ -1,193 +1,202 @@
-ghost use Rattle.std.specs.Prelude.{◌≡◌, ◌≢◌, ◌↔◌, ℕ, List, Some, IsTrue, codes, string_bytes};
-ghost use Rattle.hb_app.specs.Scenario.{scenario_of};
-ghost use Rattle.hb_app.specs.Text.{usage_line, memory_line};
-ghost use Rattle.hb_app.specs.Run.{IsPlain};
-ghost use Rattle.hb_app.specs.Input.{most_taken};
-ghost use Rattle.hb_app.specs.Streams.{TakesAtMost, IsUnused, PutsOrFails, PutsOr7, source_view, sink_view};
-ghost use Rattle.hb_app.specs.Top.{AsksRun, ComesOf, Comes, RunAnswers};
+//! The top call.
 
-use crate::driver::run;
+ghost use Rattle.std.specs.Prelude.{◌≡◌, ℕ, map, string_bytes};
+ghost use Rattle.net_script.specs.Scenario.{told};
+ghost use Rattle.net_script.specs.Sound.{IsScenario};
+ghost use Rattle.scenario_gen.specs.Generated.{generated};
+ghost use Rattle.script_reader.specs.Reading.{scenario_of};
+ghost use Rattle.ledger_text.specs.Text.{run_text, soak_text};
+ghost use Rattle.hb_app.specs.Answers.{RunAnswers, SoakAnswers, scene};
+ghost use Rattle.hb_app.specs.Commands.{AsksRun, AsksSoak, AsksNothing};
+ghost use Rattle.hb_app.specs.Input.{most_taken};
+ghost use Rattle.hb_app.specs.Lines.{usage_line};
+ghost use Rattle.hb_app.specs.Outcomes.{RunComes, BytesCome, ScriptComes, work};
+ghost use Rattle.hb_app.specs.Streams.{SourceView, TakesAtMost, PutsOr7, source_view, sink_view};
+
+use crate::command::{Command, command_of};
 use crate::input::{Input, read_input};
-use crate::scenario::{Scenario, ScenarioFault, read_scenario};
-use crate::text::{NO_MEMORY, READ_FAILED, REFUSED, USAGE, WRITE_FAILED, print_run};
-use hb_base::{Sink, Source};
+use crate::outcome::Outcome;
+use crate::running::{names_of, run_with};
+use crate::telling::{USAGE, tell, tell_outcome};
+use hb_base::{Gate, Sink, Source};
 use hb_rules::Report;
+use ledger_text::{print_run, print_soak};
+use liar_cast::Liar;
+use net_script::Script;
+use scenario_gen::generate;
+use script_fault::ScriptFault;
+use script_reader::read_script;
 use std::alloc::Global;
 
-// What the input came to.
-#[derive(Clone, Copy, Debug, PartialEq, Eq)]
-pub enum Outcome {
-    // It says no scenario.
-    Refused,
-    // It can't be read.
-    ReadFailed,
-    // There was no memory for it, or for its run.
-    Memory,
-    // The text of its run can't be written.
-    WriteFailed,
-    // It was run, and the text of the run written.
-    Ran,
-}
-
-/// The program `hb_ledger`: what its words ask for, over any input and output. The status is 0, or
+/// The program `hb_ledger`: what its words ask for, over any input and output, with a cast of liars. `run` runs the scenario on
+/// the input and prints the ledger of each correct node; `soak N` runs the scenario of a number and prints whether the ledgers
+/// agree. The status is
+///   0 if some correct node runs, and each that runs closed the last epoch,
 ///   2 if the words are unknown,
 ///   3 if the input is no scenario,
-///   4 if a node found the book full,
+///   4 if there was a run that is none of 0, 5 and 9,
+///   5 if it is not 0, and a lane of a correct node has spent its rounds,
 ///   6 if the input can't be read,
 ///   7 if the output can't be written, and
 ///   9 if memory ran out.
-/// All but 0 and 4 tell a line on `err`. The report is of the run; without one it stays, and nothing is written to `out`.
-/// At most 1,048,577 bytes of the input are taken, one more than a scenario may have, and the rest is left.
-pub fn hb_main<S: Source, O: Sink, E: Sink>(
+/// All but 0, 4 and 5 tell a line on `err`. The report is of the run; without one it stays, and nothing is written to `out`. At
+/// most 1,048,577 bytes of the input are taken, one more than a scenario may have, and the rest is left.
+///
+/// A scenario may ask for the liars of the cast, by name; each stands for one node. Where it asks for workers, the run is on one
+/// thread all the same.
+pub fn hb_main<S: Source, O: Sink, E: Sink, G: Gate>(
     alloc: Global,
     words: &[String],
     source: &mut S,
     out: &mut O,
     err: &mut E,
+    cast: Vec<Box<dyn Liar>>,
+    gate: &G,
     report: &mut Report,
 ) -> u8
-    ensures run { AsksRun words.now → RunAnswers
-        (record {
-          work = record { source = source_view S.left S.faults source.old; out = sink_view O.held O.faults out.old; report = report.old };
-          err = sink_view E.held E.faults err.old;
-        })
-        (record {
-          work = record { source = source_view S.left S.faults source.new; out = sink_view O.held O.faults out.new; report = report.new };
-          err = sink_view E.held E.faults err.new;
-        })
+    ensures run { AsksRun (map string_bytes words.now) → RunAnswers (map (λ liar. called liar) cast.items)
+        (scene (source_view S.left S.faults source.old) (sink_view O.held O.faults out.old) (sink_view E.held E.faults err.old) report.old)
+        (scene (source_view S.left S.faults source.new) (sink_view O.held O.faults out.new) (sink_view E.held E.faults err.new) report.new)
         result }
-    ensures usage { (AsksRun words.now → ⊥) → PutsOr7 (sink_view E.held E.faults err.old) (sink_view E.held E.faults err.new) usage_line 2 result
+    ensures soak { (number : ℕ) → AsksSoak (map string_bytes words.now) number → SoakAnswers number
+        (scene (source_view S.left S.faults source.old) (sink_view O.held O.faults out.old) (sink_view E.held E.faults err.old) report.old)
+        (scene (source_view S.left S.faults source.new) (sink_view O.held O.faults out.new) (sink_view E.held E.faults err.new) report.new)
+        result }
+    ensures usage { AsksNothing (map string_bytes words.now)
+        → PutsOr7 (sink_view E.held E.faults err.old) (sink_view E.held E.faults err.new) usage_line 2 result
         × (report.new ≡ report.old) × (out.new ≡ out.old) × (source.new ≡ source.old) }
 {
-    if asks_run(words) {
-        run_command(alloc, source, out, err, report)
-    } else {
-        tell(USAGE, 2, err)
+    match command_of(words) {
+        Some(Command::Run) => run_command(alloc, source, out, err, cast, gate, report),
+        Some(Command::Soak(number)) => soak_command(alloc, number, out, err, cast, gate, report),
+        None => tell(USAGE, 2, err),
     }
 }
 
-#[tactic(auto, using(crate::proofs::Answers::one_word))]
-fn asks_run(words: &[String]) -> bool
-    ensures { IsTrue result ↔ AsksRun words.now }
-{
-    words.len() == 1 && is_run(&words[0])
-}
-
-fn is_run(word: &String) -> bool
-    ensures { IsTrue result ↔ string_bytes word.now ≡ codes "run" }
-{
-    word.as_str() == "run"
-}
-
-fn run_command<S: Source, O: Sink, E: Sink>(
+fn run_command<S: Source, O: Sink, E: Sink, G: Gate>(
     alloc: Global,
     source: &mut S,
     out: &mut O,
     err: &mut E,
+    cast: Vec<Box<dyn Liar>>,
+    gate: &G,
     report: &mut Report,
 ) -> u8
-    ensures { RunAnswers
-        (record {
-          work = record { source = source_view S.left S.faults source.old; out = sink_view O.held O.faults out.old; report = report.old };
-          err = sink_view E.held E.faults err.old;
-        })
-        (record {
-          work = record { source = source_view S.left S.faults source.new; out = sink_view O.held O.faults out.new; report = report.new };
-          err = sink_view E.held E.faults err.new;
-        })
+    ensures { RunAnswers (map (λ liar. called liar) cast.items)
+        (scene (source_view S.left S.faults source.old) (sink_view O.held O.faults out.old) (sink_view E.held E.faults err.old) report.old)
+        (scene (source_view S.left S.faults source.new) (sink_view O.held O.faults out.new) (sink_view E.held E.faults err.new) report.new)
         result }
 {
-    match run_source(alloc, source, out, report) {
-        Outcome::Refused => tell(REFUSED, 3, err),
-        Outcome::ReadFailed => tell(READ_FAILED, 6, err),
-        Outcome::Memory => hint(NO_MEMORY, 9, err),
-        Outcome::WriteFailed => hint(WRITE_FAILED, 7, err),
-        Outcome::Ran => answer(report.status, err),
-    }
+    let outcome = run_source(alloc, source, out, cast, gate, report);
+    tell_outcome(&outcome, report.status, err)
+}
+
+fn soak_command<O: Sink, E: Sink, G: Gate>(
+    alloc: Global,
+    number: u64,
+    out: &mut O,
+    err: &mut E,
+    cast: Vec<Box<dyn Liar>>,
+    gate: &G,
+    report: &mut Report,
+) -> u8
+    ensures { (source : SourceView) → SoakAnswers number
+        (scene source (sink_view O.held O.faults out.old) (sink_view E.held E.faults err.old) report.old)
+        (scene source (sink_view O.held O.faults out.new) (sink_view E.held E.faults err.new) report.new)
+        result }
+{
+    let outcome = soak_number(alloc, number, out, cast, gate, report);
+    tell_outcome(&outcome, report.status, err)
 }
 
 // Runs the scenario that the whole input says, and prints the run.
-#[tactic(auto, using(crate::proofs::Answers::refuses_all, crate::proofs::Answers::refuses_taken))]
-fn run_source<S: Source, O: Sink>(
+fn run_source<S: Source, O: Sink, G: Gate>(
     alloc: Global,
     source: &mut S,
     out: &mut O,
+    cast: Vec<Box<dyn Liar>>,
+    gate: &G,
     report: &mut Report,
 ) -> Outcome
-    ensures comes { Comes
-        (record { source = source_view S.left S.faults source.old; out = sink_view O.held O.faults out.old; report = report.old })
-        (record { source = source_view S.left S.faults source.new; out = sink_view O.held O.faults out.new; report = report.new })
+    ensures comes { RunComes (map (λ liar. called liar) cast.items)
+        (work (source_view S.left S.faults source.old) (sink_view O.held O.faults out.old) report.old)
+        (work (source_view S.left S.faults source.new) (sink_view O.held O.faults out.new) report.new)
         result }
     ensures taken { TakesAtMost most_taken (source_view S.left S.faults source.old) (source_view S.left S.faults source.new) }
 {
     match read_input(alloc, source) {
-        Input::Whole(bytes) => run_bytes(alloc, bytes.as_slice(), out, report),
-        Input::TooLong => Outcome::Refused,
+        Input::Whole(bytes) => run_bytes(alloc, bytes.as_slice(), out, cast, gate, report),
+        Input::TooLong => Outcome::Refused(ScriptFault::TooLong),
         Input::Failed => Outcome::ReadFailed,
         Input::Memory => Outcome::Memory,
     }
 }
 
-fn run_bytes<O: Sink>(alloc: Global, bytes: &[u8], out: &mut O, report: &mut Report) -> Outcome
-    ensures { ComesOf bytes.now (sink_view O.held O.faults out.old) (sink_view O.held O.faults out.new) report.old report.new result }
+// Runs the scenario that these bytes say, and prints the run.
+#[tactic(auto, using(crate::proofs::Reading::fails_with))]
+fn run_bytes<O: Sink, G: Gate>(
+    alloc: Global,
+    bytes: &[u8],
+    out: &mut O,
+    cast: Vec<Box<dyn Liar>>,
+    gate: &G,
+    report: &mut Report,
+) -> Outcome
+    ensures { BytesCome (scenario_of bytes.now (map (λ liar. called liar) cast.items))
+        (sink_view O.held O.faults out.old) (sink_view O.held O.faults out.new) report.old report.new result }
 {
-    match read_scenario(alloc, bytes) {
-        Ok(scenario) => run_scenario(alloc, scenario, out, report),
-        Err(ScenarioFault::NotBuilt) => Outcome::Refused,
-        Err(ScenarioFault::Memory) => Outcome::Memory,
+    let Ok(names) = names_of(alloc, cast.as_slice()) else {
+        return Outcome::Memory;
+    };
+    match read_script(alloc, bytes, names.as_slice()) {
+        Ok(script) => run_and_print(alloc, script, out, cast, gate, report),
+        Err(ScriptFault::Memory) => Outcome::Memory,
+        Err(fault) => Outcome::Refused(fault),
     }
 }
 
-#[tactic(auto, using(crate::proofs::Answers::short_run))]
-fn run_scenario<O: Sink>(
+// Runs a script, and prints the run.
+fn run_and_print<O: Sink, G: Gate>(
     alloc: Global,
-    scenario: Scenario,
+    script: Script,
     out: &mut O,
+    cast: Vec<Box<dyn Liar>>,
+    gate: &G,
     report: &mut Report,
 ) -> Outcome
-    requires { IsPlain scenario }
-    ensures { (input : List ℕ) → scenario_of input ≡ Some scenario
-        → ComesOf input (sink_view O.held O.faults out.old) (sink_view O.held O.faults out.new) report.old report.new result }
+    requires scenario { IsScenario (told script) }
+    ensures { ScriptComes run_text (told script)
+        (sink_view O.held O.faults out.old) (sink_view O.held O.faults out.new) report.old report.new result }
 {
-    let Ok(made) = run(alloc, scenario) else {
+    if run_with(alloc, script, cast, gate, report).is_err() {
         return Outcome::Memory;
-    };
-    *report = made;
+    }
     match print_run(report, out) {
         Ok(()) => Outcome::Ran,
         Err(_) => Outcome::WriteFailed,
     }
 }
 
-// Answers a run's status, and tells that there was no memory if that is what it says.
-fn answer<E: Sink>(status: u8, err: &mut E) -> u8
-    ensures status { result ≡ status }
-    ensures unused { status ≢ 9 → IsUnused (sink_view E.held E.faults err.old) (sink_view E.held E.faults err.new) }
-    ensures line { status ≡ 9 → PutsOrFails (sink_view E.held E.faults err.old) (sink_view E.held E.faults err.new) memory_line }
+// Runs the scenario of a number, and prints whether its ledgers agree.
+fn soak_number<O: Sink, G: Gate>(
+    alloc: Global,
+    number: u64,
+    out: &mut O,
+    cast: Vec<Box<dyn Liar>>,
+    gate: &G,
+    report: &mut Report,
+) -> Outcome
+    ensures { ScriptComes (soak_text number) (generated number)
+        (sink_view O.held O.faults out.old) (sink_view O.held O.faults out.new) report.old report.new result }
 {
-    if status == 9 {
-        hint(NO_MEMORY, 9, err)
-    } else {
-        status
+    let Ok(script) = generate(alloc, number) else {
+        return Outcome::Memory;
+    };
+    if run_with(alloc, script, cast, gate, report).is_err() {
+        return Outcome::Memory;
     }
-}
-
-// Tells a line and answers a status, or 7 if that fails.
-fn tell<E: Sink>(line: &[u8], status: u8, err: &mut E) -> u8
-    ensures { PutsOr7 (sink_view E.held E.faults err.old) (sink_view E.held E.faults err.new) line.now status result }
-{
-    match err.put(line) {
-        Ok(()) => status,
-        Err(_) => 7,
+    match print_soak(number, report, out) {
+        Ok(()) => Outcome::Ran,
+        Err(_) => Outcome::WriteFailed,
     }
-}
-
-// Tells a line if that works, and answers a status.
-#[tactic(auto, using(crate::proofs::Answers::puts_or_fails))]
-fn hint<E: Sink>(line: &[u8], status: u8, err: &mut E) -> u8
-    ensures status { result ≡ status }
-    ensures line { PutsOrFails (sink_view E.held E.faults err.old) (sink_view E.held E.faults err.new) line.now }
-{
-    let _told = err.put(line);
-    status
 }

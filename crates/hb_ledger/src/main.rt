@@ -5,8 +5,9 @@
 mod streams;
 
 use hb_app::{NO_MEMORY, hb_main};
-use hb_base::Sink;
+use hb_base::{OpenGate, Sink, Source};
 use hb_rules::Report;
+use liar_cast::{Liar, cast};
 use std::alloc::{AllocError, Global};
 use std::env;
 use std::io::ErrorKind;
@@ -28,23 +29,52 @@ fn words(rt: &HostRuntime, alloc: Global) -> Result<Vec<String>, AllocError> {
     Ok(words)
 }
 
+// Calls the program with five liars of each kind, since as many may lie in a run. Err is want of memory for them, before the
+// call.
+fn call<S: Source, O: Sink, E: Sink>(
+    alloc: Global,
+    words: &[String],
+    source: &mut S,
+    out: &mut O,
+    err: &mut E,
+) -> Result<u8, AllocError> {
+    let mut liars: Vec<Box<dyn Liar>> = Vec::new(alloc);
+    for kind in cast(alloc)? {
+        liars.push(Box::new(alloc, kind)?)?;
+    }
+    let mut report = Report::empty(alloc);
+    Ok(hb_main(
+        alloc,
+        words,
+        source,
+        out,
+        err,
+        liars,
+        &OpenGate,
+        &mut report,
+    ))
+}
+
+// Calls the program with the words of the process.
+fn call_with_words<S: Source, O: Sink, E: Sink>(
+    rt: &HostRuntime,
+    source: &mut S,
+    out: &mut O,
+    err: &mut E,
+) -> Result<u8, AllocError> {
+    let words = words(rt, rt.alloc())?;
+    call(rt.alloc(), words.as_slice(), source, out, err)
+}
+
 fn main(rt: HostRuntime) -> ExitCode {
-    let alloc = rt.alloc();
     let mut source = Reading::new(rt.stdin());
     let mut out = Writing::new(rt.stdout());
     let mut err = Writing::new(rt.stderr());
-    let Ok(words) = words(&rt, alloc) else {
-        let _told = err.put(NO_MEMORY);
-        return ExitCode::from(9);
-    };
-    let mut report = Report::empty(alloc);
-    let status = hb_main(
-        alloc,
-        words.as_slice(),
-        &mut source,
-        &mut out,
-        &mut err,
-        &mut report,
-    );
-    ExitCode::from(status)
+    match call_with_words(&rt, &mut source, &mut out, &mut err) {
+        Ok(status) => ExitCode::from(status),
+        Err(_) => {
+            let _told = err.put(NO_MEMORY);
+            ExitCode::from(9)
+        }
+    }
 }

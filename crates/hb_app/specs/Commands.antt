@@ -1,0 +1,22 @@
+-- What the words of a call ask for.
+use Rattle.std.specs.Prelude.{◌≡◌, ℕ, ◌<◌, ◌^◌, List, [], ◌∷◌, Option, None, Some, codes, decimal}
+use Rattle.hb_app.specs.declared.command.Command.{Command}
+use Rattle.hb_app.specs.declared.command.Command.TheVariants.{Run, Soak}
+
+-- a run of the scenario on the input
+abbrev pub AsksRun : List (List ℕ) → Type 0
+AsksRun words = words ≡ codes "run" ∷ []
+
+-- the run of this number, below 2^64 and in decimal digits, with no sign and no needless zeros in front
+abbrev pub AsksSoak : List (List ℕ) → ℕ → Type 0
+AsksSoak words number = (number < 2 ^ 64) × (words ≡ codes "soak" ∷ decimal number ∷ [])
+
+-- nothing that is known
+abbrev pub AsksNothing : List (List ℕ) → Type 0
+AsksNothing words = (AsksRun words → ⊥) × ((number : ℕ) → AsksSoak words number → ⊥)
+
+-- what these words ask for
+abbrev pub Asks : List (List ℕ) → Option Command → Type 0
+Asks words None = AsksNothing words
+Asks words (Some Run) = AsksRun words
+Asks words (Some (Soak number)) = AsksSoak words number

@@ -1,0 +1,27 @@
+-- What stands of a run whose text is printed.
+use Rattle.std.specs.Prelude.{◌≡◌}
+use Rattle.net_script.specs.Scenario.{Scenario, told}
+use Rattle.hb_rules.specs.declared.report.Report.{Report}
+use Rattle.hb_rules.specs.History.{IsLegal}
+use Rattle.hb_rules.specs.Ledger.{AreComparable, BatchesAreEnough, AreUnaltered}
+use Rattle.hb_rules.specs.Report.{IsQuiet, StaysWithinPlan, FollowsPoolRule, status_of}
+use Rattle.hb_rules.specs.Strings.{NoCollision}
+use Rattle.quiet_world.specs.Completed.{HasEachCompleted}
+
+-- The report of a run of a scenario. Its history is legal, nothing is left to do, no more was done than is planned, and each
+-- proposal of a correct desk is of the transactions that its pool has. Where no two hashed strings share a digest, of any two
+-- correct nodes' ledgers one begins with the other, each list of them has the batches of n - f nodes at least, and what it has
+-- of a correct node is what that node's desk proposed. A running node's ledger has each epoch up to which its agreements, and
+-- the broadcasts that they accepted, have completed.
+pub record IsLedgerRun (s : Scenario) (report : Report) : Type 0 where
+  pub script : told report.script ≡ s
+  pub config : report.config ≡ s.config
+  pub status : report.status ≡ status_of report
+  pub legal : IsLegal report.config report.history.items
+  pub quiet : IsQuiet report
+  pub plan : StaysWithinPlan report
+  pub rule : FollowsPoolRule report
+  pub comparable : NoCollision report.config report.history.items → AreComparable report.config report.history.items
+  pub enough : NoCollision report.config report.history.items → BatchesAreEnough report.config report.history.items
+  pub unaltered : NoCollision report.config report.history.items → AreUnaltered report.config report.history.items
+  pub complete : HasEachCompleted report

@@ -1,0 +1,61 @@
+//! What the words of a call ask for.
+
+ghost use Rattle.std.specs.Prelude.{◌≡◌, ℕ, ◌<◌, ◌^◌, [], ◌∷◌, None, IfSome, map, string_bytes, decimal};
+ghost use Rattle.hb_app.specs.Commands.{Asks};
+
+use itoa::Buffer;
+
+/// What a call asks for.
+#[derive(Clone, Copy, Debug, PartialEq, Eq)]
+pub enum Command {
+    /// The run of the scenario on the input.
+    Run,
+    /// The run of the scenario of this number.
+    Soak(u64),
+}
+
+/// What these words ask for: `run`, or `soak` and a whole number below 2^64 in decimal digits, with no sign and no needless
+/// zeros in front. None for all other words.
+pub fn command_of(words: &[String]) -> Option<Command>
+    ensures { Asks (map string_bytes words.now) result }
+{
+    match words.len() {
+        1 => run_of(words[0].as_str()),
+        2 => soak_of(words[0].as_str(), words[1].as_str()),
+        _ => None,
+    }
+}
+
+fn run_of(word: &str) -> Option<Command>
+    ensures { Asks (word.now ∷ []) result }
+{
+    if word == "run" {
+        Some(Command::Run)
+    } else {
+        None
+    }
+}
+
+fn soak_of(word: &str, number: &str) -> Option<Command>
+    ensures { Asks (word.now ∷ number.now ∷ []) result }
+{
+    if word == "soak" {
+        number_of(number).map(Command::Soak)
+    } else {
+        None
+    }
+}
+
+// The number that a word is the decimal digits of.
+fn number_of(word: &str) -> Option<u64>
+    ensures some { IfSome result (λ number. (number < 2 ^ 64) × (word.now ≡ decimal number)) }
+    ensures none { result ≡ None → (number : ℕ) → number < 2 ^ 64 → word.now ≡ decimal number → ⊥ }
+{
+    let number = word.parse::<u64>().ok()?;
+    let mut buffer = Buffer::new();
+    if buffer.format(number) == word {
+        Some(number)
+    } else {
+        None
+    }
+}
