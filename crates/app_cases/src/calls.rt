@@ -1,0 +1,115 @@
+//! Calls of the program over memory, and what they leave.
+
+use hb_app::hb_main;
+use hb_base::{Bytes, MemorySink, MemorySource, OpenGate};
+use hb_rules::Report;
+use liar_cast::{Liar, cast};
+use std::alloc::{AllocError, Global};
+use std::process::Abort;
+
+// What a call is given: its words, its input and the length of the pieces in which it comes, and the numbers of the take, of the
+// put on out and of the put on err that fail, 0 for none.
+#[derive(Clone, Copy)]
+pub(crate) struct Request<'a> {
+    pub(crate) words: &'a [&'a str],
+    pub(crate) input: &'a [u8],
+    pub(crate) piece: u32,
+    pub(crate) take: u32,
+    pub(crate) put: u32,
+    pub(crate) tell: u32,
+}
+
+impl<'a> Request<'a> {
+    // A request of which nothing fails.
+    pub(crate) fn new(words: &'a [&'a str], input: &'a str) -> Request<'a> {
+        Request {
+            words,
+            input: input.as_bytes(),
+            piece: 4_096,
+            take: 0,
+            put: 0,
+            tell: 0,
+        }
+    }
+}
+
+// What a call answered and left.
+#[derive(Drop)]
+pub(crate) struct Answer {
+    pub(crate) status: u8,
+    pub(crate) report: Report,
+    pub(crate) out: MemorySink,
+    pub(crate) err: MemorySink,
+}
+
+// The number of the call that fails.
+fn failing(alloc: Global, call: u32) -> Result<Vec<u32>, AllocError> {
+    let mut calls = Vec::new(alloc);
+    calls.push(call)?;
+    Ok(calls)
+}
+
+// Calls the program with this cast.
+pub(crate) fn call_with(
+    alloc: Global,
+    given: &Request<'_>,
+    liars: Vec<Box<dyn Liar>>,
+) -> Result<Answer, AllocError> {
+    let mut words = Vec::new(alloc);
+    for word in given.words {
+        words.push(String::from_str(alloc, word)?)?;
+    }
+    let bytes = Bytes::copy(alloc, given.input)?;
+    let mut source = MemorySource::new(bytes, given.piece.max(1), failing(alloc, given.take)?);
+    let mut out = MemorySink::new(alloc, failing(alloc, given.put)?);
+    let mut err = MemorySink::new(alloc, failing(alloc, given.tell)?);
+    let mut report = Report::empty(alloc);
+    let status = hb_main(
+        alloc,
+        words.as_slice(),
+        &mut source,
+        &mut out,
+        &mut err,
+        liars,
+        &OpenGate,
+        &mut report,
+    );
+    Ok(Answer {
+        status,
+        report,
+        out,
+        err,
+    })
+}
+
+// Calls the program with the cast of the program.
+pub(crate) fn call(alloc: Global, given: &Request<'_>) -> Result<Answer, AllocError> {
+    let mut liars: Vec<Box<dyn Liar>> = Vec::new(alloc);
+    for kind in cast(alloc)? {
+        liars.push(Box::new(alloc, kind)?)?;
+    }
+    call_with(alloc, given, liars)
+}
+
+// Runs a scenario.
+pub(crate) fn run(alloc: Global, scenario: &str) -> Result<Answer, AllocError> {
+    call(alloc, &Request::new(&["run"], scenario))
+}
+
+// Checks that there was a run, with this status and this text, and that nothing was told.
+pub(crate) fn check_ran(rt: &impl Abort, answer: &Answer, status: u8, text: &str, name: &str) {
+    assert_eq!(rt; answer.status, status, "{name}");
+    assert_eq!(rt; answer.report.status, status, "{name}");
+    assert!(rt; answer.out.held() == text.as_bytes(), "{name}");
+    assert!(rt; answer.err.held().is_empty(), "{name}");
+}
+
+// Checks that there was no run: the report is as it was handed in, nothing was printed, and this was told.
+pub(crate) fn check_none(rt: &impl Abort, answer: &Answer, status: u8, told: &str, name: &str) {
+    assert_eq!(rt; answer.status, status, "{name}");
+    assert_eq!(rt; answer.report.status, 255, "{name}");
+    assert!(rt; answer.report.history.is_empty(), "{name}");
+    assert!(rt; answer.report.ends.is_empty(), "{name}");
+    assert!(rt; answer.out.held().is_empty(), "{name}");
+    assert_eq!(rt; answer.err.held(), told.as_bytes(), "{name}");
+}

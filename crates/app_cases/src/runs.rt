@@ -1,0 +1,155 @@
+//! Runs without liars and without faults of disks, and their whole texts.
+
+use crate::calls::{check_ran, run};
+use crate::texts::{ALL, FOUR_FRONT, Node, four, text};
+use hb_rules::Report;
+use std::alloc::{AllocError, Global};
+use std::test::Fail;
+
+// A scenario, the first line of its run, what is printed of each node, and the status.
+struct Row {
+    scenario: &'static str,
+    front: &'static str,
+    nodes: &'static [Node<'static>],
+    status: u8,
+}
+
+const SIX: &str = "epoch 0 batches 6
+batch 0 txs 1
+tx 61
+batch 1 txs 2
+tx 62
+tx 6263
+batch 2 txs 1
+tx 63
+batch 3 txs 1
+tx 64
+batch 4 txs 1
+tx 65
+batch 5 txs 1
+tx 66
+";
+
+const ONCE: &str = "epoch 0 batches 4
+batch 0 txs 1
+tx 61
+batch 1 txs 1
+batch 2 txs 1
+batch 3 txs 0
+";
+
+const ROWS: [Row; 5] = [
+    // one node, whose coins of rounds 0, 1 and 2 are 0, 0 and 1
+    Row {
+        scenario: r#"{"nodes":1,"faulty":0,"epochs":1,"rounds":3,"seed":0,"submit":[{"node":0,"tx":"6869"}]}"#,
+        front: "run nodes 1 faulty 0 version 1 epochs 1\n",
+        nodes: &[("running", "epoch 0 batches 1\nbatch 0 txs 1\ntx 6869\n")],
+        status: 0,
+    },
+    // the same without the last round
+    Row {
+        scenario: r#"{"nodes":1,"faulty":0,"epochs":1,"rounds":2,"seed":0,"submit":[{"node":0,"tx":"6869"}]}"#,
+        front: "run nodes 1 faulty 0 version 1 epochs 1\n",
+        nodes: &[("running", "")],
+        status: 5,
+    },
+    // two quorums of READY that may have no node in common
+    Row {
+        scenario: r#"{"nodes":6,"faulty":1,"epochs":1,"submit":[{"node":0,"tx":"61"},{"node":1,"tx":"62"},{"node":1,"tx":"6263"},
+{"node":2,"tx":"63"},{"node":3,"tx":"64"},{"node":4,"tx":"65"},{"node":5,"tx":"66"}]}"#,
+        front: "run nodes 6 faulty 1 version 1 epochs 1\n",
+        nodes: &[
+            ("running", SIX),
+            ("running", SIX),
+            ("running", SIX),
+            ("running", SIX),
+            ("running", SIX),
+            ("running", SIX),
+        ],
+        status: 0,
+    },
+    // one transaction at three nodes, and at one of them twice
+    Row {
+        scenario: r#"{"nodes":4,"faulty":1,"epochs":1,"submit":[{"node":0,"tx":"61"},{"node":1,"tx":"61"},{"node":2,"tx":"61"},{"node":2,"tx":"61"}]}"#,
+        front: "run nodes 4 faulty 1 version 1 epochs 1\n",
+        nodes: &[
+            ("running", ONCE),
+            ("running", ONCE),
+            ("running", ONCE),
+            ("running", ONCE),
+        ],
+        status: 0,
+    },
+    // nothing was submitted: in each of two epochs four empty batches
+    Row {
+        scenario: r#"{"nodes":1,"faulty":0,"epochs":2}"#,
+        front: "run nodes 1 faulty 0 version 1 epochs 2\n",
+        nodes: &[(
+            "running",
+            "epoch 0 batches 1\nbatch 0 txs 0\nepoch 1 batches 1\nbatch 0 txs 0\n",
+        )],
+        status: 0,
+    },
+];
+
+#[test]
+fn whole_texts(rt: HostRuntime) -> Result<(), Fail> {
+    for row in &ROWS {
+        let answer = run(rt.alloc(), row.scenario)?;
+        let want = text(rt.alloc(), row.front, row.nodes, row.status)?;
+        check_ran(&rt, &answer, row.status, want.as_str(), row.scenario);
+    }
+    Ok(())
+}
+
+#[test]
+fn four_nodes(rt: HostRuntime) -> Result<(), Fail> {
+    let alloc = rt.alloc();
+    let whole = ("running", ALL);
+    for (keys, third, status) in [
+        ("", whole, 0),
+        // nobody minds what comes twice
+        (r#","links":[{"every":1,"at":0,"shape":"once"}]"#, whole, 0),
+        (r#","links":[{"every":1,"at":0,"shape":"twice"}]"#, whole, 0),
+        // node 2 hears nobody but itself
+        (
+            r#","links":[{"to":2,"every":1,"at":0,"shape":"drop"}]"#,
+            ("running", ""),
+            4,
+        ),
+    ] {
+        let scenario = four(alloc, keys)?;
+        let answer = run(alloc, scenario.as_str())?;
+        let nodes = [whole, whole, third, whole];
+        let want = text(alloc, FOUR_FRONT, &nodes, status)?;
+        check_ran(&rt, &answer, status, want.as_str(), keys);
+    }
+    Ok(())
+}
+
+// The kinds of the posts of a run, in order.
+fn kinds(alloc: Global, report: &Report) -> Result<Vec<u8>, AllocError> {
+    let mut kinds = Vec::new(alloc);
+    for post in &report.history {
+        kinds.push(post.bytes.as_slice().first().copied().unwrap_or(0))?;
+    }
+    Ok(kinds)
+}
+
+// One node casts each vote once, and each round has the same five: of three rounds there are 23, of two 15.
+#[test]
+fn histories_of_one_node(rt: HostRuntime) -> Result<(), Fail> {
+    let alloc = rt.alloc();
+    let three =
+        b"\x10\x01\x02\x03\x04\x05\x06\x07\x08\x09\x05\x06\x07\x08\x09\x05\x06\x07\x08\x09\x0a\x11\x12";
+    let two = b"\x10\x01\x02\x03\x04\x05\x06\x07\x08\x09\x05\x06\x07\x08\x09";
+    for (rounds, votes) in [(3, three.as_slice()), (2, two.as_slice())] {
+        let scenario = format!(in alloc;
+            "{{\"nodes\":1,\"faulty\":0,\"epochs\":1,\"rounds\":{rounds},\"seed\":0,\"submit\":[{{\"node\":0,\"tx\":\"6869\"}}]}}"
+        )?;
+        let answer = run(alloc, scenario.as_str())?;
+        let found = kinds(alloc, &answer.report)?;
+        assert_eq!(rt; found.as_slice(), votes, "{rounds} rounds");
+    }
+    Ok(())
+}

@@ -1,0 +1,80 @@
+//! Scenarios of four nodes that submit a transaction each, and the texts of runs.
+
+use std::alloc::{AllocError, Global};
+
+// Four nodes, of which one may be faulty, with a transaction each, up to what else the scenario has.
+const FOUR: &str =
+    r#"{"nodes":4,"faulty":1,"epochs":1,"submit":[{"node":0,"tx":"6130"},{"node":1,"tx":"6131"},{"node":2,"tx":"6132"},{"node":3,"tx":"6133"}]"#;
+
+// The scenario of the four nodes, with these keys besides.
+pub(crate) fn four(alloc: Global, keys: &str) -> Result<String, AllocError> {
+    let mut scenario = String::new(alloc);
+    for part in [FOUR, keys, "}"] {
+        scenario.push_str(part)?;
+    }
+    Ok(scenario)
+}
+
+// The first line of a run of the four nodes.
+pub(crate) const FOUR_FRONT: &str = "run nodes 4 faulty 1 version 1 epochs 1\n";
+
+// The ledgers of the four nodes with the batches of all, and of those but one.
+pub(crate) const ALL: &str = "epoch 0 batches 4
+batch 0 txs 1
+tx 6130
+batch 1 txs 1
+tx 6131
+batch 2 txs 1
+tx 6132
+batch 3 txs 1
+tx 6133
+";
+
+pub(crate) const FIRST_THREE: &str = "epoch 0 batches 3
+batch 0 txs 1
+tx 6130
+batch 1 txs 1
+tx 6131
+batch 2 txs 1
+tx 6132
+";
+
+pub(crate) const LAST_THREE: &str = "epoch 0 batches 3
+batch 1 txs 1
+tx 6131
+batch 2 txs 1
+tx 6132
+batch 3 txs 1
+tx 6133
+";
+
+pub(crate) const WITHOUT_1: &str = "epoch 0 batches 3
+batch 0 txs 1
+tx 6130
+batch 2 txs 1
+tx 6132
+batch 3 txs 1
+tx 6133
+";
+
+// What is printed of a node behind its number: how it stands, and its ledger.
+pub(crate) type Node<'a> = (&'a str, &'a str);
+
+// The text of a run: its first line, what is printed of each node, and its status.
+pub(crate) fn text(
+    alloc: Global,
+    front: &str,
+    nodes: &[Node<'_>],
+    status: u8,
+) -> Result<String, AllocError> {
+    let mut text = String::new(alloc);
+    text.push_str(front)?;
+    for (number, (stands, ledger)) in nodes.iter().enumerate() {
+        let line = format!(in alloc; "node {number} {stands}\n")?;
+        text.push_str(line.as_str())?;
+        text.push_str(ledger)?;
+    }
+    let end = format!(in alloc; "end {status}\n")?;
+    text.push_str(end.as_str())?;
+    Ok(text)
+}
