@@ -1,5 +1,7 @@
 //! Votes and batches against bytes that were put together by hand from the table of formats. Tables are texts, a row a
 //! line.
+//!
+//! `callers` is as any user might write it, and what is proved of it stands on the contracts of hb_wire alone.
 #![tactic(auto)]
 
 #[cfg(test)]
@@ -8,9 +10,12 @@ mod addresses;
 mod batches;
 #[cfg(test)]
 mod bounds;
+mod callers;
 #[cfg(test)]
 mod malformed;
 #[cfg(test)]
 mod probes;
 #[cfg(test)]
 mod spellings;
+
+pub use callers::{deliver, hear, propose, ready, show};
