@@ -19,8 +19,8 @@ all_alone [] = refl
 all_alone (tx ∷ txs) = ap (λ (rest : List (List ℕ)). tx ∷ rest) (all_alone txs)
 
 -- a transaction that stands before has no line, and any other has one
-pub text_known : (t : ℕ) (before : List (List ℕ)) (tx : List ℕ) → is_among before tx ≡ true → tx_text t before tx ≡ []
-text_known t before tx known = rw known refl
+pub text_known : (before : List (List ℕ)) (tx : List ℕ) → is_among before tx ≡ true → tx_text before tx ≡ []
+text_known before tx known = rw known refl
 
-pub text_new : (t : ℕ) (before : List (List ℕ)) (tx : List ℕ) → is_among before tx ≡ false → tx_text t before tx ≡ tx_line tx
-text_new t before tx new = rw new refl
+pub text_new : (before : List (List ℕ)) (tx : List ℕ) → is_among before tx ≡ false → tx_text before tx ≡ tx_line tx
+text_new before tx new = rw new refl

@@ -1,10 +1,10 @@
 -- Texts in order, written one after another.
-use Rattle.std.proofs.Common.{◌≡◌, ℕ, suc, ◌+◌, ◌<◌, List, [], ◌∷◌, ◌++◌, length, get_or, take, drop, Option, Result, Ok, Err, refl, sym, ap, subst, ◌∙◌, arith, add-one, append_assoc, append-nil, drop-cons}
+use Rattle.std.proofs.Common.{◌≡◌, ℕ, ◌+◌, ◌<◌, List, [], ◌∷◌, ◌++◌, length, get_or, take, drop, Option, Result, Ok, Err, refl, sym, ap, subst, ◌∙◌, arith, add-one, append_assoc, append-nil, drop-cons}
 use Rattle.std.specs.List.{flat_map, range_with_len}
 use Rattle.std.proofs.KnownBytes.{Appends-nil}
 use Rattle.std.proofs.Math.Seq.{take-length}
 use Rattle.std.proofs.lemmas.Grind.{flat_map-append}
-use Rattle.std.proofs.lemmas.List.{take-append-drop, take_more, length-take-le}
+use Rattle.std.proofs.lemmas.List.{take-append-drop, take_more}
 use Rattle.std.proofs.lemmas.List.FromFn.{length-range_with_len, get_or-range_with_len}
 use Rattle.hb_base.specs.Outside.{HasCause, Puts}
 use Rattle.script_fault.specs.Line.{Writes}
@@ -50,50 +50,38 @@ parted xs k x d below is =
 
 -- ---- texts in order
 
-order_append : {X : Type 0} (text : ℕ → List (List ℕ) → X → List ℕ) (transactions : X → List (List ℕ)) (number : ℕ) (before : List (List ℕ)) (xs ys : List X)
-    → in_order text transactions number before (xs ++ ys)
-    ≡ in_order text transactions number before xs ++ in_order text transactions (number + length xs) (before ++ flat_map transactions xs) ys
-order_append text transactions number before [] ys =
-    let same : number ≡ number + 0 = omega arith in
-    ap (λ (n : ℕ). in_order text transactions n before ys) same
-    ∙ ap (λ (b : List (List ℕ)). in_order text transactions (number + 0) b ys) (sym (append-nil before))
-order_append {X} text transactions number before (x ∷ xs) ys =
-    let same : number + 1 + length xs ≡ number + suc (length xs) = omega arith in
-    let front : List ℕ = text number before x in
-    let middle : List ℕ = in_order text transactions (number + 1) (before ++ transactions x) xs in
-    ap (λ (bytes : List ℕ). front ++ bytes) (order_append text transactions (number + 1) (before ++ transactions x) xs ys)
-    ∙ sym (append_assoc front middle (in_order text transactions (number + 1 + length xs) ((before ++ transactions x) ++ flat_map transactions xs) ys))
-    ∙ ap (λ (n : ℕ). (front ++ middle) ++ in_order text transactions n ((before ++ transactions x) ++ flat_map transactions xs) ys) same
-    ∙ ap (λ (b : List (List ℕ)). (front ++ middle) ++ in_order text transactions (number + suc (length xs)) b ys)
-    (append_assoc before (transactions x) (flat_map transactions xs))
+order_append : {X : Type 0} (text : List (List ℕ) → X → List ℕ) (transactions : X → List (List ℕ)) (before : List (List ℕ)) (xs ys : List X)
+    → in_order text transactions before (xs ++ ys)
+    ≡ in_order text transactions before xs ++ in_order text transactions (before ++ flat_map transactions xs) ys
+order_append text transactions before [] ys = ap (λ (b : List (List ℕ)). in_order text transactions b ys) (sym (append-nil before))
+order_append text transactions before (x ∷ xs) ys =
+    let front : List ℕ = text before x in
+    let middle : List ℕ = in_order text transactions (before ++ transactions x) xs in
+    ap (λ (bytes : List ℕ). front ++ bytes) (order_append text transactions (before ++ transactions x) xs ys)
+    ∙ sym (append_assoc front middle (in_order text transactions ((before ++ transactions x) ++ flat_map transactions xs) ys))
+    ∙ ap (λ (b : List (List ℕ)). (front ++ middle) ++ in_order text transactions b ys) (append_assoc before (transactions x) (flat_map transactions xs))
 
 -- one thing more
-pub order_step : {X : Type 0} (text : ℕ → List (List ℕ) → X → List ℕ) (transactions : X → List (List ℕ)) (before : List (List ℕ)) (xs : List X) (k : ℕ) (x d : X)
+pub order_step : {X : Type 0} (text : List (List ℕ) → X → List ℕ) (transactions : X → List (List ℕ)) (before : List (List ℕ)) (xs : List X) (k : ℕ) (x d : X)
     → k < length xs → x ≡ get_or xs k d
-    → in_order text transactions 0 before (take (k + 1) xs)
-    ≡ in_order text transactions 0 before (take k xs) ++ text k (before ++ flat_map transactions (take k xs)) x
+    → in_order text transactions before (take (k + 1) xs)
+    ≡ in_order text transactions before (take k xs) ++ text (before ++ flat_map transactions (take k xs)) x
 order_step text transactions before xs k x d below is =
     let more : take (k + 1) xs ≡ take k xs ++ x ∷ [] = take_more xs k d below ∙ ap (λ y. take k xs ++ y ∷ []) (sym is) in
-    let many : 0 + length (take k xs) ≡ k = omega (arith, length-take-le k xs (omega (arith, below))) in
-    let front : List ℕ = in_order text transactions 0 before (take k xs) in
+    let front : List ℕ = in_order text transactions before (take k xs) in
     let until : List (List ℕ) = before ++ flat_map transactions (take k xs) in
-    ap (in_order text transactions 0 before) more ∙ order_append text transactions 0 before (take k xs) (x ∷ [])
-    ∙ ap (λ (n : ℕ). front ++ (text n until x ++ [])) many ∙ ap (λ (bytes : List ℕ). front ++ bytes) (append-nil (text k until x))
+    ap (in_order text transactions before) more ∙ order_append text transactions before (take k xs) (x ∷ [])
+    ∙ ap (λ (bytes : List ℕ). front ++ bytes) (append-nil (text until x))
 
 -- all of it, in front of a thing, at it and behind it
-pub order_split : {X : Type 0} (text : ℕ → List (List ℕ) → X → List ℕ) (transactions : X → List (List ℕ)) (before : List (List ℕ)) (xs : List X) (k : ℕ) (x d : X)
+pub order_split : {X : Type 0} (text : List (List ℕ) → X → List ℕ) (transactions : X → List (List ℕ)) (before : List (List ℕ)) (xs : List X) (k : ℕ) (x d : X)
     → k < length xs → x ≡ get_or xs k d
-    → in_order text transactions 0 before xs
-    ≡ in_order text transactions 0 before (take k xs)
-    ++ (text k (before ++ flat_map transactions (take k xs)) x
-    ++ in_order text transactions (k + 1) ((before ++ flat_map transactions (take k xs)) ++ transactions x) (drop (k + 1) xs))
+    → in_order text transactions before xs
+    ≡ in_order text transactions before (take k xs)
+    ++ (text (before ++ flat_map transactions (take k xs)) x
+    ++ in_order text transactions ((before ++ flat_map transactions (take k xs)) ++ transactions x) (drop (k + 1) xs))
 order_split text transactions before xs k x d below is =
-    let parts : xs ≡ take k xs ++ x ∷ drop (k + 1) xs = parted xs k x d below is in
-    let many : 0 + length (take k xs) ≡ k = omega (arith, length-take-le k xs (omega (arith, below))) in
-    let front : List ℕ = in_order text transactions 0 before (take k xs) in
-    let until : List (List ℕ) = before ++ flat_map transactions (take k xs) in
-    ap (in_order text transactions 0 before) parts ∙ order_append text transactions 0 before (take k xs) (x ∷ drop (k + 1) xs)
-    ∙ ap (λ (n : ℕ). front ++ (text n until x ++ in_order text transactions (n + 1) (until ++ transactions x) (drop (k + 1) xs))) many
+    ap (in_order text transactions before) (parted xs k x d below is) ∙ order_append text transactions before (take k xs) (x ∷ drop (k + 1) xs)
 
 -- ---- things that need not know what stands before them
 

@@ -1,5 +1,5 @@
 -- What is printed of a run. The letters: i is a node of a run with config c.
-use Rattle.std.specs.Prelude.{ℕ, ◌+◌, ◌==◌, ◌&&◌, not, Bool, List, [], ◌∷◌, ◌++◌, length, if◌then◌else◌, codes}
+use Rattle.std.specs.Prelude.{ℕ, ◌==◌, ◌&&◌, not, Bool, List, [], ◌∷◌, ◌++◌, length, if◌then◌else◌, codes}
 use Rattle.std.specs.List.{flat_map, range_with_len, list_all}
 use Rattle.hb_base.specs.Numbers.{Numbers}
 use Rattle.hb_base.specs.NodeSet.{is_in}
@@ -18,42 +18,41 @@ use Rattle.ledger_text.specs.Lines.{run_line, node_line, actor_line, epoch_line,
 
 -- ---- ledgers
 
--- The texts of things that hold transactions, one after another. The text of each is told by its number, from `number` on, and
--- by the transactions before it: those before all of them, and those of the things before it.
-abbrev pub in_order : {X : Type 0} → (ℕ → List (List ℕ) → X → List ℕ) → (X → List (List ℕ)) → ℕ → List (List ℕ) → List X → List ℕ
-in_order text transactions number before [] = []
-in_order text transactions number before (x ∷ xs) =
-    text number before x ++ in_order text transactions (number + 1) (before ++ transactions x) xs
+-- The texts of things that hold transactions, one after another. The text of each is told by the transactions before it: those
+-- before all of them, and those of the things before it.
+abbrev pub in_order : {X : Type 0} → (List (List ℕ) → X → List ℕ) → (X → List (List ℕ)) → List (List ℕ) → List X → List ℕ
+in_order text transactions before [] = []
+in_order text transactions before (x ∷ xs) = text before x ++ in_order text transactions (before ++ transactions x) xs
 
 -- a transaction alone
 abbrev pub alone : List ℕ → List (List ℕ)
 alone tx = tx ∷ []
 
 -- a transaction has a line where it stands for the first time
-abbrev pub tx_text : ℕ → List (List ℕ) → List ℕ → List ℕ
-tx_text t before tx = if is_among before tx then [] else tx_line tx
+abbrev pub tx_text : List (List ℕ) → List ℕ → List ℕ
+tx_text before tx = if is_among before tx then [] else tx_line tx
 
 -- the batch of node j, by its bytes: how many transactions it has, and those of them that are new
 unfoldable pub batch_text : ℕ → List (List ℕ) → List ℕ → List ℕ
-batch_text j before value = batch_line j (length (batch_of value)) ++ in_order tx_text alone 0 before (batch_of value)
+batch_text j before value = batch_line j (length (batch_of value)) ++ in_order tx_text alone before (batch_of value)
 
-abbrev pub item_text : ℕ → List (List ℕ) → Item → List ℕ
-item_text place before item = batch_text item.node before item.value
+abbrev pub item_text : List (List ℕ) → Item → List ℕ
+item_text before item = batch_text item.node before item.value
 
 abbrev pub transactions_of : Item → List (List ℕ)
 transactions_of item = batch_of item.value
 
 -- a list: its epoch, how many batches it has, and each of them
-unfoldable pub list_text : ℕ → List (List ℕ) → Closure → List ℕ
-list_text place before closure =
-    epoch_line closure.0 (length closure.1) ++ in_order item_text transactions_of 0 before closure.1
+unfoldable pub list_text : List (List ℕ) → Closure → List ℕ
+list_text before closure =
+    epoch_line closure.0 (length closure.1) ++ in_order item_text transactions_of before closure.1
 
 abbrev pub closed_transactions : Closure → List (List ℕ)
 closed_transactions closure = transactions_in closure.1
 
 -- the ledger of node i
 abbrev pub ledger_text : Numbers → List Post → ℕ → List ℕ
-ledger_text c posts i = in_order list_text closed_transactions 0 [] (closures c posts i)
+ledger_text c posts i = in_order list_text closed_transactions [] (closures c posts i)
 
 -- ---- a run
 

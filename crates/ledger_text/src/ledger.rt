@@ -51,7 +51,7 @@ fn put_list<'a, O: Sink>(
     requires seen { Remembers seen.old (in_lists ledgers.now node place) }
     ensures seen { OnOk result (Remembers seen.new (in_lists ledgers.now node place ++ transactions_in (listed closing.entry.rest.now))) }
     ensures text { Writes (O.held out.old) (O.held out.new) (O.faults out.old) (O.faults out.new) result
-        (list_text place (in_lists ledgers.now node place) (closure_of closing.entry.epoch (listed closing.entry.rest.now))) }
+        (list_text (in_lists ledgers.now node place) (closure_of closing.entry.epoch (listed closing.entry.rest.now))) }
 {
     put_epoch(closing.epoch, count_of(closing.rest), out)?;
     let spot = Spot {
@@ -75,7 +75,7 @@ fn put_batches<'a, O: Sink>(
     ensures seen { OnOk result
         (Remembers seen.new (in_lists ledgers.now spot.entry.node spot.entry.place ++ transactions_in (listed spot.entry.rest.now))) }
     ensures text { Writes (O.held out.old) (O.held out.new) (O.faults out.old) (O.faults out.new) result
-        (in_order item_text transactions_of 0 (in_lists ledgers.now spot.entry.node spot.entry.place) (listed spot.entry.rest.now)) }
+        (in_order item_text transactions_of (in_lists ledgers.now spot.entry.node spot.entry.place) (listed spot.entry.rest.now)) }
 {
     for index in 0..count_of(spot.rest) {
         let (lane, value) = item(spot.rest, index);
@@ -117,7 +117,7 @@ fn put_transactions<'a, O: Sink>(
     requires seen { Remembers seen.old (before_batch ledgers.now spot) }
     ensures seen { OnOk result (Remembers seen.new (before_batch ledgers.now spot.entry ++ batch_of value.now)) }
     ensures text { Writes (O.held out.old) (O.held out.new) (O.faults out.old) (O.faults out.new) result
-        (in_order tx_text alone 0 (before_batch ledgers.now spot.entry) (batch_of value.now)) }
+        (in_order tx_text alone (before_batch ledgers.now spot.entry) (batch_of value.now)) }
 {
     for t in 0..batch_len(value) {
         put_transaction(ledgers, seen, spot, value, t, out)?;
@@ -141,7 +141,7 @@ fn put_transaction<'a, O: Sink>(
     ensures seen { OnOk result (Remembers seen.new
         ((before_batch ledgers.now spot.entry ++ take t (batch_of value.now)) ++ slice_index_or (batch_of value.now) t [] ∷ [])) }
     ensures text { Writes (O.held out.old) (O.held out.new) (O.faults out.old) (O.faults out.new) result
-        (tx_text t (before_batch ledgers.now spot.entry ++ take t (batch_of value.now)) (slice_index_or (batch_of value.now) t [])) }
+        (tx_text (before_batch ledgers.now spot.entry ++ take t (batch_of value.now)) (slice_index_or (batch_of value.now) t [])) }
 {
     let tx = batch_at(value, t);
     if is_known(ledgers, seen, spot, value, t, tx) {

@@ -59,7 +59,7 @@ returns-clause-text g c =
     let count = c.count_of-index-end.ensures list c.requires.spot.list in
     let all : c.loop-index.index ≡ length list = omega (arith, count, c.loop-index-test.false, c.loop-index.auto.index-end) in
     let before : List (List ℕ) = in_lists c.args.ledgers.now c.args.spot.node c.args.spot.place in
-    writes_as (ap (in_order item_text transactions_of 0 before) (sym (take_all list c.loop-index.index all))) c.loop-index.invariant.text
+    writes_as (ap (in_order item_text transactions_of before) (sym (take_all list c.loop-index.index all))) c.loop-index.invariant.text
 
 pub returns-clause-seen : goal.returns-clause-seen
 returns-clause-seen g c =

@@ -10,6 +10,6 @@ use Rattle.ledger_text.proofs.ledger.put_ledger.Given as goal
 abbrev pub invariant-loop-place : goal.invariant-loop-place
 invariant-loop-place g l = record {
   text : Writes {T = Unit {0}} {E = Failed} (g.O.Sink.held l.fn.out) (g.O.Sink.held l.out) (g.O.Sink.faults l.fn.out) (g.O.Sink.faults l.out) (Ok tt)
-      (in_order list_text closed_transactions 0 [] (take l.place (closures l.ledgers.config l.ledgers.posts l.node)));
+      (in_order list_text closed_transactions [] (take l.place (closures l.ledgers.config l.ledgers.posts l.node)));
   seen : Remembers l.seen (in_lists l.ledgers l.node l.place);
 }

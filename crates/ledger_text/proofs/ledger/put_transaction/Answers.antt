@@ -17,7 +17,7 @@ pub returns-then-is_known-clause-text : goal.returns-then-is_known-clause-text
 returns-then-is_known-clause-text g c =
     let before : List (List ℕ) = before_batch c.args.ledgers.now c.args.spot ++ take c.args.t (batch_of c.args.value.now) in
     let known : is_among before c.batch_at-tx.result.now ≡ true = sym c.is_known.ensures ∙ c.if-is_known.true in
-    writes_as (ap (tx_text c.args.t before) (c.batch_at-tx.ensures []) ∙ text_known c.args.t before c.batch_at-tx.result.now known)
+    writes_as (ap (tx_text before) (c.batch_at-tx.ensures []) ∙ text_known before c.batch_at-tx.result.now known)
     (writes_nothing _ _ tt)
 
 pub returns-then-is_known-clause-seen : goal.returns-then-is_known-clause-seen
@@ -31,7 +31,7 @@ pub returns-clause-text : goal.returns-clause-text
 returns-clause-text g c =
     let before : List (List ℕ) = before_batch c.args.ledgers.now c.args.spot ++ take c.args.t (batch_of c.args.value.now) in
     let new : is_among before c.batch_at-tx.result.now ≡ false = sym c.is_known.ensures ∙ c.if-is_known.false in
-    writes_as (ap (tx_text c.args.t before) (c.batch_at-tx.ensures []) ∙ text_new c.args.t before c.batch_at-tx.result.now new) c.put_tx.ensures
+    writes_as (ap (tx_text before) (c.batch_at-tx.ensures []) ∙ text_new before c.batch_at-tx.result.now new) c.put_tx.ensures
 
 pub returns-clause-seen : goal.returns-clause-seen
 returns-clause-seen g c =

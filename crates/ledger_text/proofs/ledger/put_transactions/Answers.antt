@@ -22,7 +22,7 @@ returns-in_err-put_transaction-clause-text g c =
     let x : List ℕ = get_or batch t [] in
     let inside : t < length batch = omega (arith, c.batch_len-t-end.ensures.exact, c.loop-t-test.true) in
     rw p.1 (writes_stop _ (order_split tx_text alone before batch t x [] inside refl) c.loop-t.invariant.text
-    (writes_as (ap (λ (txs : List (List ℕ)). tx_text t (before ++ txs) x) (all_alone (take t batch))) c.in_err-put_transaction.ensures.text))
+    (writes_as (ap (λ (txs : List (List ℕ)). tx_text (before ++ txs) x) (all_alone (take t batch))) c.in_err-put_transaction.ensures.text))
 
 pub loop-t-preserved : goal.loop-t-preserved
 loop-t-preserved g c =
@@ -34,7 +34,7 @@ loop-t-preserved g c =
     let more : take (t + 1) batch ≡ take t batch ++ x ∷ [] = take_more batch t [] inside in
     record {
       text = writes_on (order_step tx_text alone before batch t x [] inside refl) c.loop-t.invariant.text
-          (writes_as (ap (λ (txs : List (List ℕ)). tx_text t (before ++ txs) x) (all_alone (take t batch))) c.in_ok-put_transaction.ensures.text);
+          (writes_as (ap (λ (txs : List (List ℕ)). tx_text (before ++ txs) x) (all_alone (take t batch))) c.in_ok-put_transaction.ensures.text);
       seen = subst (λ (txs : List (List ℕ)). Remembers c.put_transaction.new.seen txs)
           (append_assoc before (take t batch) (x ∷ []) ∙ ap (λ (txs : List (List ℕ)). before ++ txs) (sym more)) c.in_ok-put_transaction.ensures.seen;
     }
@@ -52,7 +52,7 @@ returns-clause-text g c =
     let batch : List (List ℕ) = batch_of c.args.value.now in
     let before : List (List ℕ) = before_batch c.args.ledgers.now c.args.spot in
     let all : c.loop-t.t ≡ length batch = omega (arith, c.batch_len-t-end.ensures.exact, c.loop-t-test.false, c.loop-t.auto.t-end) in
-    writes_as (ap (in_order tx_text alone 0 before) (sym (take_all batch c.loop-t.t all))) c.loop-t.invariant.text
+    writes_as (ap (in_order tx_text alone before) (sym (take_all batch c.loop-t.t all))) c.loop-t.invariant.text
 
 pub returns-clause-seen : goal.returns-clause-seen
 returns-clause-seen g c =
