@@ -31,6 +31,7 @@ ledger_run s made status run is comparable enough unaltered complete = record {
         record { received = λ k expected. settled.received k (record { post = expected.post; stands = expected.stands; comes = expected.comes; sent = expected.sent }); idle = settled.idle };
   };
   plan = record { votes = run.plan.votes; lies = run.plan.lies; journals = run.plan.journals };
+  full = record { full = run.full.full };
   rule = record { proposals = run.rule.proposals };
   comparable = comparable;
   enough = enough;

@@ -39,7 +39,7 @@ Tells Ran run old new status = AnswersRun run old new status
 
 -- ---- from the status to its cause
 
--- the statuses of runs that no want of memory ended
+-- the statuses of runs in which no correct actor found no memory
 abbrev pub IsRunStatus : ℕ → Type 0
 IsRunStatus status = (status ≡ 0) ⊎ (status ≡ 4) ⊎ (status ≡ 5)
 

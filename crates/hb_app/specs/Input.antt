@@ -16,7 +16,8 @@ abbrev pub ReadsMost : SourceView → SourceView → Type 0
 ReadsMost old new = (bytes : List ℕ) × (length bytes ≡ most_taken) × Consumes old.left new.left bytes × IsFaultless old new
 
 -- What a source was read as. Whole: all that it had. TooLong: as many bytes as are taken at most. Failed: a take failed.
--- Memory: there was none for the bytes that were taken.
+-- Memory: there was none for the bytes, and no
+-- take failed.
 abbrev pub ReadsAs : SourceView → SourceView → Input → Type 0
 ReadsAs old new (Whole bytes) = (length bytes.items ≤ longest_scenario) × ReadsAll old new bytes.items
 ReadsAs old new TooLong = ReadsMost old new

@@ -7,12 +7,14 @@ use Rattle.hb_rules.specs.Ledger.{AreComparable, BatchesAreEnough, AreUnaltered}
 use Rattle.hb_rules.specs.Report.{IsQuiet, StaysWithinPlan, FollowsPoolRule, status_of}
 use Rattle.hb_rules.specs.Strings.{NoCollision}
 use Rattle.quiet_world.specs.Completed.{HasEachCompleted}
+use Rattle.step_driver.specs.Running.{EndsFullByCause}
 
--- The report of a run of a scenario. Its history is legal, nothing is left to do, no more was done than is planned, and each
--- proposal of a correct desk is of the transactions that its pool has. Where no two hashed strings share a digest, of any two
--- correct nodes' ledgers one begins with the other, each list of them has the batches of n - f nodes at least, and what it has
--- of a correct node is what that node's desk proposed. A running node's ledger has each epoch up to which its agreements, and
--- the broadcasts that they accepted, have completed.
+-- The report of a run of a scenario, with its script, its config and its status. Its history is legal, nothing is left to do, no
+-- more was done than is planned, an actor has ended by a full book only where the book is full, and each proposal of a correct
+-- desk is of the oldest transactions of its pool. Where no two hashed strings share a digest, of any two correct nodes' ledgers
+-- one begins with the other, each list of them has the batches of n - f nodes at least, and what it has of a correct node is what
+-- that node's desk proposed. A running node's ledger has a list for each epoch up to which its agreements, and the broadcasts
+-- that they accepted, have completed.
 pub record IsLedgerRun (s : Scenario) (report : Report) : Type 0 where
   pub script : told report.script ≡ s
   pub config : report.config ≡ s.config
@@ -20,6 +22,7 @@ pub record IsLedgerRun (s : Scenario) (report : Report) : Type 0 where
   pub legal : IsLegal report.config report.history.items
   pub quiet : IsQuiet report
   pub plan : StaysWithinPlan report
+  pub full : EndsFullByCause report
   pub rule : FollowsPoolRule report
   pub comparable : NoCollision report.config report.history.items → AreComparable report.config report.history.items
   pub enough : NoCollision report.config report.history.items → BatchesAreEnough report.config report.history.items

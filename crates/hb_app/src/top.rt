@@ -35,7 +35,7 @@ use std::alloc::Global;
 ///   2 if the words are unknown,
 ///   3 if the input is no scenario,
 ///   4 if there was a run that is none of 0, 5 and 9,
-///   5 if it is not 0, and a lane of a correct node has spent its rounds,
+///   5 if it is not 0, and a lane of a correct node works and has spent its rounds,
 ///   6 if the input can't be read,
 ///   7 if the output can't be written, and
 ///   9 if memory ran out.

@@ -1,15 +1,14 @@
 -- What is planned for the disk of an actor: no script plans more stops than a disk may have.
-use Rattle.std.proofs.Common.{◌≡◌, inl, inr, ℕ, suc, ◌+◌, ◌<◌, ◌≤◌, ◌==◌, ◌&&◌, Bool, true, false, List, [], ◌∷◌, length, map, All, AllPairs, if◌then◌else◌, refl, sym, ap, ◌∙◌, arith, sum_by}
+use Rattle.std.proofs.Common.{◌≡◌, inl, inr, ℕ, suc, ◌≤◌, ◌==◌, ◌&&◌, Bool, true, false, List, [], ◌∷◌, length, map, All, AllPairs, if◌then◌else◌, refl, ap, ◌∙◌, arith, sum_by}
 use Rattle.std.proofs.Math.Path.{fun_ext}
 use Rattle.std.proofs.lemmas.Bool.{and_parts, eqb-true, false_from_ne_true}
 use Rattle.std.proofs.lemmas.List.Concat.{length-flat_map}
 use Rattle.std.proofs.lemmas.List.Elements.{All-head, All-tail}
 use Rattle.std.proofs.lemmas.List.Sums.{sum_by-cons}
 use Rattle.hb_base.specs.Limits.{most_stops}
-use Rattle.disk_model.specs.declared.plan.Stop.{Stop}
 use Rattle.net_script.specs.declared.script.ActorPlan.{ActorPlan}
 use Rattle.net_script.specs.declared.script.Script.{Script}
-use Rattle.net_script.specs.Scenario.{Planned, planned, told}
+use Rattle.net_script.specs.Scenario.{planned, told}
 use Rattle.net_script.specs.Sound.{IsPlan, IsBefore, IsScenario}
 use Rattle.hb_rules.specs.Report.{stops_of}
 use Rattle.ledger_run.specs.Team.{planned_stops}

@@ -1,6 +1,5 @@
 -- Places that are ready are a team, and the stage of a run that begins.
-use Rattle.std.proofs.Common.{◌≡◌, ◌≢◌, ◌⊎◌, inl, inr, ℕ, zero, suc, ◌+◌, ◌<◌, ◌≤◌, ◌==◌, ◌||◌, Bool, true, false, nat_lt, ltb-true, ltb-false, le-ltb, List, [], ◌∷◌, ◌++◌, length, map, All, AllPairs, Contains, Option, Some, refl, sym, ap, ap₂, ◌∙◌, subst, arith, slice_get, get_or}
-use Rattle.std.specs.Prelude.{count_by}
+use Rattle.std.proofs.Common.{◌≡◌, ◌≢◌, ℕ, ◌<◌, ◌≤◌, ◌==◌, ◌||◌, Bool, true, false, nat_lt, ltb-true, ltb-false, le-ltb, List, [], ◌∷◌, ◌++◌, length, All, AllPairs, Contains, Some, refl, sym, ap, ap₂, ◌∙◌, subst, arith, slice_get, get_or}
 use Rattle.std.specs.List.{list_any}
 use Rattle.std.proofs.lemmas.Bool.{eqb-true}
 use Rattle.std.proofs.lemmas.List.{length-map}
@@ -27,10 +26,10 @@ use Rattle.hb_rules.specs.Slots.{owed}
 use Rattle.hb_rules.specs.Owing.{slots_of}
 use Rattle.hb_rules.specs.Terms.{Terms, terms_of, is_proper}
 use Rattle.hb_rules.specs.Report.{submitted_at, stops_of, faults_of}
-use Rattle.hb_rules.specs.Book.{SeatView, AreTwo, IsSeatOf}
+use Rattle.hb_rules.specs.Book.{SeatView, IsSeatOf}
 use Rattle.hb_rules.specs.BookLaws.{Watched-refl}
 use Rattle.step_driver.specs.Places.{PlayerView, HiredView, Spot, correct, lying, Name, seat_of, name_of, names}
-use Rattle.step_driver.specs.Delivering.{HasFate, IsSpot, IsStage}
+use Rattle.step_driver.specs.Delivering.{IsSpot, IsStage}
 use Rattle.step_driver.specs.Running.{IsTeam}
 use Rattle.ledger_run.specs.Team.{planned_stops, names_below, IsReady, AreReady}
 use Rattle.ledger_run.proofs.Plans.{planned_count, few_stops}

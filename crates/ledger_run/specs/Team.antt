@@ -1,11 +1,10 @@
 -- The places of a run before it begins. The letters: c is a config, s a script.
-use Rattle.std.specs.Prelude.{◌≡◌, ℕ, ◌+◌, ◌<◌, ◌&&◌, ◌==◌, Bool, true, false, List, [], ◌∷◌, ◌++◌, All, map, if◌then◌else◌}
+use Rattle.std.specs.Prelude.{◌≡◌, ℕ, ◌+◌, ◌<◌, ◌&&◌, ◌==◌, true, false, List, [], ◌∷◌, All, map, if◌then◌else◌}
 use Rattle.std.specs.List.{flat_map, range_with_len}
 use Rattle.hb_base.specs.Numbers.{Numbers}
 use Rattle.hb_base.specs.NodeSet.{is_in}
 use Rattle.disk_model.specs.declared.plan.Stop.{Stop}
 use Rattle.net_script.specs.declared.script.Script.{Script}
-use Rattle.hb_rules.specs.Book.{SeatView}
 use Rattle.step_driver.specs.Places.{Spot, Name, seat_of, name_of, names}
 use Rattle.step_driver.specs.Delivering.{IsSpot}
 

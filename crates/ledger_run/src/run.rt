@@ -14,9 +14,8 @@ use step_driver::{Done, run_steps};
 
 /// Runs a scenario on one thread until nothing is left to do: each actor of each correct node over a disk of its own in
 /// memory, and at each node that lies the voice of the script's liar there. The voices are those of the script's liars, in
-/// their order; where one is missing the liar says nothing. Before each start and each delivery the gate is entered. The status
-/// of the report is for the caller to set. Err is want of memory for what the run stands on; an actor that finds none ends with
-/// that fate.
+/// their order; where one is missing the liar says nothing. Before each delivery the gate is entered. The status of the report
+/// is for the caller to set. Err is want of memory for what the run stands on; an actor that finds none ends with that fate.
 pub fn run_script<G: Gate>(
     alloc: Global,
     script: Script,

@@ -1,5 +1,5 @@
 -- What holds when nothing is left to do.
-use Rattle.std.proofs.Common.{◌≡◌, ℕ, zero, suc, ◌+◌, ◌<◌, ◌≤◌, ◌==◌, Bool, true, false, inl, inr, List, [], ◌∷◌, ◌++◌, length, map, Contains, Some, if◌then◌else◌, refl, sym, ap, ◌∙◌, subst, arith, rules, slice_get}
+use Rattle.std.proofs.Common.{◌≡◌, ℕ, zero, suc, ◌+◌, ◌<◌, ◌≤◌, ◌==◌, Bool, true, false, inl, inr, List, [], ◌∷◌, ◌++◌, length, map, Contains, Some, if◌then◌else◌, refl, sym, ap, ◌∙◌, subst, arith, length-append, rules, slice_get}
 use Rattle.std.specs.Prelude.{nat_lt, count_by, filter_map}
 use Rattle.std.specs.List.{flat_map, range_with_len}
 use Rattle.std.proofs.lemmas.Bool.{cases_lt, and_parts, eqb-true, false_from_ne_true}
@@ -8,13 +8,13 @@ use Rattle.std.proofs.lemmas.List.Elements.{Contains-append_left, Contains-appen
 use Rattle.std.proofs.lemmas.List.FromFn.{length-range_with_len, get_or-range_with_len}
 use Rattle.hb_base.specs.Numbers.{Numbers}
 use Rattle.hb_base.specs.NodeSet.{is_in}
-use Rattle.hb_base.specs.Limits.{most_lies}
+use Rattle.hb_base.specs.Limits.{most_lies, most_posts}
 use Rattle.hb_wire.specs.declared.vote.Vote.{Vote}
 use Rattle.hb_wire.specs.declared.vote.Vote.TheVariants.{Propose}
 use Rattle.hb_wire.specs.declared.post.Post.{Post}
 use Rattle.net_script.specs.declared.script.Script.{Script}
 use Rattle.hb_rules.specs.declared.report.Fate.{Fate}
-use Rattle.hb_rules.specs.declared.report.Fate.TheVariants.{Running, Journal}
+use Rattle.hb_rules.specs.declared.report.Fate.TheVariants.{Running, Journal, Full}
 use Rattle.hb_rules.specs.declared.report.End.{End}
 use Rattle.hb_rules.specs.Actor.{ActorView}
 use Rattle.hb_rules.specs.Book.{SeatView, mine_in, Watched, IsSeatOf}
@@ -35,7 +35,7 @@ use Rattle.step_driver.specs.declared.run.Done.{Done}
 use Rattle.step_driver.specs.Waiting.{nothing_waits}
 use Rattle.step_driver.specs.Places.{PlayerView, HiredView, Spot, correct, lying, Name, name_of, names}
 use Rattle.step_driver.specs.Delivering.{HasMetFault, HasFate, IsPlayer, IsHired, is_from, IsStage, IsOut, IsSupplied, Always}
-use Rattle.step_driver.specs.Running.{IsTeam, actor_of, EndView, end_view, end_at, end_of, IsKept, AreKept, report_of, HasRun}
+use Rattle.step_driver.specs.Running.{IsTeam, actor_of, EndView, end_view, end_at, end_of, IsKept, AreKept, report_of, EndsFullByCause, HasRun}
 use Rattle.step_driver.proofs.Playing.{slice_get-front, IsReceived-on}
 use Rattle.step_driver.proofs.Tellings.{count_append, count_none}
 
@@ -373,6 +373,26 @@ plan all c s done ended same = record {
   votes = λ i x vote is_correct. plan_votes all c s done.history.items i x vote ended is_correct;
   lies = λ a liar. plan_lies all c s done.history.items a ended liar;
   journals = λ end stands journal. plan_journal all c s done.history.items (end_view end) ended (is_end_of all done.ends.items end same stands) journal;
+}
+
+-- ---- full books
+
+plan_full : (all : List Spot) (c : Numbers) (s : Script) (posts : List Post) (end : EndView) → HasEnded c s posts all → IsEndOf all end → end.fate ≡ Full
+    → length posts ≡ most_posts
+plan_full all c s posts end ended of is_full =
+    let pl = of.player in
+    let player = player_at c s posts all of.place pl ended of.stands in
+    let fate : pl.fate ≡ Full = ap (λ (e : EndView). e.fate) of.is ∙ is_full in
+    let seen : length pl.seat.seen ≡ most_posts = subst (λ (f : Fate). HasFate true f pl.seat pl.view) fate player.fate in
+    let seat = ended.stage.seats of.place (correct pl) of.stands in
+    let longer : length posts ≡ length pl.seat.seen + length seat.watched.between =
+    ap (λ (ps : List Post). length ps) seat.watched.is ∙ length-append pl.seat.seen seat.watched.between in
+    omega (arith, seen, longer, ended.legal.short)
+
+pub full : (all : List Spot) (c : Numbers) (s : Script) (done : Done) → HasEnded c s done.history.items all → map end_view done.ends.items ≡ filter_map end_of all
+    → EndsFullByCause (report_of c s done)
+full all c s done ended same = record {
+  full = λ end stands is_full. plan_full all c s done.history.items (end_view end) ended (is_end_of all done.ends.items end same stands) is_full;
 }
 
 -- ---- proposals

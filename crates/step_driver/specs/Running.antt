@@ -1,11 +1,13 @@
 -- A whole run.
-use Rattle.std.specs.Prelude.{◌≡◌, ℕ, ◌+◌, ◌<◌, ◌≤◌, true, List, [], length, map, filter_map, if◌then◌else◌, Option, Some, None, slice_get}
+use Rattle.std.specs.Prelude.{◌≡◌, ℕ, ◌+◌, ◌<◌, ◌≤◌, true, List, [], length, map, Contains, filter_map, if◌then◌else◌, Option, Some, None, slice_get}
 use Rattle.std.specs.Option.{option_to_list}
+use Rattle.hb_base.specs.Limits.{most_posts}
 use Rattle.hb_base.specs.Numbers.{Numbers}
 use Rattle.hb_base.specs.NodeSet.{is_in}
 use Rattle.hb_wire.specs.declared.post.Post.{Post}
 use Rattle.net_script.specs.declared.script.Script.{Script}
 use Rattle.hb_rules.specs.declared.report.Fate.{Fate}
+use Rattle.hb_rules.specs.declared.report.Fate.TheVariants.{Full}
 use Rattle.hb_rules.specs.declared.report.End.{End}
 use Rattle.hb_rules.specs.declared.report.Report.{Report}
 use Rattle.hb_rules.specs.Actor.{IsFew, OwesNothing, AreSeen}
@@ -21,6 +23,10 @@ use Rattle.step_driver.specs.Delivering.{IsStage, IsSupplied, Always, weight, Wa
 -- the report of a run, but for its status
 abbrev pub report_of : Numbers → Script → Done → Report
 report_of c s done = record { config = c; script = s; history = done.history; ends = done.ends; status = 255 }
+
+-- an actor has ended by a full book only where the book is full
+pub record EndsFullByCause (report : Report) : Type 0 where
+  pub full : (end : End) → Contains report.ends.items end → end.fate ≡ Full → length report.history.items ≡ most_posts
 
 -- an actor of a correct node
 abbrev pub actor_of : Name → Option (ℕ × ℕ)

@@ -8,7 +8,7 @@ ghost use Rattle.net_script.specs.declared.script.Script.{Script};
 ghost use Rattle.step_driver.specs.Waiting.{nothing_waits};
 ghost use Rattle.step_driver.specs.Places.{spots, names};
 ghost use Rattle.step_driver.specs.Delivering.{IsStage, IsSupplied, Always, But, most_places, weight, AreFollowed, IsBetween};
-ghost use Rattle.step_driver.specs.Running.{IsTeam, report_of, end_view, end_of, GoesOn, IsTurn, HasRun};
+ghost use Rattle.step_driver.specs.Running.{IsTeam, report_of, EndsFullByCause, end_view, end_of, GoesOn, IsTurn, HasRun};
 
 use crate::coming::count_posts;
 use crate::ends::ends_of;
@@ -37,7 +37,7 @@ pub struct Done {
 /// Runs the places on one thread until nothing is left to do. Each place is started, in their order; then posts are delivered
 /// one by one, in the script's order, and those that come of them. An actor that a stop has left without power is restarted at
 /// once, and all earlier posts that come to it are delivered again. An actor with another refusal ends, and the others go on.
-/// Before each start and each delivery the gate is entered. Err is want of memory for what waits or for the ends.
+/// Before each delivery the gate is entered. Err is want of memory for what waits or for the ends.
 pub fn run_steps<A: Actor<PlainBook>, L: Mouth, G: Gate>(
     alloc: Global,
     script: &Script,
@@ -52,6 +52,7 @@ pub fn run_steps<A: Actor<PlainBook>, L: Mouth, G: Gate>(
     ensures quiet { IfOk result (λ done. IsQuiet (report_of book.config script.now done)) }
     ensures plan { IfOk result (λ done. StaysWithinPlan (report_of book.config script.now done)) }
     ensures rule { IfOk result (λ done. FollowsPoolRule (report_of book.config script.now done)) }
+    ensures full { IfOk result (λ done. EndsFullByCause (report_of book.config script.now done)) }
 {
     let mut places = places;
     let mut book = book;
@@ -78,20 +79,19 @@ fn run_all<A: Actor<PlainBook>, L: Mouth, G: Gate>(
     ensures ends { IfOk result (λ ends. map end_view ends.items ≡ filter_map end_of (spots A.seat A.view places.new.items)) }
 {
     let mut line = Line::new(alloc);
-    start_all(alloc, script, book, places, &mut line, gate)?;
+    start_all(alloc, script, book, places, &mut line)?;
     let mut words = words_of(book.config().seed(), 1);
     run_line(alloc, script, book, places, &mut line, &mut words, gate)?;
     ends_of(alloc, places.as_slice())
 }
 
 // Starts what is at each place, in their order.
-fn start_all<A: Actor<PlainBook>, L: Mouth, G: Gate>(
+fn start_all<A: Actor<PlainBook>, L: Mouth>(
     alloc: Global,
     script: &Script,
     book: &mut PlainBook,
     places: &mut Vec<Place<A, L>>,
     line: &mut Line,
-    gate: &G,
 ) -> Result<(), AllocError>
     requires stage { IsStage book.old.config script.now 0 book.old.posts (spots A.seat A.view places.old.items) }
     requires supplied { IsSupplied Always book.old.config script.now book.old.posts (spots A.seat A.view places.old.items) line.old }
@@ -99,20 +99,19 @@ fn start_all<A: Actor<PlainBook>, L: Mouth, G: Gate>(
         (spots A.seat A.view places.old.items) (spots A.seat A.view places.new.items) line.old line.new) }
 {
     for number in 0..places.len() {
-        start_one(alloc, script, book, places, line, number, gate)?;
+        start_one(alloc, script, book, places, line, number)?;
     }
     Ok(())
 }
 
 // Starts what is at one place, and adds the envelopes of what comes of it.
-fn start_one<A: Actor<PlainBook>, L: Mouth, G: Gate>(
+fn start_one<A: Actor<PlainBook>, L: Mouth>(
     alloc: Global,
     script: &Script,
     book: &mut PlainBook,
     places: &mut Vec<Place<A, L>>,
     line: &mut Line,
     number: usize,
-    gate: &G,
 ) -> Result<(), AllocError>
     requires within { number < length places.old.items }
     requires stage { IsStage book.old.config script.now number book.old.posts (spots A.seat A.view places.old.items) }
@@ -121,7 +120,7 @@ fn start_one<A: Actor<PlainBook>, L: Mouth, G: Gate>(
         (spots A.seat A.view places.old.items) (spots A.seat A.view places.new.items) line.old line.new) }
 {
     let first = count_posts(book);
-    let again = start_at(alloc, script, book, places, number, gate);
+    let again = start_at(alloc, script, book, places, number);
     follow(script, book, places.as_slice(), line, first, number, again)?;
     Ok(())
 }
@@ -203,13 +202,12 @@ fn serve_at<A: Actor<PlainBook>, L: Mouth, G: Gate>(
 }
 
 // Starts what is at one place. The answer is that of `Place::start`.
-fn start_at<A: Actor<PlainBook>, L: Mouth, G: Gate>(
+fn start_at<A: Actor<PlainBook>, L: Mouth>(
     alloc: Global,
     script: &Script,
     book: &mut PlainBook,
     places: &mut Vec<Place<A, L>>,
     number: usize,
-    gate: &G,
 ) -> Option<u32>
     requires within { number < length places.old.items }
     requires stage { IsStage book.old.config script.now number book.old.posts (spots A.seat A.view places.old.items) }
@@ -218,7 +216,6 @@ fn start_at<A: Actor<PlainBook>, L: Mouth, G: Gate>(
     ensures place { IfSome result (λ _. number < length (spots A.seat A.view places.new.items)) }
 {
     let place = &mut places[number];
-    place.enter(gate);
     place.start(alloc, script, book)
 }
 

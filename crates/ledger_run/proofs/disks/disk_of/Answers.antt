@@ -1,5 +1,4 @@
-use Rattle.std.proofs.Common.{◌≡◌, ℕ, length, ap, arith}
-use Rattle.disk_model.specs.declared.plan.Stop.{Stop}
+use Rattle.std.proofs.Common.{length, ap, arith}
 use Rattle.ledger_run.proofs.Plans.{planned_count}
 use Rattle.ledger_run.proofs.disks.disk_of.Goals as goal
 

@@ -1,4 +1,4 @@
-use Rattle.std.proofs.Common.{◌≡◌, ℕ, [], List, ap, sym, ◌∙◌, subst}
+use Rattle.std.proofs.Common.{◌≡◌, [], ap, sym, ◌∙◌, subst}
 use Rattle.hb_base.specs.Numbers.{Numbers}
 use Rattle.hb_rules.specs.Book.{BookView}
 use Rattle.step_driver.specs.Places.{spots, names}

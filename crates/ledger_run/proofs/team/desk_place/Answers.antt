@@ -1,11 +1,11 @@
-use Rattle.std.proofs.Common.{◌≡◌, ℕ, None, refl, sym, ap, ap₂, ◌∙◌, subst, arith, [], List}
+use Rattle.std.proofs.Common.{◌≡◌, ℕ, None, refl, sym, ap, ap₂, ◌∙◌, subst, List}
 use Rattle.std.specs.List.{AllByRecursion}
 use Rattle.hb_base.specs.Limits.{IsTransaction}
-use Rattle.hb_rules.specs.Book.{BookView, SeatView}
+use Rattle.hb_rules.specs.Book.{BookView}
 use Rattle.hb_rules.specs.Terms.{terms_of}
-use Rattle.hb_rules.specs.Report.{submitted_at, stops_of, faults_of}
+use Rattle.hb_rules.specs.Report.{submitted_at, faults_of}
 use Rattle.disk_model.specs.Memory.{new_disk}
-use Rattle.desk_core.specs.Desk.{DeskView, desk_terms}
+use Rattle.desk_core.specs.Desk.{desk_terms}
 use Rattle.ledger_run.specs.declared.node_core.NodeCore.TheVariants.{Desk}
 use Rattle.ledger_run.specs.Cores.{core_terms}
 use Rattle.ledger_run.specs.Team.{planned_stops}

@@ -1,7 +1,7 @@
-use Rattle.std.proofs.Common.{◌≡◌, ℕ, refl, sym, ap, ◌∙◌, subst, arith, []}
-use Rattle.hb_rules.specs.Book.{BookView, SeatView}
+use Rattle.std.proofs.Common.{◌≡◌, sym, ap, ◌∙◌, subst, arith, []}
+use Rattle.hb_rules.specs.Book.{BookView}
 use Rattle.hb_rules.specs.Terms.{terms_of}
-use Rattle.lane_core.specs.Lane.{LaneView, lane_terms}
+use Rattle.lane_core.specs.Lane.{lane_terms}
 use Rattle.ledger_run.specs.declared.node_core.NodeCore.TheVariants.{Lane}
 use Rattle.ledger_run.specs.Cores.{core_terms}
 use Rattle.ledger_run.proofs.Plans.{few_stops}

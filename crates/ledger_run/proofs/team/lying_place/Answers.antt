@@ -1,4 +1,4 @@
-use Rattle.std.proofs.Common.{◌≡◌, ap, ◌∙◌}
+use Rattle.std.proofs.Common.{ap, ◌∙◌}
 use Rattle.hb_rules.specs.Book.{BookView, SeatView}
 use Rattle.step_driver.specs.Places.{hired_view}
 use Rattle.ledger_run.proofs.Ready.{ready_liar}

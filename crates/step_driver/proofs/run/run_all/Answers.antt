@@ -1,11 +1,22 @@
-use Rattle.std.proofs.Common.{◌≡◌, length, refl, ap}
+use Rattle.std.proofs.Common.{◌≡◌, List, length, refl, sym, ap, subst}
 use native.Mathlib.Omega.{arith}
 use Rattle.std.proofs.lemmas.Result.{on_ok_weaker, IfOk-weaker}
+use Rattle.hb_wire.specs.declared.post.Post.{Post}
 use Rattle.rand_chacha.specs.ChaCha.{ChaCha}
 use Rattle.step_driver.specs.Places.{spots}
-use Rattle.step_driver.proofs.Turns.{HasRun-of, words-few, GoesOn-all, AreKept-of}
+use Rattle.step_driver.specs.Delivering.{IsStage, IsSupplied, Always}
+use Rattle.step_driver.proofs.Turns.{HasRun-of, IsSupplied-empty, words-few, GoesOn-all, AreKept-of}
 use Rattle.step_driver.proofs.Occupants.{ends_lent}
 use Rattle.step_driver.proofs.run.run_all.Goals as goal
+
+pub start_all-requires : goal.start_all-requires
+start_all-requires g c =
+    let all = spots g.A.Actor.seat g.A.Actor.view c.args.places.now.items in
+    record {
+      stage = subst (λ (posts : List Post). IsStage c.args.book.now.config c.args.script.now 0 posts all) (sym c.requires.empty) c.requires.stage;
+      supplied = subst (λ (posts : List Post). IsSupplied Always c.args.book.now.config c.args.script.now posts all c.new-line.result) (sym c.requires.empty)
+          (IsSupplied-empty c.args.book.now.config c.args.script.now all c.new-line.result);
+    }
 
 pub run_line-requires-clause-words : goal.run_line-requires-clause-words
 run_line-requires-clause-words g c =

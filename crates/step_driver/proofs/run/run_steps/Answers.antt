@@ -3,7 +3,7 @@ use Rattle.hb_wire.specs.declared.post.Post.{Post}
 use Rattle.hb_rules.specs.History.{IsLegal}
 use Rattle.step_driver.specs.declared.run.Done.{Done}
 use Rattle.step_driver.specs.Places.{spots}
-use Rattle.step_driver.proofs.Endings.{HasEnded, HasEnded-of, quiet, plan, rule}
+use Rattle.step_driver.proofs.Endings.{HasEnded, HasEnded-of, quiet, plan, rule, full}
 use Rattle.step_driver.proofs.run.run_steps.Goals as goal
 
 pub returns : goal.returns
@@ -18,4 +18,5 @@ returns g c =
       quiet = quiet all c.args.book.config c.args.script.now done ended c.in_ok-ends.ensures.ends;
       plan = plan all c.args.book.config c.args.script.now done ended c.in_ok-ends.ensures.ends;
       rule = rule all c.args.book.config c.args.script.now done ended;
+      full = full all c.args.book.config c.args.script.now done ended c.in_ok-ends.ensures.ends;
     }

@@ -2,13 +2,24 @@ use Rattle.std.proofs.Common.{◌≡◌, length, ◌+◌, ℕ, subst}
 use native.Mathlib.Omega.{arith}
 use Rattle.step_driver.specs.Places.{spots}
 use Rattle.step_driver.specs.Running.{GoesOn}
-use Rattle.step_driver.proofs.Turns.{GoesOn-refl, GoesOn-trans}
+use Rattle.step_driver.proofs.Turns.{GoesOn-refl, GoesOn-trans, stage_on, supplied_on}
 use Rattle.step_driver.proofs.Sendings.{spots_count}
 use Rattle.step_driver.proofs.run.start_all.Goals as goal
 
 pub loop-number-init : goal.loop-number-init
 loop-number-init g c =
     GoesOn-refl c.args.script.now 0 c.args.book.now (spots g.A.Actor.seat g.A.Actor.view c.args.places.now.items) c.args.line.now c.requires.stage c.requires.supplied
+
+pub start_one-requires : goal.start_one-requires
+start_one-requires g c =
+    let old = spots g.A.Actor.seat g.A.Actor.view c.args.places.now.items in
+    let new = spots g.A.Actor.seat g.A.Actor.view c.loop-number.places.items in
+    let goes = c.loop-number.invariant in
+    record {
+      within = omega (arith, c.loop-number-test.true, c.len-number-end.ensures, goes.size, spots_count g.A.Actor.seat g.A.Actor.view c.args.places.now.items, spots_count g.A.Actor.seat g.A.Actor.view c.loop-number.places.items);
+      stage = stage_on c.args.script.now c.loop-number.number c.args.book.now c.loop-number.book old new c.args.line.now c.loop-number.line goes;
+      supplied = supplied_on c.args.script.now c.loop-number.number c.args.book.now c.loop-number.book old new c.args.line.now c.loop-number.line goes;
+    }
 
 pub loop-number-preserved : goal.loop-number-preserved
 loop-number-preserved g c =
