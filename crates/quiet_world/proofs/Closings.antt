@@ -88,7 +88,7 @@ closing_cast c e own heard list settled opened accepted =
     absurd (cc (none, some)))
 
 -- an open epoch is closed
-closed_now : (c : Numbers) (submitted : List (List ℕ)) (own : List Vote) (heard : List Hearing) → IsIdle (desk_slots c submitted) own heard
+pub closed_now : (c : Numbers) (submitted : List (List ℕ)) (own : List Vote) (heard : List Hearing) → IsIdle (desk_slots c submitted) own heard
     → (e : ℕ) → e < c.epochs → is_open e own ≡ true → ((j : ℕ) → j < c.n → IsKnown e heard j) → list_any (is_any_closing e) own ≡ true
 closed_now c submitted own heard idle e below opened known =
     let accepted = all_accepted e heard c.n known in

@@ -1,3 +1,9 @@
 pub mod Hearings
 pub mod Closings
+pub mod Rests
+pub mod Knowing
 pub mod Theorems
+pub mod Turning
+pub mod Epochs
+pub mod Actors
+pub mod Statuses

@@ -1,1 +1,3 @@
 pub mod Completed
+pub mod Epochs
+pub mod Spared

@@ -3,4 +3,4 @@
 
 pub mod laws;
 
-pub use laws::quiet_laws;
+pub use laws::{calm_laws, quiet_laws};

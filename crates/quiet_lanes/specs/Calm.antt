@@ -1,0 +1,21 @@
+-- Calm runs: nothing is left to do, and nothing was lost on its way between the nodes that run.
+use Rattle.std.specs.Prelude.{◌≡◌, ℕ, ◌-◌, ◌≤◌, true, false, Some, slice_get}
+use Rattle.hb_base.specs.Counting.{count_nodes}
+use Rattle.hb_base.specs.Numbers.{AreSound}
+use Rattle.net_script.specs.Delivery.{shape_of}
+use Rattle.hb_wire.specs.declared.post.Post.{Post}
+use Rattle.hb_rules.specs.declared.report.Report.{Report}
+use Rattle.hb_rules.specs.History.{IsLegal}
+use Rattle.hb_rules.specs.Report.{is_drop, is_running, IsQuiet}
+use Rattle.hb_rules.specs.Strings.{NoCollision}
+
+-- The report of a calm run. Its history is legal, no two hashed strings share a digest, and nothing is left to do. At least
+-- n - f nodes run, and no post of one of them is dropped on its way to another.
+pub record IsCalm (report : Report) : Type 0 where
+  pub sound : AreSound report.config
+  pub legal : IsLegal report.config report.history.items
+  pub apart : NoCollision report.config report.history.items
+  pub quiet : IsQuiet report
+  pub many : report.config.n - report.config.f ≤ count_nodes report.config.n (is_running report)
+  pub whole : (i k : ℕ) (post : Post) → is_running report i ≡ true → is_running report post.from ≡ true
+      → slice_get report.history.items k ≡ Some post → is_drop (shape_of report.script.links.items post.from i k) ≡ false
