@@ -1,4 +1,4 @@
-ghost use Rattle.std.specs.Prelude.{◌≡◌, ◌+◌, ◌*◌, ◌<◌, ◌≤◌, Bool, true, false, List, [], ◌∷◌, ◌++◌, filter, Option, None, IfSome, IsOk, IfOk, OnOk, OnErr, ◌↔◌};
+ghost use Rattle.std.specs.Prelude.{◌≡◌, ◌+◌, ◌*◌, ◌<◌, ◌≤◌, Bool, true, false, List, [], ◌∷◌, ◌++◌, filter, Option, None, IfSome, IsOk, IfOk, IsTrue, OnOk, OnErr, ◌↔◌};
 ghost use Rattle.hb_wire.specs.declared.vote.Vote.{Vote};
 ghost use Rattle.hb_rules.specs.Hearing.{Hearing, hearing};
 ghost use Rattle.hb_rules.specs.Marks.{decision, any_decision, has};
@@ -6,7 +6,7 @@ ghost use Rattle.hb_rules.specs.Parts.{read_in_agreement};
 ghost use Rattle.hb_rules.specs.Slots.{IsIdle};
 ghost use Rattle.aba_core.specs.Inputs.{with_input};
 ghost use Rattle.aba_core.specs.State.{place_of, AreNew, IsAba};
-ghost use Rattle.aba_core.specs.Standing.{slots_at, Stands, Hears, Takes};
+ghost use Rattle.aba_core.specs.Standing.{slots_at, Shows, Stands, Hears, Takes};
 
 use crate::bits::Bits;
 use crate::round::Round;
@@ -68,7 +68,7 @@ impl Model for Aba {
 impl Aba {
     /// The state of a lane that has cast these votes, of any epoch and part, and has heard nothing since. The node's own
     /// shares of the coins are taken from the deal here. It stands for these votes where they leave nothing owed, as votes
-    /// do that stood after a call; where none of them is of this agreement, it stands for none.
+    /// do that stood after a call; where none of them is of this agreement, it stands for none. It shows them in any case.
     pub fn rebuild(
         alloc: Global,
         config: &Config,
@@ -87,6 +87,7 @@ impl Aba {
         ensures part { IfOk result (λ a. IsIdle (slots_at (place_of a)) (filter (read_in_agreement epoch) own.now) []
             → Stands a (filter (read_in_agreement epoch) own.now) []) }
         ensures new { IfOk result (λ a. filter (read_in_agreement epoch) own.now ≡ [] → Stands a [] []) }
+        ensures shows { IfOk result (λ a. Shows a own.now []) }
     {
         // A config is sound where its liars can be told.
         let _sound = config.liars();
@@ -140,6 +141,20 @@ impl Aba {
             }
             None => Ok(()),
         }
+    }
+
+    /// Whether the lane owes nothing, by all that it has cast and heard, in whatever order it heard it: the rows are asked
+    /// once, at the end. A lane that was asked at each hearing would owe more, since it stops where the coin of a round is the
+    /// bit that it decided by an earlier one, and the shares of the later round may have come first. Err where no memory was
+    /// left for the votes that may be owed.
+    pub fn is_idle(mut self, alloc: Global) -> Result<bool, AllocError>
+        ensures exact { IfOk result (λ idle. (own : List Vote) (heard : List Hearing) → Shows self own heard
+            → IsTrue idle ↔ IsIdle (slots_at (place_of self)) own heard) }
+    {
+        let mut due = Due::new(alloc);
+        due.reserve(self.room())?;
+        self.settle(0, &mut due);
+        Ok(due.votes().is_empty())
     }
 
     /// The bit that the lane has decided: None exactly where it hasn't cast its Decided.

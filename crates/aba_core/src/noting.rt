@@ -52,8 +52,9 @@ impl Aba {
         self.top = self.top.max(round + 1);
     }
 
-    // Takes in a vote that a node has cast: the round in which a row may come to owe something by it, if there is one.
-    pub(crate) fn note(&mut self, from: u8, vote: &Vote) -> Option<u8>
+    /// Takes in a vote that node `from` has cast, and casts nothing: the round in which a row may come to owe something by
+    /// it, if there is one. The state may then stand for votes that leave something owed, which `is_idle` tells.
+    pub fn note(&mut self, from: u8, vote: &Vote) -> Option<u8>
         requires { from < self.old.config.n }
         ensures { Notes self.old self.new (hearing from vote.now) result }
     {

@@ -38,4 +38,5 @@ returns c =
       new = λ none.
           Stands-none c.loop-vote.aba (omega (arith, c.liars-sound.ensures.sound.rounds.0, ap (λ (p : Place). p.config.rounds) built.place))
           (subst (λ (votes : List Vote). Shows c.loop-vote.aba votes []) none part);
+      shows = built.shows;
     }

@@ -1,0 +1,11 @@
+pub mod Slots
+pub mod Outside
+pub mod Noting
+pub mod Carrying
+pub mod Broadcasts
+pub mod LaneEpochs
+pub mod DeskTests
+pub mod Reading
+pub mod Receiving
+pub mod Naming
+pub mod Quietness

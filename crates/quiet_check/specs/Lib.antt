@@ -1,0 +1,5 @@
+pub mod Inside
+pub mod Lanes
+pub mod Desks
+pub mod Receipts
+pub mod Ends
