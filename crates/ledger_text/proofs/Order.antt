@@ -20,9 +20,9 @@ pub writes_line : {T E : Type 0} {h h1 : Option (List ℕ)} {c c1 : ℕ} {r : Re
     → Writes h h1 c c1 r text
 writes_line {h = h} {h1 = h1} {r = r} same put cause = record { bytes = subst (λ bytes. Puts h h1 r bytes) same put; cause = cause }
 
--- lines of five parts and of seven, from the left and from the right
-pub five_parts : (s a b c d e : List ℕ) → s ≡ [] → ((((s ++ a) ++ b) ++ c) ++ d) ++ e ≡ a ++ (b ++ (c ++ (d ++ e)))
-five_parts s a b c d e none = rw none (simp append_assoc)
+-- lines of six parts and of seven, from the left and from the right
+pub six_parts : (s a b c d e f : List ℕ) → s ≡ [] → (((((s ++ a) ++ b) ++ c) ++ d) ++ e) ++ f ≡ a ++ (b ++ (c ++ (d ++ (e ++ f))))
+six_parts s a b c d e f none = rw none (simp append_assoc)
 
 pub seven_parts : (s a b c d e f g : List ℕ) → s ≡ [] → ((((((s ++ a) ++ b) ++ c) ++ d) ++ e) ++ f) ++ g ≡ a ++ (b ++ (c ++ (d ++ (e ++ (f ++ g)))))
 seven_parts s a b c d e f g none = rw none (simp append_assoc)

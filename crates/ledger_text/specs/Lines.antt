@@ -10,10 +10,11 @@ use Rattle.hb_rules.specs.declared.report.Fate.TheVariants.{Running, Memory, Jou
 unfoldable pub counted : List ℕ → ℕ → List ℕ
 counted word number = word ++ decimal number
 
-unfoldable pub run_line : Numbers → List ℕ
-run_line c =
-    counted (codes "run nodes ") c.n ++ (counted (codes " faulty ") c.f ++ (counted (codes " version ") c.version
-    ++ (counted (codes " epochs ") c.epochs ++ codes "\n")))
+-- the first line of a text: a word, and the numbers of the run
+unfoldable pub numbers_line : List ℕ → Numbers → List ℕ
+numbers_line word c =
+    word ++ (counted (codes " nodes ") c.n ++ (counted (codes " faulty ") c.f ++ (counted (codes " version ") c.version
+    ++ (counted (codes " epochs ") c.epochs ++ codes "\n"))))
 
 -- a node, and what it is
 unfoldable pub node_line : ℕ → List ℕ → List ℕ
@@ -41,8 +42,9 @@ batch_line j txs = counted (codes "batch ") j ++ (counted (codes " txs ") txs ++
 unfoldable pub tx_line : List ℕ → List ℕ
 tx_line tx = codes "tx " ++ (encode_lower tx ++ codes "\n")
 
+-- the last line of a text, with a number: of a run the status
 unfoldable pub end_line : ℕ → List ℕ
-end_line status = counted (codes "end ") status ++ codes "\n"
+end_line number = counted (codes "end ") number ++ codes "\n"
 
 unfoldable pub soak_line : ℕ → Numbers → ℕ → List ℕ
 soak_line number c workers =

@@ -14,7 +14,7 @@ use Rattle.hb_rules.specs.Report.{is_running, is_running_fate}
 use Rattle.acs_world.specs.Closed.{Closure, closing_by, is_enough, is_unaltered}
 use Rattle.acs_world.specs.Closures.{closures}
 use Rattle.acs_world.specs.Prefixes.{all_alike}
-use Rattle.ledger_text.specs.Lines.{run_line, node_line, actor_line, epoch_line, batch_line, tx_line, end_line, soak_line, answer_line}
+use Rattle.ledger_text.specs.Lines.{numbers_line, node_line, actor_line, epoch_line, batch_line, tx_line, end_line, soak_line, answer_line}
 
 -- ---- ledgers
 
@@ -75,7 +75,7 @@ node_text report i =
 -- the whole text of a run
 unfoldable pub run_text : Report → List ℕ
 run_text report =
-    run_line report.config ++ (flat_map (node_text report) (range_with_len 0 report.config.n) ++ end_line report.status)
+    numbers_line (codes "run") report.config ++ (flat_map (node_text report) (range_with_len 0 report.config.n) ++ end_line report.status)
 
 -- ---- a generated run
 

@@ -9,5 +9,6 @@ mod search;
 mod seen;
 mod text;
 
-pub use laws::soak_laws;
+pub use laws::{ledger_laws, soak_laws};
+pub use lines::{add_count, put_end, put_numbers, put_status};
 pub use text::{print_run, print_soak};

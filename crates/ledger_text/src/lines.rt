@@ -3,15 +3,15 @@
 ghost use Rattle.std.specs.Prelude.{◌≡◌, ◌+◌, ◌≤◌, ◌++◌, length, codes};
 ghost use Rattle.hb_base.specs.Limits.{longest_transaction};
 ghost use Rattle.script_fault.specs.Line.{Writes};
-ghost use Rattle.ledger_text.specs.Lines.{counted, run_line, node_line, fate_word, actor_line, epoch_line, batch_line, tx_line, end_line, soak_line, yes_or_no, answer_line};
+ghost use Rattle.ledger_text.specs.Lines.{counted, numbers_line, node_line, fate_word, actor_line, epoch_line, batch_line, tx_line, end_line, soak_line, yes_or_no, answer_line};
 
 use hb_base::{Config, Failed, Sink};
 use hb_rules::Fate;
 use script_fault::Line;
 
-// Appends a word and a number.
+/// Appends a word and a number to a line. There must be room for both.
 #[tactic(auto, unfolding(crate::specs::Lines::counted))]
-fn add_count(line: &mut Line, word: &str, number: u64)
+pub fn add_count(line: &mut Line, word: &str, number: u64)
     requires { length line.old + length word.now ≤ 500 }
     ensures value { line.new ≡ line.old ++ counted word.now number }
     ensures len { length line.new ≤ length line.old + length word.now + 20 }
@@ -20,13 +20,15 @@ fn add_count(line: &mut Line, word: &str, number: u64)
     line.number(number)
 }
 
-/// Puts the first line of the text of a run.
-#[tactic(auto, unfolding(crate::specs::Lines::run_line))]
-pub(crate) fn put_run<O: Sink>(config: &Config, out: &mut O) -> Result<(), Failed>
-    ensures { Writes (O.held out.old) (O.held out.new) (O.faults out.old) (O.faults out.new) result (run_line config.now) }
+/// Puts the first line of a text: a word, and the numbers of the run.
+#[tactic(auto, unfolding(crate::specs::Lines::numbers_line))]
+pub fn put_numbers<O: Sink>(word: &str, config: &Config, out: &mut O) -> Result<(), Failed>
+    requires { length word.now ≤ 20 }
+    ensures { Writes (O.held out.old) (O.held out.new) (O.faults out.old) (O.faults out.new) result (numbers_line word.now config.now) }
 {
     let mut line = Line::new();
-    add_count(&mut line, "run nodes ", u64::from(config.n()));
+    line.text(word);
+    add_count(&mut line, " nodes ", u64::from(config.n()));
     add_count(&mut line, " faulty ", u64::from(config.f()));
     add_count(&mut line, " version ", u64::from(config.version()));
     add_count(&mut line, " epochs ", u64::from(config.epochs()));
@@ -111,15 +113,22 @@ pub(crate) fn put_tx<O: Sink>(tx: &[u8], out: &mut O) -> Result<(), Failed>
     out.put(line.as_slice())
 }
 
-/// Puts the last line, with the status.
+/// Puts the last line of a text, with a number: of a run the status.
 #[tactic(auto, unfolding(crate::specs::Lines::end_line))]
-pub(crate) fn put_end<O: Sink>(status: u8, out: &mut O) -> Result<(), Failed>
-    ensures { Writes (O.held out.old) (O.held out.new) (O.faults out.old) (O.faults out.new) result (end_line status) }
+pub fn put_end<O: Sink>(number: u64, out: &mut O) -> Result<(), Failed>
+    ensures { Writes (O.held out.old) (O.held out.new) (O.faults out.old) (O.faults out.new) result (end_line number) }
 {
     let mut line = Line::new();
-    add_count(&mut line, "end ", u64::from(status));
+    add_count(&mut line, "end ", number);
     line.text("\n");
     out.put(line.as_slice())
+}
+
+/// Puts the last line of the text of a run, with its status.
+pub fn put_status<O: Sink>(status: u8, out: &mut O) -> Result<(), Failed>
+    ensures { Writes (O.held out.old) (O.held out.new) (O.faults out.old) (O.faults out.new) result (end_line status) }
+{
+    put_end(u64::from(status), out)
 }
 
 /// Puts the first line of the text of a generated run.

@@ -4,7 +4,7 @@ ghost use Rattle.std.specs.Prelude.{◌≡◌};
 ghost use Rattle.script_fault.specs.Line.{Writes};
 ghost use Rattle.ledger_text.specs.Text.{run_text, soak_text};
 
-use crate::lines::{put_answer, put_end, put_run, put_soak};
+use crate::lines::{put_answer, put_numbers, put_soak, put_status};
 use crate::nodes::put_nodes;
 use acs_world::{batches_ok, comparable, unaltered};
 use hb_base::{Failed, Sink};
@@ -16,9 +16,9 @@ use hb_rules::Report;
 pub fn print_run<O: Sink>(report: &Report, out: &mut O) -> Result<(), Failed>
     ensures { Writes (O.held out.old) (O.held out.new) (O.faults out.old) (O.faults out.new) result (run_text report.now) }
 {
-    put_run(&report.config, out)?;
+    put_numbers("run", &report.config, out)?;
     put_nodes(report, out)?;
-    put_end(report.status, out)
+    put_status(report.status, out)
 }
 
 /// Prints the text of a run of this number, each line by one put: what the run was, whether the ledgers are comparable, have
@@ -32,5 +32,5 @@ pub fn print_soak<O: Sink>(number: u64, report: &Report, out: &mut O) -> Result<
     put_answer("comparable", comparable(report), out)?;
     put_answer("batches", batches_ok(report), out)?;
     put_answer("unaltered", unaltered(report), out)?;
-    put_end(report.status, out)
+    put_status(report.status, out)
 }

@@ -50,4 +50,4 @@ returns g c =
     let unaltered_said = ap (answer_line (codes "unaltered")) (sym (unaltered_is config posts c.unaltered.result c.unaltered.ensures.exact)) in
     writes_then c.in_ok-put_soak.ensures (writes_then (writes_as comparable_said c.in_ok-put_answer.ensures)
     (writes_then (writes_as batches_said c.in_ok-put_answer-2.ensures)
-    (writes_then (writes_as unaltered_said c.in_ok-put_answer-3.ensures) c.put_end.ensures)))
+    (writes_then (writes_as unaltered_said c.in_ok-put_answer-3.ensures) c.put_status.ensures)))

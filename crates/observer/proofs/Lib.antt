@@ -1,0 +1,11 @@
+pub mod Arriving
+pub mod Chained
+pub mod Claimed
+pub mod Closers
+pub mod Computed
+pub mod Leading
+pub mod Places
+pub mod Side
+pub mod Tabled
+pub mod Taken
+pub mod Theorems

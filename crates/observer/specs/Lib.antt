@@ -1,0 +1,5 @@
+pub mod Agreeing
+pub mod Beside
+pub mod Claims
+pub mod Observed
+pub mod Standing

@@ -1,0 +1,8 @@
+//! The text of a history: each post, in order, as it can be read again.
+#![tactic(auto)]
+
+mod hex_pieces;
+mod lines;
+mod text;
+
+pub use text::print_trace;
