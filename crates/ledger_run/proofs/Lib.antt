@@ -5,3 +5,4 @@ pub mod Places
 pub mod Steps
 pub mod Reports
 pub mod Gathered
+pub mod Voices

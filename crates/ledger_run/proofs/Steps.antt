@@ -23,14 +23,6 @@ below_more c k =
     let none : 0 + k ≡ k = omega arith in
     ap (λ (n : ℕ). names_below c n) one ∙ flat_map_more_from (names_at c) 0 k ∙ ap (λ (n : ℕ). names_below c k ++ names_at c n) none
 
-pub none_ready : (s : Script) → AreReady s (names_below s.config 0) []
-none_ready s = record { named = refl; each = λ k d within. absurd (omega (arith, within)) }
-
--- no lane yet
-pub lanes_none : (s : Script) (i : ℕ) (all : List Spot) → AreReady s (names_below s.config i) all
-    → AreReady s (names_below s.config i ++ map (correct_name i) (range_with_len 0 0)) all
-lanes_none s i all ready = subst (λ (names : List Name). AreReady s names all) (sym (append-nil (names_below s.config i))) ready
-
 -- one actor more of a correct node
 pub actor_more : (s : Script) (i x : ℕ) (all : List Spot) (spot : Spot) → AreReady s (names_below s.config i ++ map (correct_name i) (range_with_len 0 x)) all
     → IsReady s spot → name_of spot ≡ correct_name i x → AreReady s (names_below s.config i ++ map (correct_name i) (range_with_len 0 (x + 1))) (all ++ spot ∷ [])

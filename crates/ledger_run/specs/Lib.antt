@@ -2,3 +2,4 @@ pub mod Cores
 pub mod Actors
 pub mod Team
 pub mod Run
+pub mod Voices

@@ -1,5 +1,5 @@
 //! The places of a run: each actor of each correct node, and each node that lies.
-ghost use Rattle.std.specs.Prelude.{◌≡◌, ℕ, ◌+◌, ◌<◌, ◌≤◌, true, false, [], ◌∷◌, ◌++◌, map, IfOk, OnOk};
+ghost use Rattle.std.specs.Prelude.{◌≡◌, ℕ, ◌+◌, ◌<◌, ◌≤◌, true, false, [], ◌∷◌, ◌++◌, length, map, set, slice_index_or, IfOk, IfSome, IfNone, OnOk};
 ghost use Rattle.std.specs.Arc.{arc_value};
 ghost use Rattle.std.specs.List.{range_with_len};
 ghost use Rattle.hb_base.specs.Limits.{most_stops};
@@ -9,6 +9,7 @@ ghost use Rattle.net_script.specs.Sound.{IsScenario};
 ghost use Rattle.net_script.specs.declared.script.Script.{Script};
 ghost use Rattle.step_driver.specs.Places.{spot_of, spots, name_of};
 ghost use Rattle.ledger_run.specs.Actors.{node_seat, node_view};
+ghost use Rattle.ledger_run.specs.Voices.{hears_at, voice_at, without_voice, StandsAt, NoneAt};
 ghost use Rattle.ledger_run.specs.Team.{IsReady, AreReady, correct_name, lying_name, names_at, names_below};
 
 use crate::disks::disk_of;
@@ -21,7 +22,7 @@ use disk_model::MemoryDisk;
 use hb_rules::{Fate, PlainBook};
 use journaled_actor::JournaledActor;
 use lane_core::LaneCore;
-use net_script::Script;
+use net_script::{LiarAt, Script};
 use std::alloc::{AllocError, Global};
 use std::sync::Arc;
 use step_driver::{Hired, Place, Player};
@@ -184,14 +185,39 @@ fn lying_place(
     Place::Lying(Hired::new(alloc, seat, hears, voice))
 }
 
-// How many posts the liar at a node hears, and its voice.
-fn voice_at(script: &Script, voices: &mut Vec<Voice>, node: u8) -> (u32, Voice) {
-    let Some(place) = script.liars.iter().position(|liar| liar.node == node) else {
-        return (0, Voice::silent());
-    };
-    let hears = script.liars[place].hears;
-    match voices.get_mut(place) {
-        Some(voice) => (hears, voice.taken()),
-        None => (hears, Voice::silent()),
+// How many posts the liar at a node hears, and its voice, which is taken out.
+fn voice_at(script: &Script, voices: &mut Vec<Voice>, node: u8) -> (u32, Voice)
+    ensures hears { result.0 ≡ hears_at node script.now.liars.items }
+    ensures voice { result.1.liar ≡ voice_at node script.now.liars.items (map (λ voice. voice.liar) voices.old.items) }
+    ensures left { map (λ voice. voice.liar) voices.new.items ≡ without_voice node script.now.liars.items (map (λ voice. voice.liar) voices.old.items) }
+{
+    match place_of(script.liars.as_slice(), node) {
+        None => (0, Voice::silent()),
+        Some(place) => (script.liars[place].hears, take_voice(voices, place)),
     }
+}
+
+// Takes out the voice at a place. It is silent where no voice is there.
+fn take_voice(voices: &mut Vec<Voice>, place: usize) -> Voice
+    ensures voice { result.liar ≡ slice_index_or (map (λ voice. voice.liar) voices.old.items) place None }
+    ensures left { map (λ voice. voice.liar) voices.new.items ≡ set (map (λ voice. voice.liar) voices.old.items) place None }
+{
+    if place >= voices.len() {
+        return Voice::silent();
+    }
+    let voice = &mut voices[place];
+    voice.taken()
+}
+
+// The place of the liar at a node.
+fn place_of(liars: &[LiarAt], node: u8) -> Option<usize>
+    ensures found { IfSome result (λ place. StandsAt node liars.now place) }
+    ensures none { IfNone result (NoneAt node liars.now (length liars.now)) }
+{
+    for place in 0..liars.len() {
+        if liars[place].node == node {
+            return Some(place);
+        }
+    }
+    None
 }

@@ -4,6 +4,7 @@ pub mod Tellings
 pub mod Playing
 pub mod Stages
 pub mod Sendings
+pub mod Directories
 pub mod Endings
 pub mod Turns
 pub mod Occupants

@@ -1,5 +1,7 @@
 -- Who is at a place that was read.
-use Rattle.std.proofs.Common.{◌≡◌, ℕ, ◌<◌, List, length, Some, ap, ◌∙◌, subst, arith, slice_get, get_or}
+use Rattle.std.proofs.Common.{◌≡◌, ℕ, ◌<◌, List, length, Some, sym, ap, ◌∙◌, subst, arith, slice_get, get_or}
+use Rattle.std.proofs.lemmas.List.{length-map}
+use Rattle.std.proofs.lemmas.Option.{slice_get-get_or}
 use Rattle.std.specs.Prelude.{filter_map}
 use Rattle.hb_rules.specs.Actor.{ActorView}
 use Rattle.hb_rules.specs.Book.{SeatView}
@@ -9,7 +11,17 @@ use Rattle.step_driver.specs.declared.player.Player.{Player}
 use Rattle.step_driver.specs.declared.hired.Hired.{Hired}
 use Rattle.step_driver.specs.Places.{correct, lying, spot_of, spots, player_view, hired_view}
 use Rattle.step_driver.specs.Running.{EndView, end_of}
-use Rattle.step_driver.proofs.Sendings.{spot_at, spots_count}
+use Rattle.step_driver.proofs.Stages.{slice_get-map}
+
+-- an element that was read is the spot at its place
+pub spot_at : {A L : Type 0} (seat : A → SeatView) (view : A → ActorView) (places : List (Place A L)) (p : ℕ) (place : Place A L) → p < length places
+    → place ≡ get_or places p place → slice_get (spots seat view places) p ≡ Some (spot_of seat view place)
+spot_at seat view places p place within is =
+    slice_get-map (spot_of seat view) places p place (slice_get-get_or places p place within ∙ ap (λ (o : Place _ _). Some o) (sym is))
+
+-- as many spots as places
+pub spots_count : {A L : Type 0} (seat : A → SeatView) (view : A → ActorView) (places : List (Place A L)) → length (spots seat view places) ≡ length places
+spots_count seat view places = length-map places (spot_of seat view)
 
 pub correct_at : {A L : Type 0} (seat : A → SeatView) (view : A → ActorView) (places : List (Place A L)) (p : ℕ) (place : Place A L) (player : Player A) → p < length (spots seat view places)
     → place ≡ get_or places p place → place ≡ Correct player → slice_get (spots seat view places) p ≡ Some (correct (player_view seat view player))

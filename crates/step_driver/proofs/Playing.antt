@@ -1,9 +1,8 @@
 -- The calls of one actor.
-use Rattle.std.proofs.Common.{◌≡◌, ◌⊎◌, ℕ, zero, suc, ◌+◌, ◌<◌, ◌≤◌, Bool, true, false, inl, inr, List, [], ◌∷◌, ◌++◌, length, Contains, Option, Some, None, refl, sym, ap, ◌∙◌, subst, append-nil, arith, slice_get, length-append, cond}
+use Rattle.std.proofs.Common.{◌≡◌, ◌⊎◌, ℕ, zero, suc, ◌+◌, ◌<◌, ◌≤◌, Bool, true, false, inl, inr, List, [], ◌∷◌, ◌++◌, length, Contains, Option, Some, None, refl, sym, ap, ◌∙◌, subst, arith, slice_get, length-append, cond}
 use Rattle.std.proofs.lemmas.List.Elements.{Contains-push, Contains-push_cases, Contains-append_left}
 use Rattle.std.proofs.lemmas.Bool.{and_parts}
 use Rattle.hb_base.specs.Numbers.{Numbers}
-use Rattle.hb_base.specs.Limits.{most_posts}
 use Rattle.hb_wire.specs.declared.post.Post.{Post}
 use Rattle.hb_wire.specs.Addresses.{reaches}
 use Rattle.net_script.specs.declared.script.Script.{Script}
@@ -18,7 +17,7 @@ use Rattle.hb_rules.specs.Report.{comes_to, IsReceived, is_running_fate, submitt
 use Rattle.hb_rules.specs.Owing.{slots_of}
 use Rattle.hb_rules.specs.Slots.{owed}
 use Rattle.hb_rules.specs.Terms.{Terms, is_proper}
-use Rattle.std.specs.Prelude.{IfSome, IfErr, OnErr, IsErrOf, Result, Ok, Err}
+use Rattle.std.specs.Prelude.{IfSome}
 use Rattle.step_driver.specs.Places.{PlayerView, left}
 use Rattle.step_driver.specs.Delivering.{IsSound, IsPlayer, HasFate, HasMetFault, Passes, Plays, HasHeard, WasRestarted}
 use Rattle.hb_rules.specs.declared.actor.ActorFault.{ActorFault}
@@ -36,9 +35,6 @@ pub slice_get-none : {A : Type 0} (xs : List A) (k : ℕ) (x : A) → length xs 
 slice_get-none [] k x past stands = cc (stands)
 slice_get-none (y ∷ xs) zero x past stands = omega (arith, past)
 slice_get-none (y ∷ xs) (suc k) x past stands = slice_get-none xs k x (omega (arith, past)) stands
-
-pub IsPrefix-refl : (posts : List Post) → IsPrefix posts posts
-IsPrefix-refl posts = record { rest = []; is = sym (append-nil posts) }
 
 pub IsPrefix-watched : (c : Numbers) (i x : ℕ) (old new : List Post) → Watched c i x old new → IsPrefix old new
 IsPrefix-watched c i x old new watched = record { rest = watched.between; is = watched.is }
@@ -69,9 +65,6 @@ Passes-trans a b c p q r one two = record {
   actor = two.actor ∙ one.actor;
   left = omega (arith, one.left, two.left);
 }
-
-pub left-falls : (old new : ActorView) → Goes old new → new.supply.stops + cond new.supply.off 1 0 ≤ old.supply.stops + cond old.supply.off 1 0
-left-falls old new goes = omega (arith, goes.restarts, goes.budget)
 
 -- what an actor received, after a call
 pub record HasGot (c : Numbers) (s : Script) (old new : PlayerView) : Type 0 where
@@ -200,16 +193,6 @@ HasGot-step c s old new k comes (inr more) = record {
 pub HasGot-none : (c : Numbers) (s : Script) (old new : PlayerView) → new.view.got ≡ [] → HasGot c s old new
 HasGot-none c s old new none = record { each = λ k stands. absurd (Contains-none new.view.got k none stands) }
 
-pub Called-of : (book book' : BookView) (old new : PlayerView) → IsSeatOf book' new.seat
-    → (new.seat.config ≡ old.seat.config) × (new.seat.node ≡ old.seat.node) × (new.seat.actor ≡ old.seat.actor)
-    → Moved old.seat.node old.seat.actor book book' → IsPrefix old.seat.seen new.seat.seen → Goes old.view new.view → new.fate ≡ old.fate → Called book book' old new
-Called-of book book' old new seat same moved seen goes fate = record {
-  passes = record { moved = moved; seat = seat; node = same.1; actor = same.2; left = left-falls old.view new.view goes };
-  seen = seen;
-  goes = goes;
-  fate = fate;
-}
-
 pub IsSound-called : (c : Numbers) (s : Script) (book book' : BookView) (old new : PlayerView) → Called book book' old new → HasGot c s old new → IsSound c s old → IsSound c s new
 IsSound-called c s book book' old new called got sound =
     IsSound-on c s old new sound called.passes.node called.passes.actor called.seen called.goes.terms called.goes.planned called.goes.budget got
@@ -247,11 +230,6 @@ fails_left-falls faults.Journal faults.Full off p q may goes again = omega arith
 fails_left-falls faults.Journal faults.Memory off p q may goes again = omega arith
 fails_left-falls faults.Full next off p q may goes again = absurd (cc (may))
 fails_left-falls faults.Memory next off p q may goes again = absurd (cc (may))
-
-pub off_of : (fault : ActorFault) (off : Bool) → may_restart fault off ≡ true → off ≡ true
-off_of faults.Journal off may = may
-off_of faults.Full off may = absurd (cc (may))
-off_of faults.Memory off may = absurd (cc (may))
 
 -- a restart that succeeded
 pub EndsOr-again : (book0 book book' : BookView) (p0 p q : PlayerView) (stood : ℕ) (fault : ActorFault) → IsFailing book0 book p0 p fault → Called book book' p q
@@ -309,19 +287,6 @@ EndsOr-ended book0 book p0 p fault was not = record {
   restarted = tt;
   live = λ live. absurd (cc (live, was.refused.ended));
 }
-
--- what a refused call tells
-pub refused_of : {T : Type 0} (X : Type 0) (result : Result T ActorFault) (p : PlayerView) → IfErr result (λ fault. fault ≡ faults.Journal → X × IsNamed p.view.supply)
-    → (IsErrOf result faults.Full → length p.seat.seen ≡ most_posts) → OnErr result (p.view.live ≡ false) → IfErr result (λ fault. IsRefused fault p)
-refused_of X (Ok told) p journal full ended = tt
-refused_of X (Err faults.Journal) p journal full ended = record { ended = ended; cause = (journal refl).1 }
-refused_of X (Err faults.Full) p journal full ended = record { ended = ended; cause = full refl }
-refused_of X (Err faults.Memory) p journal full ended = record { ended = ended; cause = tt }
-
-pub again_of : {T : Type 0} (result : Result T ActorFault) (old new : ActorView) → (IsErrOf result faults.Journal → IsOnAgain old new)
-    → IfErr result (λ fault. fault ≡ faults.Journal → IsOnAgain old new)
-again_of (Ok told) old new failed = tt
-again_of (Err fault) old new failed = λ is. failed (ap (λ (f : ActorFault). Err f) is)
 
 -- ---- starts
 

@@ -1,5 +1,5 @@
 -- Envelopes that are added.
-use Rattle.std.proofs.Common.{◌≡◌, ℕ, zero, suc, ◌+◌, ◌-◌, ◌*◌, ◌<◌, ◌≤◌, Bool, true, false, inl, inr, List, [], ◌∷◌, length, Contains, Some, refl, sym, ap, ◌∙◌, subst, arith, slice_get, get_or, length-append}
+use Rattle.std.proofs.Common.{◌≡◌, ℕ, zero, suc, ◌+◌, ◌-◌, ◌*◌, ◌<◌, ◌≤◌, true, false, inl, inr, List, [], ◌∷◌, length, Contains, Some, refl, sym, ap, ◌∙◌, subst, arith, slice_get, get_or, length-append}
 use Rattle.std.specs.Prelude.{not}
 use Rattle.std.proofs.lemmas.List.{length-map}
 use Rattle.std.proofs.lemmas.List.Elements.{Contains-push, Contains-append_left, Contains-append_right}
@@ -12,25 +12,14 @@ use Rattle.net_script.specs.declared.script.Script.{Script}
 use Rattle.net_script.specs.declared.script.Shape.{Shape}
 use Rattle.net_script.specs.declared.script.Shape.TheVariants.{Once, Twice, Late, Drop}
 use Rattle.net_script.specs.Delivery.{shape_of}
-use Rattle.hb_rules.specs.Book.{SeatView}
-use Rattle.hb_rules.specs.Actor.{ActorView}
 use Rattle.hb_rules.specs.Report.{is_drop, comes_to, IsReceived}
 use Rattle.step_driver.specs.declared.envelope.Envelope.{Envelope}
-use Rattle.step_driver.specs.declared.place.Place.{Place}
 use Rattle.step_driver.specs.Waiting.{Waiting, envelope, with_envelope, count_waiting}
-use Rattle.step_driver.specs.Places.{PlayerView, HiredView, Spot, correct, lying, seat_of, spot_of, spots}
+use Rattle.step_driver.specs.Places.{PlayerView, HiredView, Spot, correct, lying, seat_of, name_of, names}
+use Rattle.step_driver.specs.Directory.{Groups, IsDirectory, leads_to, led_to, places_where}
 use Rattle.step_driver.specs.Delivering.{IsReachedBy, IsOut, IsSentTo, IsResentTo, IsSent, AreSent, AreResentTo, AreResent}
 use Rattle.step_driver.proofs.Stages.{slice_get-map}
-
--- an element that was read is the spot at its place
-pub spot_at : {A L : Type 0} (seat : A → SeatView) (view : A → ActorView) (places : List (Place A L)) (p : ℕ) (place : Place A L) → p < length places
-    → place ≡ get_or places p place → slice_get (spots seat view places) p ≡ Some (spot_of seat view place)
-spot_at seat view places p place within is =
-    slice_get-map (spot_of seat view) places p place (slice_get-get_or places p place within ∙ ap (λ (o : Place _ _). Some o) (sym is))
-
--- as many spots as places
-pub spots_count : {A L : Type 0} (seat : A → SeatView) (view : A → ActorView) (places : List (Place A L)) → length (spots seat view places) ≡ length places
-spots_count seat view places = length-map places (spot_of seat view)
+use Rattle.step_driver.proofs.Directories.{places_from-has, places_from-few, led_to-is, reaches-leads}
 
 pub out-kept : (shape : Shape) (e : Envelope) (w : Waiting) (k p : ℕ) → IsOut w k p → IsOut (with_envelope shape e w) k p
 out-kept Once e w k p (inl out) = inl (Contains-append_left w.prompt (e ∷ []) (envelope k p) out)
@@ -61,62 +50,101 @@ count-once e w = omega (arith, length-append w.prompt (e ∷ []))
 
 -- ---- one post
 
-pub IsSent-start : (c : Numbers) (s : Script) (post : Post) (k : ℕ) (all : List Spot) (w : Waiting) → IsSent c s post k all 0 w w
-IsSent-start c s post k all w = record { kept = λ j p out. out; sent = λ p pl below stands comes. absurd (omega (arith, below)); few = omega arith }
+slice_get-below : {A : Type 0} (xs : List A) (p : ℕ) (x : A) → slice_get xs p ≡ Some x → p < length xs
+slice_get-below [] p x stands = absurd (cc (stands))
+slice_get-below (y ∷ xs) zero x stands = omega arith
+slice_get-below (y ∷ xs) (suc p) x stands = omega (arith, slice_get-below xs p x stands)
+
+-- the envelopes of post k were added, for each actor at the first n places of a list to which it comes
+pub record AreSentIn (c : Numbers) (s : Script) (post : Post) (k : ℕ) (all : List Spot) (ps : List ℕ) (n : ℕ) (old new : Waiting) : Type 0 where
+  pub kept : (j p : ℕ) → IsOut old j p → IsOut new j p
+  pub sent : (i p : ℕ) (pl : PlayerView) → i < n → slice_get ps i ≡ Some p → slice_get all p ≡ Some (correct pl)
+      → comes_to c s post pl.seat.node pl.seat.actor k ≡ true → IsOut new k p
+  pub few : count_waiting new ≤ count_waiting old + 2 * n
+
+pub AreSentIn-start : (c : Numbers) (s : Script) (post : Post) (k : ℕ) (all : List Spot) (ps : List ℕ) (w : Waiting) → AreSentIn c s post k all ps 0 w w
+AreSentIn-start c s post k all ps w = record { kept = λ j p out. out; sent = λ i p pl below listed stands comes. absurd (omega (arith, below)); few = omega arith }
 
 -- the place is not reached
-pub IsSent-skip : (c : Numbers) (s : Script) (post : Post) (k : ℕ) (all : List Spot) (n : ℕ) (old w : Waiting) (spot : Spot) (told : Bool) → slice_get all n ≡ Some spot
-    → IsReachedBy c post spot told → told ≡ false → IsSent c s post k all n old w → IsSent c s post k all (n + 1) old w
-IsSent-skip c s post k all n old w spot told stands reached not_told was = record {
+AreSentIn-skip : (c : Numbers) (s : Script) (post : Post) (k : ℕ) (all : List Spot) (ps : List ℕ) (n q : ℕ) (old w : Waiting) (spot : Spot)
+    → slice_get ps n ≡ Some q → slice_get all q ≡ Some spot → IsReachedBy c post spot false → AreSentIn c s post k all ps n old w → AreSentIn c s post k all ps (n + 1) old w
+AreSentIn-skip c s post k all ps n q old w spot listed stands missed was = record {
   kept = was.kept;
-  sent = λ p pl below there comes. elim (cases_lt p n) [
-    | inl before ↦ was.sent p pl before there comes
-    | inr after ↦ absurd (missed pl (here p pl below after there) comes)
+  sent = λ i p pl below at there comes. elim (cases_lt i n) [
+    | inl before ↦ was.sent i p pl before at there comes
+    | inr after ↦ absurd (not_here pl (here i p pl below after at there) comes)
   ];
   few = omega (arith, was.few);
 }
   where
-    here : (p : ℕ) (pl : PlayerView) → p < n + 1 → n ≤ p → slice_get all p ≡ Some (correct pl) → spot ≡ correct pl
-    here p pl below after there =
-        let same : p ≡ n = omega (arith, below, after) in
-        let found : slice_get all n ≡ Some (correct pl) = ap (λ (q : ℕ). slice_get all q) (sym same) ∙ there in
+    here : (i p : ℕ) (pl : PlayerView) → i < n + 1 → n ≤ i → slice_get ps i ≡ Some p → slice_get all p ≡ Some (correct pl) → spot ≡ correct pl
+    here i p pl below after at there =
+        let same : i ≡ n = omega (arith, below, after) in
+        let again : slice_get ps n ≡ Some p = ap (λ (m : ℕ). slice_get ps m) (sym same) ∙ at in
+        let is : q ≡ p = cc in
+        let found : slice_get all q ≡ Some (correct pl) = ap (λ (r : ℕ). slice_get all r) is ∙ there in
         cc
 
-    missed : (pl : PlayerView) → spot ≡ correct pl → comes_to c s post pl.seat.node pl.seat.actor k ≡ true → ⊥
-    missed pl is comes =
-        let is_told : told ≡ reaches c.n post pl.seat.node pl.seat.actor = subst (λ (o : Spot). IsReachedBy c post o told) is reached in
+    not_here : (pl : PlayerView) → spot ≡ correct pl → comes_to c s post pl.seat.node pl.seat.actor k ≡ true → ⊥
+    not_here pl is comes =
+        let is_told : false ≡ reaches c.n post pl.seat.node pl.seat.actor = subst (λ (o : Spot). IsReachedBy c post o false) is missed in
         let reaches_it = (and_parts (reaches c.n post pl.seat.node pl.seat.actor) (not (is_drop (shape_of s.links.items post.from pl.seat.node k))) comes).0 in
-        cc (not_told, is_told, reaches_it)
+        cc (is_told, reaches_it)
 
 -- the place is reached, and its envelope was added
-pub IsSent-add : (c : Numbers) (s : Script) (post : Post) (k : ℕ) (all : List Spot) (n : ℕ) (old w w' : Waiting) (spot : Spot) → slice_get all n ≡ Some spot
-    → w' ≡ with_envelope (shape_of s.links.items post.from (seat_of spot).node k) (envelope k n) w → IsSent c s post k all n old w → IsSent c s post k all (n + 1) old w'
-IsSent-add c s post k all n old w w' spot stands added was =
+AreSentIn-add : (c : Numbers) (s : Script) (post : Post) (k : ℕ) (all : List Spot) (ps : List ℕ) (n q : ℕ) (old w w' : Waiting) (spot : Spot)
+    → slice_get ps n ≡ Some q → slice_get all q ≡ Some spot
+    → w' ≡ with_envelope (shape_of s.links.items post.from (seat_of spot).node k) (envelope k q) w → AreSentIn c s post k all ps n old w
+    → AreSentIn c s post k all ps (n + 1) old w'
+AreSentIn-add c s post k all ps n q old w w' spot listed stands added was =
     let shape = shape_of s.links.items post.from (seat_of spot).node k in
     record {
-      kept = λ j p out. subst (λ (v : Waiting). IsOut v j p) (sym added) (out-kept shape (envelope k n) w j p (was.kept j p out));
-      sent = λ p pl below there comes. elim (cases_lt p n) [
-        | inl before ↦ subst (λ (v : Waiting). IsOut v k p) (sym added) (out-kept shape (envelope k n) w k p (was.sent p pl before there comes))
+      kept = λ j p out. subst (λ (v : Waiting). IsOut v j p) (sym added) (out-kept shape (envelope k q) w j p (was.kept j p out));
+      sent = λ i p pl below at there comes. elim (cases_lt i n) [
+        | inl before ↦ subst (λ (v : Waiting). IsOut v k p) (sym added) (out-kept shape (envelope k q) w k p (was.sent i p pl before at there comes))
         | inr after ↦
-            let same : p ≡ n = omega (arith, below, after) in
-            subst (λ (q : ℕ). IsOut w' k q) (sym same) (subst (λ (v : Waiting). IsOut v k n) (sym added)
-            (out-added shape w k n (comes_here pl (ap (λ (q : ℕ). slice_get all q) (sym same) ∙ there) comes)))
+            let same : p ≡ q = here i p below after at in
+            subst (λ (r : ℕ). IsOut w' k r) (sym same) (subst (λ (v : Waiting). IsOut v k q) (sym added)
+            (out-added shape w k q (comes_here pl (ap (λ (r : ℕ). slice_get all r) (sym same) ∙ there) comes)))
       ];
-      few = omega (arith, was.few, count-added shape (envelope k n) w, ap (λ (v : Waiting). count_waiting v) added);
+      few = omega (arith, was.few, count-added shape (envelope k q) w, ap (λ (v : Waiting). count_waiting v) added);
     }
   where
-    comes_here : (pl : PlayerView) → slice_get all n ≡ Some (correct pl) → comes_to c s post pl.seat.node pl.seat.actor k ≡ true
+    here : (i p : ℕ) → i < n + 1 → n ≤ i → slice_get ps i ≡ Some p → p ≡ q
+    here i p below after at =
+        let same : i ≡ n = omega (arith, below, after) in
+        let again : slice_get ps n ≡ Some p = ap (λ (m : ℕ). slice_get ps m) (sym same) ∙ at in
+        cc
+
+    comes_here : (pl : PlayerView) → slice_get all q ≡ Some (correct pl) → comes_to c s post pl.seat.node pl.seat.actor k ≡ true
         → not (is_drop (shape_of s.links.items post.from (seat_of spot).node k)) ≡ true
     comes_here pl there comes =
         let is : spot ≡ correct pl = cc in
         subst (λ (o : Spot). not (is_drop (shape_of s.links.items post.from (seat_of o).node k)) ≡ true) (sym is)
         (and_parts (reaches c.n post pl.seat.node pl.seat.actor) (not (is_drop (shape_of s.links.items post.from pl.seat.node k))) comes).1
 
-pub IsSent-step : (c : Numbers) (s : Script) (post : Post) (k : ℕ) (all : List Spot) (n : ℕ) (old w w' : Waiting) (spot : Spot) → slice_get all n ≡ Some spot
-    → IsSentTo c s post k n spot w w' → IsSent c s post k all n old w → IsSent c s post k all (n + 1) old w'
-IsSent-step c s post k all n old w w' spot stands (inl (missed, same)) was =
-    subst (λ (v : Waiting). IsSent c s post k all (n + 1) old v) (sym same) (IsSent-skip c s post k all n old w spot false stands missed refl was)
-IsSent-step c s post k all n old w w' spot stands (inr added) was = IsSent-add c s post k all n old w w' spot stands added was
+pub AreSentIn-step : (c : Numbers) (s : Script) (post : Post) (k : ℕ) (all : List Spot) (ps : List ℕ) (n q : ℕ) (old w w' : Waiting) (spot : Spot)
+    → slice_get ps n ≡ Some q → slice_get all q ≡ Some spot → IsSentTo c s post k q spot w w' → AreSentIn c s post k all ps n old w → AreSentIn c s post k all ps (n + 1) old w'
+AreSentIn-step c s post k all ps n q old w w' spot listed stands (inl (missed, same)) was =
+    subst (λ (v : Waiting). AreSentIn c s post k all ps (n + 1) old v) (sym same) (AreSentIn-skip c s post k all ps n q old w spot listed stands missed was)
+AreSentIn-step c s post k all ps n q old w w' spot listed stands (inr added) was = AreSentIn-add c s post k all ps n q old w w' spot listed stands added was
+
+-- a post comes only to places to which its address leads
+pub IsSent-of : (c : Numbers) (s : Script) (post : Post) (k : ℕ) (all : List Spot) (groups : Groups) (ps : List ℕ) (n : ℕ) (old new : Waiting) → IsDirectory c.n groups (names all)
+    → ps ≡ led_to groups post → n ≡ length ps → AreSentIn c s post k all ps n old new → IsSent c s post k all (length all) old new
+IsSent-of c s post k all groups ps n old new directory is all_of_them sent = record {
+  kept = sent.kept;
+  sent = λ p pl below there comes.
+      let reaches_it = (and_parts (reaches c.n post pl.seat.node pl.seat.actor) (not (is_drop (shape_of s.links.items post.from pl.seat.node k))) comes).0 in
+      let found = places_from-has 0 (leads_to c.n post) (names all) p (name_of (correct pl)) (slice_get-map name_of all p (correct pl) there)
+      (reaches-leads c.n post pl.seat.node pl.seat.actor reaches_it) in
+      let at : slice_get ps found.0 ≡ Some p = ap (λ (qs : List ℕ). slice_get qs found.0) leads ∙ found.1 ∙ ap (λ (q : ℕ). Some q) (omega arith) in
+      sent.sent found.0 p pl (omega (arith, slice_get-below ps found.0 p at, all_of_them)) at there comes;
+  few = omega (arith, sent.few, all_of_them, ap (λ (qs : List ℕ). length qs) leads, places_from-few 0 (leads_to c.n post) (names all), length-map all name_of);
+}
+  where
+    leads : ps ≡ places_where (leads_to c.n post) (names all)
+    leads = is ∙ led_to-is c.n groups (names all) post directory
 
 -- ---- all new posts
 
@@ -140,11 +168,6 @@ comes_of c s posts i x k post stands received =
   where
     same : received.post ≡ post
     same = let there = received.stands in cc
-
-slice_get-below : {A : Type 0} (xs : List A) (p : ℕ) (x : A) → slice_get xs p ≡ Some x → p < length xs
-slice_get-below [] p x stands = absurd (cc (stands))
-slice_get-below (y ∷ xs) zero x stands = omega arith
-slice_get-below (y ∷ xs) (suc p) x stands = omega (arith, slice_get-below xs p x stands)
 
 pub IsSending-step : (c : Numbers) (s : Script) (posts : List Post) (all : List Spot) (first k places : ℕ) (post : Post) (old w w' : Waiting) → first ≤ k → places ≤ 272 → places ≡ length all
     → slice_get posts k ≡ Some post → IsSent c s post k all places w w' → IsSending c s posts all first k old w → IsSending c s posts all first (k + 1) old w'

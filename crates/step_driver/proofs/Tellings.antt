@@ -8,7 +8,6 @@ use Rattle.hb_base.specs.NodeSet.{is_in}
 use Rattle.hb_base.specs.Limits.{most_lies}
 use Rattle.hb_wire.specs.declared.post.Post.{Post}
 use Rattle.hb_rules.specs.Book.{SeatView, BookView, mine_in, Watched, Posted, IsSeatOf, Moved}
-use Rattle.hb_rules.specs.BookLaws.{Moved-refl}
 use Rattle.step_driver.specs.Delivering.{is_from}
 use Rattle.step_driver.specs.Telling.{Tells}
 
@@ -39,9 +38,6 @@ count_one i posts post from =
 -- what is known of a liar's seat
 liar_seat : (book : BookView) (seat : SeatView) → IsSeatOf book seat → is_in book.config.liars seat.node ≡ true → is_in seat.config.liars seat.node ≡ true
 liar_seat book seat is_seat liar = ap (λ (c : Numbers). is_in c.liars seat.node) is_seat.config ∙ liar
-
-pub Tells-none : (book : BookView) (seat : SeatView) (told : ℕ) → IsSeatOf book seat → count_by (is_from seat.node) seat.seen ≡ told → told ≤ most_lies → Tells book book seat seat told
-Tells-none book seat told is_seat said few = record { moved = Moved-refl seat.node seat.actor book; seat = is_seat; node = refl; actor = refl; said = said; few = few }
 
 pub Tells-refused : (book book' : BookView) (old new : SeatView) (told : ℕ) → IsSeatOf book old → is_in book.config.liars old.node ≡ true → Moved old.node old.actor book book'
     → IsSeatOf book' new → new.node ≡ old.node → new.actor ≡ old.actor → Watched old.config old.node old.actor old.seen new.seen

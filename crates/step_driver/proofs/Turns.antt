@@ -1,7 +1,7 @@
 -- A place that was read out of the list of places is served, and set there again.
-use Rattle.std.proofs.Common.{◌≡◌, ◌≢◌, ℕ, zero, suc, ◌+◌, ◌*◌, ◌<◌, ◌≤◌, ◌^◌, Bool, true, false, inl, inr, List, [], ◌∷◌, ◌++◌, length, map, set, take, remove, Option, Some, None, refl, sym, ap, ◌∙◌, subst, arith, slice_get, get_or}
+use Rattle.std.proofs.Common.{◌≡◌, ◌≢◌, ℕ, zero, suc, ◌+◌, ◌*◌, ◌<◌, ◌≤◌, ◌^◌, Bool, true, false, inl, inr, List, [], ◌∷◌, ◌++◌, length, set, take, remove, Option, Some, None, refl, sym, ap, ◌∙◌, subst, arith, slice_get, get_or}
 use Rattle.std.specs.Prelude.{nat_lt, sum_by, IfSome, filter_map}
-use Rattle.std.proofs.lemmas.List.{map-set, take_more, length-set, map-append}
+use Rattle.std.proofs.lemmas.List.{map-set, take_more, length-set}
 use Rattle.std.proofs.lemmas.List.Sums.{sum_by-cons}
 use Rattle.std.proofs.lemmas.List.Elements.{filter_map-append}
 use Rattle.std.proofs.lemmas.Option.{slice_get_within}
@@ -10,7 +10,6 @@ use Rattle.std.proofs.lemmas.Bool.Decides.{nat_tests}
 use Rattle.hb_base.specs.Numbers.{Numbers}
 use Rattle.hb_wire.specs.declared.post.Post.{Post}
 use Rattle.net_script.specs.declared.script.Script.{Script}
-use Rattle.hb_rules.specs.declared.report.End.{End}
 use Rattle.hb_rules.specs.Actor.{ActorView}
 use Rattle.hb_rules.specs.Book.{SeatView, BookView, IsSeatOf}
 use Rattle.step_driver.specs.declared.place.Place.{Place}
@@ -22,9 +21,9 @@ use Rattle.step_driver.specs.Waiting.{Waiting, nothing_waits, count_waiting, nex
 use Rattle.step_driver.proofs.Takings.{IsTakenOut}
 use Rattle.step_driver.specs.Places.{Spot, correct, lying, seat_of, spot_of, spots, Name, names, left_at}
 use Rattle.step_driver.specs.Delivering.{IsSpot, Serves, IsStage, IsSupplied, Always, But, weight, IsBetween, AreFollowed, most_places}
-use Rattle.step_driver.specs.Running.{IsTeam, EndView, end_view, end_of, ends_at, IsKeptAt, AreKept, GoesOn, IsTurn, HasRun}
+use Rattle.step_driver.specs.Running.{IsTeam, EndView, end_of, ends_at, IsKeptAt, AreKept, GoesOn, IsTurn, HasRun}
 use Rattle.step_driver.proofs.Stages.{IsServed-from, IsStage-served, WasServed-from, WasServed-none, weight-served}
-use Rattle.step_driver.proofs.Sendings.{spot_at, spots_count}
+use Rattle.step_driver.proofs.Occupants.{spot_at, spots_count}
 
 -- ---- tests
 
@@ -165,10 +164,6 @@ stage_on s n a b x y u v goes = subst (λ (d : Numbers). IsStage d s n b.posts y
 pub supplied_on : (s : Script) (n : ℕ) (a b : BookView) (x y : List Spot) (u v : Waiting) → GoesOn s n a b x y u v → IsSupplied Always b.config s b.posts y v
 supplied_on s n a b x y u v goes = subst (λ (d : Numbers). IsSupplied Always d s b.posts y v) (sym goes.config) goes.supplied
 
-pub stage_all : (s : Script) (n : ℕ) (a b : BookView) (x y : List Spot) (u v : Waiting) → GoesOn s n a b x y u v → n ≡ length x → IsStage b.config s (length y) b.posts y
-stage_all s n a b x y u v goes is =
-    subst (λ (m : ℕ). IsStage b.config s m b.posts y) (is ∙ sym goes.size) (stage_on s n a b x y u v goes)
-
 -- ---- the measure at the start
 
 left-few : (c : Numbers) (s : Script) (started : Bool) (spot : Spot) → IsSpot c s started spot → left_at spot ≤ 4
@@ -301,10 +296,6 @@ words-few s n a b x y u v c empty rests stage goes =
     subst (λ (w : Waiting). weight a.posts x w + 1 < 2 ^ 68) (sym rests)
     (weight-few c s a.posts x (subst (λ (posts : List Post). IsStage c s 0 posts x) (sym empty) stage)) in
     omega (arith, few, goes.less)
-
-pub ends_pushed : (ends ends' : List End) (end : End) (spot : Spot) → ends' ≡ ends ++ end ∷ [] → ends_at spot ≡ end_view end ∷ [] → map end_view ends' ≡ map end_view ends ++ ends_at spot
-ends_pushed ends ends' end spot pushed is =
-    ap (λ (es : List End). map end_view es) pushed ∙ map-append end_view ends (end ∷ []) ∙ ap (λ (es : List EndView). map end_view ends ++ es) (sym is)
 
 -- two calls, of which the second began with all places started
 pub GoesOn-all : (s : Script) (a b c : BookView) (x y z : List Spot) (u v w : Waiting) → GoesOn s (length x) a b x y u v → GoesOn s (length y) b c y z v w → GoesOn s (length x) a c x z u w

@@ -3,6 +3,7 @@
 
 mod block;
 mod coming;
+mod directory;
 mod ends;
 mod envelope;
 mod hired;

@@ -7,10 +7,12 @@ ghost use Rattle.hb_rules.specs.Report.{IsQuiet, StaysWithinPlan, FollowsPoolRul
 ghost use Rattle.net_script.specs.declared.script.Script.{Script};
 ghost use Rattle.step_driver.specs.Waiting.{nothing_waits};
 ghost use Rattle.step_driver.specs.Places.{spots, names};
+ghost use Rattle.step_driver.specs.Directory.{IsDirectory};
 ghost use Rattle.step_driver.specs.Delivering.{IsStage, IsSupplied, Always, But, most_places, weight, AreFollowed, IsBetween};
 ghost use Rattle.step_driver.specs.Running.{IsTeam, report_of, EndsFullByCause, end_view, end_of, GoesOn, IsTurn, HasRun};
 
 use crate::coming::count_posts;
+use crate::directory::Directory;
 use crate::ends::ends_of;
 use crate::envelope::Envelope;
 use crate::hired::Mouth;
@@ -78,10 +80,14 @@ fn run_all<A: Actor<PlainBook>, L: Mouth, G: Gate>(
     ensures config { OnOk result (book.new.config ≡ book.old.config) }
     ensures ends { IfOk result (λ ends. map end_view ends.items ≡ filter_map end_of (spots A.seat A.view places.new.items)) }
 {
+    let config = book.config();
+    let directory = Directory::of(alloc, &config, places.as_slice())?;
     let mut line = Line::new(alloc);
-    start_all(alloc, script, book, places, &mut line)?;
-    let mut words = words_of(book.config().seed(), 1);
-    run_line(alloc, script, book, places, &mut line, &mut words, gate)?;
+    start_all(alloc, script, book, places, &directory, &mut line)?;
+    let mut words = words_of(config.seed(), 1);
+    run_line(
+        alloc, script, book, places, &directory, &mut line, &mut words, gate,
+    )?;
     ends_of(alloc, places.as_slice())
 }
 
@@ -91,15 +97,17 @@ fn start_all<A: Actor<PlainBook>, L: Mouth>(
     script: &Script,
     book: &mut PlainBook,
     places: &mut Vec<Place<A, L>>,
+    directory: &Directory,
     line: &mut Line,
 ) -> Result<(), AllocError>
+    requires listed { IsDirectory book.old.config.n directory.now (names (spots A.seat A.view places.old.items)) }
     requires stage { IsStage book.old.config script.now 0 book.old.posts (spots A.seat A.view places.old.items) }
     requires supplied { IsSupplied Always book.old.config script.now book.old.posts (spots A.seat A.view places.old.items) line.old }
     ensures { OnOk result (GoesOn script.now (length (spots A.seat A.view places.old.items)) book.old book.new
         (spots A.seat A.view places.old.items) (spots A.seat A.view places.new.items) line.old line.new) }
 {
     for number in 0..places.len() {
-        start_one(alloc, script, book, places, line, number)?;
+        start_one(alloc, script, book, places, directory, line, number)?;
     }
     Ok(())
 }
@@ -110,10 +118,12 @@ fn start_one<A: Actor<PlainBook>, L: Mouth>(
     script: &Script,
     book: &mut PlainBook,
     places: &mut Vec<Place<A, L>>,
+    directory: &Directory,
     line: &mut Line,
     number: usize,
 ) -> Result<(), AllocError>
     requires within { number < length places.old.items }
+    requires listed { IsDirectory book.old.config.n directory.now (names (spots A.seat A.view places.old.items)) }
     requires stage { IsStage book.old.config script.now number book.old.posts (spots A.seat A.view places.old.items) }
     requires supplied { IsSupplied Always book.old.config script.now book.old.posts (spots A.seat A.view places.old.items) line.old }
     ensures { OnOk result (GoesOn script.now (number + 1) book.old book.new
@@ -121,7 +131,16 @@ fn start_one<A: Actor<PlainBook>, L: Mouth>(
 {
     let first = count_posts(book);
     let again = start_at(alloc, script, book, places, number);
-    follow(script, book, places.as_slice(), line, first, number, again)?;
+    follow(
+        script,
+        book,
+        places.as_slice(),
+        directory,
+        line,
+        first,
+        number,
+        again,
+    )?;
     Ok(())
 }
 
@@ -131,10 +150,12 @@ fn run_line<A: Actor<PlainBook>, L: Mouth, G: Gate>(
     script: &Script,
     book: &mut PlainBook,
     places: &mut Vec<Place<A, L>>,
+    directory: &Directory,
     line: &mut Line,
     words: &mut ChaCha20Rng,
     gate: &G,
 ) -> Result<(), AllocError>
+    requires listed { IsDirectory book.old.config.n directory.now (names (spots A.seat A.view places.old.items)) }
     requires stage { IsStage book.old.config script.now (length (spots A.seat A.view places.old.items)) book.old.posts (spots A.seat A.view places.old.items) }
     requires supplied { IsSupplied Always book.old.config script.now book.old.posts (spots A.seat A.view places.old.items) line.old }
     requires words { words.old.word_pos + weight book.old.posts (spots A.seat A.view places.old.items) line.old + 1 < 2 ^ 68 }
@@ -145,7 +166,7 @@ fn run_line<A: Actor<PlainBook>, L: Mouth, G: Gate>(
     'line: loop {
         match line.take(script.order, words) {
             None => return Ok(()),
-            Some(taken) => serve(alloc, script, book, places, line, taken, gate)?,
+            Some(taken) => serve(alloc, script, book, places, directory, line, taken, gate)?,
         }
     }
 }
@@ -156,10 +177,12 @@ fn serve<A: Actor<PlainBook>, L: Mouth, G: Gate>(
     script: &Script,
     book: &mut PlainBook,
     places: &mut Vec<Place<A, L>>,
+    directory: &Directory,
     line: &mut Line,
     taken: Envelope,
     gate: &G,
 ) -> Result<(), AllocError>
+    requires listed { IsDirectory book.old.config.n directory.now (names (spots A.seat A.view places.old.items)) }
     requires stage { IsStage book.old.config script.now (length (spots A.seat A.view places.old.items)) book.old.posts (spots A.seat A.view places.old.items) }
     requires supplied { IsSupplied (But taken.place taken.post) book.old.config script.now book.old.posts (spots A.seat A.view places.old.items) line.old }
     ensures { OnOk result (GoesOn script.now (length (spots A.seat A.view places.old.items)) book.old book.new
@@ -171,6 +194,7 @@ fn serve<A: Actor<PlainBook>, L: Mouth, G: Gate>(
         script,
         book,
         places.as_slice(),
+        directory,
         line,
         first,
         taken.place,
@@ -224,6 +248,7 @@ fn follow<A: Actor<PlainBook>, L: Mouth>(
     script: &Script,
     book: &PlainBook,
     places: &[Place<A, L>],
+    directory: &Directory,
     line: &mut Line,
     first: u32,
     place: usize,
@@ -231,13 +256,14 @@ fn follow<A: Actor<PlainBook>, L: Mouth>(
 ) -> Result<(), AllocError>
     requires first { first ≤ length book.now.posts }
     requires few { length (spots A.seat A.view places.now) ≤ most_places }
+    requires listed { IsDirectory book.now.config.n directory.now (names (spots A.seat A.view places.now)) }
     requires again { IfSome again (IsBetween first (length book.now.posts)) }
     requires place { IfSome again (λ _. place < length (spots A.seat A.view places.now)) }
     ensures { OnOk result (AreFollowed book.now.config script.now book.now.posts (spots A.seat A.view places.now) first place again line.old line.new) }
 {
     let config = book.config();
     let posts = book.history();
-    send(script, &config, posts, places, line, first)?;
+    send(script, &config, posts, places, directory, line, first)?;
     match again {
         None => Ok(()),
         Some(stood) => send_again(script, &config, posts, places, line, place, stood),

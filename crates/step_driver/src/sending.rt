@@ -2,10 +2,12 @@
 
 ghost use Rattle.std.specs.Prelude.{◌≡◌, ◌<◌, ◌≤◌, length, OnOk};
 ghost use Rattle.hb_base.specs.Limits.{most_posts};
-ghost use Rattle.step_driver.specs.Places.{spots, spot_of};
+ghost use Rattle.step_driver.specs.Places.{spots, spot_of, names};
+ghost use Rattle.step_driver.specs.Directory.{IsDirectory};
 ghost use Rattle.step_driver.specs.Delivering.{most_places, AreSent, AreResent, IsSent, IsSentTo, AreResentTo, IsResentTo};
 
 use crate::coming::comes_to;
+use crate::directory::Directory;
 use crate::envelope::Envelope;
 use crate::hired::Mouth;
 use crate::line::Line;
@@ -22,36 +24,40 @@ pub(crate) fn send<A: Actor<PlainBook>, L: Mouth>(
     config: &Config,
     posts: &[Post],
     places: &[Place<A, L>],
+    directory: &Directory,
     line: &mut Line,
     first: u32,
 ) -> Result<(), AllocError>
     requires first { first ≤ length posts.now }
     requires posts { length posts.now ≤ most_posts }
     requires few { length (spots A.seat A.view places.now) ≤ most_places }
+    requires listed { IsDirectory config.now.n directory.now (names (spots A.seat A.view places.now)) }
     ensures { OnOk result (AreSent config.now script.now posts.now (spots A.seat A.view places.now) first line.old line.new) }
 {
     for k in first..posts.len() as u32 {
         let post = &posts[k as usize];
-        send_post(script, config, post, k, places, line)?;
+        send_post(script, config, post, k, places, directory, line)?;
     }
     Ok(())
 }
 
-// Adds the envelopes of one post, by shape, for each place that it reaches.
+// Adds the envelopes of one post, by shape, for each place that it reaches. It looks only at the places to which the address of
+// the post leads: at none for Book, at those of one node for Home and Node, at most n + 1, and at one of each node for All.
 fn send_post<A: Actor<PlainBook>, L: Mouth>(
     script: &Script,
     config: &Config,
     post: &Post,
     k: u32,
     places: &[Place<A, L>],
+    directory: &Directory,
     line: &mut Line,
 ) -> Result<(), AllocError>
-    requires few { length (spots A.seat A.view places.now) ≤ most_places }
+    requires listed { IsDirectory config.now.n directory.now (names (spots A.seat A.view places.now)) }
     ensures { OnOk result (IsSent config.now script.now post.now k (spots A.seat A.view places.now) (length (spots A.seat A.view places.now)) line.old line.new) }
 {
-    for number in 0..places.len() {
-        let place = &places[number];
-        send_to(script, config, post, k, place, number, line)?;
+    for number in directory.led_to(post) {
+        let place = &places[*number];
+        send_to(script, config, post, k, place, *number, line)?;
     }
     Ok(())
 }

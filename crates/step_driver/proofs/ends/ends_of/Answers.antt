@@ -6,7 +6,7 @@ use Rattle.std.proofs.lemmas.List.{take_all}
 use Rattle.step_driver.specs.Places.{Spot, spots, spot_of}
 use Rattle.step_driver.specs.Running.{end_view, end_of, AreKept}
 use Rattle.step_driver.proofs.Turns.{ends_more, kept_more}
-use Rattle.step_driver.proofs.Sendings.{spot_at, spots_count}
+use Rattle.step_driver.proofs.Occupants.{spot_at, spots_count}
 use Rattle.step_driver.proofs.ends.ends_of.Goals as goal
 
 pub loop-number-init : goal.loop-number-init

@@ -1,10 +1,12 @@
-use Rattle.std.proofs.Common.{◌<◌, List, ap, subst, sym, length, None, Some, Option, ℕ}
+use Rattle.std.proofs.Common.{◌<◌, List, refl, ap, subst, sym, length, None, Some, Option, ℕ}
 use native.Mathlib.Omega.{arith}
 use Rattle.std.specs.Prelude.{IfSome}
 use Rattle.std.proofs.lemmas.Result.{on_ok_weaker}
+use Rattle.hb_base.specs.Numbers.{Numbers}
 use Rattle.hb_wire.specs.declared.post.Post.{Post}
 use Rattle.step_driver.specs.Places.{spots}
 use Rattle.step_driver.specs.Delivering.{AreFollowed, IsBetween}
+use Rattle.step_driver.proofs.Directories.{IsDirectory-on}
 use Rattle.step_driver.proofs.Stages.{AreFollowed-none, AreFollowed-some}
 use Rattle.step_driver.proofs.Turns.{AreFollowed-of}
 use Rattle.step_driver.proofs.run.follow.Goals as goal
@@ -12,10 +14,13 @@ use Rattle.step_driver.proofs.run.follow.Goals as goal
 pub send-requires : goal.send-requires
 send-requires g c =
     let same = ap (λ (posts : List Post). length posts) c.history-posts.ensures.posts in
+    let all = spots g.A.Actor.seat g.A.Actor.view c.args.places.now in
     record {
       first = omega (arith, c.requires.first, same);
       posts = omega (arith, c.history-posts.ensures.legal.short, same);
       few = c.requires.few;
+      listed =
+          IsDirectory-on c.args.book.now.config.n c.config-config.result.n all all c.args.directory.now (ap (λ (d : Numbers). d.n) c.config-config.ensures) refl c.requires.listed;
     }
 
 pub returns-in-None : goal.returns-in-None

@@ -1,6 +1,8 @@
-use Rattle.std.proofs.Common.{length, refl, sym, ◌∙◌}
+use Rattle.std.proofs.Common.{length, refl, sym, ap, ◌∙◌}
 use native.Mathlib.Omega.{arith}
+use Rattle.hb_base.specs.Numbers.{Numbers}
 use Rattle.step_driver.specs.Places.{spots}
+use Rattle.step_driver.proofs.Directories.{IsDirectory-on}
 use Rattle.step_driver.proofs.Takings.{taken_out, IsSupplied-taken}
 use Rattle.step_driver.proofs.Turns.{GoesOn-refl, GoesOn-rests, GoesOn-taken, nothing_left, weight-fell, supplied_on}
 use Rattle.step_driver.proofs.run.run_line.Goals as goal
@@ -25,6 +27,13 @@ returns-in-None g c =
       goes = GoesOn-rests c.args.script.now (length old) c.args.book.now c.line.book old new c.args.line.now c.line.line c.take.new.self (left.0 ∙ sym left.1) c.line.invariant.goes;
       rests = left.1;
     }
+
+pub serve-requires-clause-listed : goal.serve-requires-clause-listed
+serve-requires-clause-listed g c lifetimes outlive =
+    let old = spots g.A.Actor.seat g.A.Actor.view c.args.places.now.items in
+    let new = spots g.A.Actor.seat g.A.Actor.view c.line.places.items in
+    let goes = c.line.invariant.goes in
+    IsDirectory-on c.args.book.now.config.n c.line.book.config.n old new c.args.directory.now (ap (λ (d : Numbers). d.n) goes.config) goes.same_names c.requires.listed
 
 pub serve-requires-clause-supplied : goal.serve-requires-clause-supplied
 serve-requires-clause-supplied g c lifetimes outlive =

@@ -1,6 +1,8 @@
-use Rattle.std.proofs.Common.{length}
+use Rattle.std.proofs.Common.{ap, length}
 use native.Mathlib.Omega.{arith}
+use Rattle.hb_base.specs.Numbers.{Numbers}
 use Rattle.step_driver.specs.Places.{spots}
+use Rattle.step_driver.proofs.Directories.{IsDirectory-lent}
 use Rattle.step_driver.proofs.Turns.{GoesOn-followed, stood_after, few_lent, place_lent, followed_lent}
 use Rattle.step_driver.proofs.run.serve.Goals as goal
 
@@ -12,6 +14,9 @@ follow-requires g c =
     record {
       first = omega (arith, c.count_posts-first.ensures, turn.served.longer);
       few = few_lent g.A.Actor.seat g.A.Actor.view c.as_slice.result.now c.serve_at-again.new.places.items c.as_slice.ensures.value turn.stage.few;
+      listed =
+          IsDirectory-lent g.A.Actor.seat g.A.Actor.view c.args.book.now.config.n c.serve_at-again.new.book.config.n old c.as_slice.result.now c.serve_at-again.new.places.items c.args.directory.now
+          (ap (λ (d : Numbers). d.n) turn.served.config) c.as_slice.ensures.value turn.served.same_names c.requires.listed;
       again = stood_after c.args.script.now c.args.taken.post (length old) c.args.taken.place c.count_posts-first.result c.args.book.now c.serve_at-again.new.book old new c.serve_at-again.result turn c.count_posts-first.ensures;
       place = place_lent g.A.Actor.seat g.A.Actor.view c.as_slice.result.now c.serve_at-again.new.places.items c.args.taken.place c.serve_at-again.result c.as_slice.ensures.value c.serve_at-again.ensures.place;
     }

@@ -1,7 +1,7 @@
 use Rattle.std.proofs.Common.{length}
 use native.Mathlib.Omega.{arith}
 use Rattle.step_driver.specs.Places.{spots}
-use Rattle.step_driver.proofs.Sendings.{spots_count}
+use Rattle.step_driver.proofs.Occupants.{spots_count}
 use Rattle.step_driver.proofs.Turns.{heard_at, seat_at, started_at, IsTurn-none, place_within}
 use Rattle.step_driver.proofs.run.serve_at.Goals as goal
 

@@ -1,9 +1,11 @@
-use Rattle.std.proofs.Common.{◌≡◌, length, ◌+◌, ℕ, subst}
+use Rattle.std.proofs.Common.{◌≡◌, length, ◌+◌, ℕ, ap, subst}
 use native.Mathlib.Omega.{arith}
+use Rattle.hb_base.specs.Numbers.{Numbers}
 use Rattle.step_driver.specs.Places.{spots}
 use Rattle.step_driver.specs.Running.{GoesOn}
+use Rattle.step_driver.proofs.Directories.{IsDirectory-on}
 use Rattle.step_driver.proofs.Turns.{GoesOn-refl, GoesOn-trans, stage_on, supplied_on}
-use Rattle.step_driver.proofs.Sendings.{spots_count}
+use Rattle.step_driver.proofs.Occupants.{spots_count}
 use Rattle.step_driver.proofs.run.start_all.Goals as goal
 
 pub loop-number-init : goal.loop-number-init
@@ -17,6 +19,8 @@ start_one-requires g c =
     let goes = c.loop-number.invariant in
     record {
       within = omega (arith, c.loop-number-test.true, c.len-number-end.ensures, goes.size, spots_count g.A.Actor.seat g.A.Actor.view c.args.places.now.items, spots_count g.A.Actor.seat g.A.Actor.view c.loop-number.places.items);
+      listed =
+          IsDirectory-on c.args.book.now.config.n c.loop-number.book.config.n old new c.args.directory.now (ap (λ (d : Numbers). d.n) goes.config) goes.same_names c.requires.listed;
       stage = stage_on c.args.script.now c.loop-number.number c.args.book.now c.loop-number.book old new c.args.line.now c.loop-number.line goes;
       supplied = supplied_on c.args.script.now c.loop-number.number c.args.book.now c.loop-number.book old new c.args.line.now c.loop-number.line goes;
     }
