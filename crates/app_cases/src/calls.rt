@@ -113,3 +113,14 @@ pub(crate) fn check_none(rt: &impl Abort, answer: &Answer, status: u8, told: &st
     assert!(rt; answer.out.held().is_empty(), "{name}");
     assert_eq!(rt; answer.err.held(), told.as_bytes(), "{name}");
 }
+
+// The first byte of each post of a node, in order, 0 for a post of no bytes.
+pub(crate) fn first_bytes(alloc: Global, report: &Report, node: u8) -> Result<Vec<u8>, AllocError> {
+    let mut firsts = Vec::new(alloc);
+    for post in &report.history {
+        if post.from == node {
+            firsts.push(post.bytes.as_slice().first().copied().unwrap_or(0))?;
+        }
+    }
+    Ok(firsts)
+}

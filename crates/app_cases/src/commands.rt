@@ -27,10 +27,10 @@ const NO_COMMANDS: [&[&str]; 22] = [
     &["soak", "1", "1"],
     &["1"],
     &["walk"],
-    &["trace"],
+    &["trace", ""],
     &["audit"],
     &["observe"],
-    &["accuse"],
+    &["accuse", "accuse"],
 ];
 
 // A scenario on the input changes nothing. Where the usage line can't be told the answer is another.

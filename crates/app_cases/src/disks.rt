@@ -18,7 +18,7 @@ fn is_of(post: &Post, node: u8, actor: u8) -> bool {
 
 // Whether an actor that posts a vote again posts from there on all that it had posted. An actor that never began again posts none
 // twice.
-fn has_posted_all_again(report: &Report, node: u8, actor: u8) -> bool {
+pub(crate) fn has_posted_all_again(report: &Report, node: u8, actor: u8) -> bool {
     let history = report.history.as_slice();
     for (place, post) in history.iter().enumerate() {
         let (before, after) = history.split_at(place.min(history.len()));

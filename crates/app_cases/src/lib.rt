@@ -1,6 +1,13 @@
 //! Calls of the program over memory: what it answers, prints and tells for scenarios by hand, and what it leaves of its report.
+//!
+//! `callers` is as any user might write it, and what is proved of it stands on the contract of hb_app alone.
 #![tactic(auto)]
 
+#[cfg(test)]
+mod accusing;
+#[cfg(test)]
+mod alone;
+mod callers;
 #[cfg(test)]
 mod calls;
 #[cfg(test)]
@@ -12,6 +19,10 @@ mod full;
 #[cfg(test)]
 mod liars;
 #[cfg(test)]
+mod lies;
+#[cfg(test)]
+mod quiet;
+#[cfg(test)]
 mod refusals;
 #[cfg(test)]
 mod runs;
@@ -19,3 +30,5 @@ mod runs;
 mod streams;
 #[cfg(test)]
 mod texts;
+
+pub use callers::run_bytes;

@@ -1,9 +1,8 @@
 //! Runs without liars and without faults of disks, and their whole texts.
 
-use crate::calls::{check_ran, run};
+use crate::calls::{check_ran, first_bytes, run};
 use crate::texts::{ALL, FOUR_FRONT, Node, four, text};
-use hb_rules::Report;
-use std::alloc::{AllocError, Global};
+use acs_world::{batches_ok, common_epochs, comparable};
 use std::test::Fail;
 
 // A scenario, the first line of its run, what is printed of each node, and the status.
@@ -38,7 +37,7 @@ batch 2 txs 1
 batch 3 txs 0
 ";
 
-const ROWS: [Row; 5] = [
+const ROWS: [Row; 6] = [
     // one node, whose coins of rounds 0, 1 and 2 are 0, 0 and 1
     Row {
         scenario: r#"{"nodes":1,"faulty":0,"epochs":1,"rounds":3,"seed":0,"submit":[{"node":0,"tx":"6869"}]}"#,
@@ -80,7 +79,17 @@ const ROWS: [Row; 5] = [
         ],
         status: 0,
     },
-    // nothing was submitted: in each of two epochs four empty batches
+    // two transactions in batches of one, the first of them twice
+    Row {
+        scenario: r#"{"nodes":1,"faulty":0,"epochs":2,"batch":1,"submit":[{"node":0,"tx":"61"},{"node":0,"tx":"62"},{"node":0,"tx":"61"}]}"#,
+        front: "run nodes 1 faulty 0 version 1 epochs 2\n",
+        nodes: &[(
+            "running",
+            "epoch 0 batches 1\nbatch 0 txs 1\ntx 61\nepoch 1 batches 1\nbatch 0 txs 1\ntx 62\n",
+        )],
+        status: 0,
+    },
+    // nothing was submitted: in each of two epochs an empty batch
     Row {
         scenario: r#"{"nodes":1,"faulty":0,"epochs":2}"#,
         front: "run nodes 1 faulty 0 version 1 epochs 2\n",
@@ -111,6 +120,12 @@ fn four_nodes(rt: HostRuntime) -> Result<(), Fail> {
         // nobody minds what comes twice
         (r#","links":[{"every":1,"at":0,"shape":"once"}]"#, whole, 0),
         (r#","links":[{"every":1,"at":0,"shape":"twice"}]"#, whole, 0),
+        // a fault that is never met
+        (
+            r#","faults":[{"node":1,"actor":1,"call":1000000}]"#,
+            whole,
+            0,
+        ),
         // node 2 hears nobody but itself
         (
             r#","links":[{"to":2,"every":1,"at":0,"shape":"drop"}]"#,
@@ -127,13 +142,20 @@ fn four_nodes(rt: HostRuntime) -> Result<(), Fail> {
     Ok(())
 }
 
-// The kinds of the posts of a run, in order.
-fn kinds(alloc: Global, report: &Report) -> Result<Vec<u8>, AllocError> {
-    let mut kinds = Vec::new(alloc);
-    for post in &report.history {
-        kinds.push(post.bytes.as_slice().first().copied().unwrap_or(0))?;
-    }
-    Ok(kinds)
+// Whatever the order, the nodes agree.
+#[test]
+fn mixed_order(rt: HostRuntime) -> Result<(), Fail> {
+    let alloc = rt.alloc();
+    let keys = r#","order":"mixed","seed":7,"links":[{"every":2,"at":0,"shape":"twice"}]"#;
+    let answer = run(alloc, four(alloc, keys)?.as_str())?;
+    assert!(rt; answer.status == 0 || answer.status == 5);
+    assert!(rt; comparable(&answer.report));
+    assert!(rt; batches_ok(&answer.report));
+    assert_eq!(rt;
+        common_epochs(&answer.report),
+        u32::from(answer.status == 0)
+    );
+    Ok(())
 }
 
 // One node casts each vote once, and each round has the same five: of three rounds there are 23, of two 15.
@@ -148,7 +170,7 @@ fn histories_of_one_node(rt: HostRuntime) -> Result<(), Fail> {
             "{{\"nodes\":1,\"faulty\":0,\"epochs\":1,\"rounds\":{rounds},\"seed\":0,\"submit\":[{{\"node\":0,\"tx\":\"6869\"}}]}}"
         )?;
         let answer = run(alloc, scenario.as_str())?;
-        let found = kinds(alloc, &answer.report)?;
+        let found = first_bytes(alloc, &answer.report, 0)?;
         assert_eq!(rt; found.as_slice(), votes, "{rounds} rounds");
     }
     Ok(())

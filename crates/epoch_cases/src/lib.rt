@@ -1,6 +1,9 @@
 //! What a desk casts over several epochs, in whole runs.
+//!
+//! `callers` is as any user might write it, and what is proved of it stands on the contracts of epoch_core alone.
 #![tactic(auto)]
 
+mod callers;
 #[cfg(test)]
 mod cases;
 #[cfg(test)]
@@ -9,3 +12,5 @@ mod many;
 mod tests;
 #[cfg(test)]
 mod texts;
+
+pub use callers::hear_two;

@@ -12,13 +12,16 @@ use Rattle.scenario_gen.specs.Generated.{generated}
 use Rattle.hb_rules.specs.declared.report.Report.{Report}
 use Rattle.hb_rules.specs.Report.{is_memory_fate, has_closed_all, has_spent_lane, status_of}
 use Rattle.hb_app.specs.declared.outcome.Outcome.{Outcome}
-use Rattle.hb_app.specs.declared.outcome.Outcome.TheVariants.{Refused, ReadFailed, Memory, WriteFailed, Ran}
+use Rattle.hb_app.specs.declared.outcome.Outcome.TheVariants.{Refused, ReadFailed, Memory, NoText, WriteFailed, Ran}
+use Rattle.hb_app.specs.declared.command.Text.{Text}
+use Rattle.hb_app.specs.Commands.{AsksRun}
 use Rattle.hb_app.specs.Input.{most_taken}
 use Rattle.hb_app.specs.Runs.{IsLedgerRun}
 use Rattle.hb_app.specs.Outcomes.{Work, HasFault, HasRun, RunComes, SoakComes}
 use Rattle.hb_app.specs.Answers.{Scene, Tells, IsRunStatus, Answers, NoPutFails, RunAnswers, SoakAnswers}
 use Rattle.hb_app.specs.Lines.{read_line}
 use Rattle.hb_app.specs.Streams.{SourceView, ReadsAll, TakesAtMost, FailsWithin}
+use Rattle.hb_app.proofs.Commands.{one_text}
 
 -- ---- the status of a run
 
@@ -99,9 +102,19 @@ answers_of comes before after Memory status keeps came told = record {
   refused = λ three. absurd (omega (arith, three, told.0));
   read_failed = λ six. absurd (omega (arith, six, told.0));
   write_failed = λ seven. absurd (omega (arith, seven, told.0));
-  memory = λ _. inr (came, told.1);
+  memory = λ _. inr (inl (came, told.1));
   no_other = inr (inr (inr (inr told.0)));
   put_failed = λ rose. absurd (cc (keeps.out Memory came rose));
+  tell_failed = λ rose. elim told.1 [ inl put ↦ absurd (rose put.1) | inr failed ↦ inr (told.0, failed) ];
+}
+answers_of comes before after NoText status keeps came told = record {
+  ran = λ ok. absurd (not_run status 9 told.0 (omega arith) (omega arith) (omega arith) ok);
+  refused = λ three. absurd (omega (arith, three, told.0));
+  read_failed = λ six. absurd (omega (arith, six, told.0));
+  write_failed = λ seven. absurd (omega (arith, seven, told.0));
+  memory = λ _. inr (inr (came, told.1));
+  no_other = inr (inr (inr (inr told.0)));
+  put_failed = λ rose. absurd (cc (keeps.out NoText came rose));
   tell_failed = λ rose. elim told.1 [ inl put ↦ absurd (rose put.1) | inr failed ↦ inr (told.0, failed) ];
 }
 answers_of comes before after WriteFailed status keeps came told = record {
@@ -160,55 +173,67 @@ no_fault : (names : List (List ℕ)) (left : Option (List ℕ)) (input : List �
 no_fault names None input s fault has is says = absurd (cc (is))
 no_fault names (Some xs) input s fault has is says = absurd (cc (sym has ∙ ap (λ (bytes : List ℕ). scenario_of bytes names) (cc (is)) ∙ says))
 
-keeps_run : (names : List (List ℕ)) (before after : Scene) → Keeps (RunComes names before.work after.work) before after
-keeps_run names before after = record {
+keeps_run : (text : Text) (names : List (List ℕ)) (before after : Scene) → Keeps (RunComes text names before.work after.work) before after
+keeps_run text names before after = record {
   out = by;
   status = λ came. ended_run came.0.0 after.work.report came.0.2;
 }
   where
-    by : (o : Outcome) → RunComes names before.work after.work o → after.work.out.faults ≢ before.work.out.faults → o ≡ WriteFailed
+    by : (o : Outcome) → RunComes text names before.work after.work o → after.work.out.faults ≢ before.work.out.faults → o ≡ WriteFailed
     by (Refused fault) came rose = absurd (rose came.1.0.1)
     by ReadFailed came rose = absurd (rose came.1.0.1)
     by Memory came rose = absurd (rose came.1.0.1)
+    by NoText came rose = absurd (rose came.2.1)
     by WriteFailed came rose = refl
     by Ran came rose = absurd (rose came.1.1)
 
-pub run_answers : (names : List (List ℕ)) (before after : Scene) (o : Outcome) (status : ℕ) → RunComes names before.work after.work o
-    → TakesAtMost most_taken before.work.source after.work.source → Tells o after.work.report.status before.err after.err status → RunAnswers names before after status
-run_answers names before after o status came taken told = record {
-  answers = answers_of (RunComes names before.work after.work) before after o status (keeps_run names before after) came told;
+run_answers : (text : Text) (names : List (List ℕ)) (before after : Scene) (o : Outcome) (status : ℕ) → RunComes text names before.work after.work o
+    → TakesAtMost most_taken before.work.source after.work.source → Tells o after.work.report.status before.err after.err status → RunAnswers text names before after status
+run_answers text names before after o status came taken told = record {
+  answers = answers_of (RunComes text names before.work after.work) before after o status (keeps_run text names before after) came told;
   taken = taken;
   take_failed = take_failed o came told;
   faulty = faulty o came told;
   complete = complete o came told;
 }
   where
-    take_failed : (o : Outcome) → RunComes names before.work after.work o → Tells o after.work.report.status before.err after.err status
+    take_failed : (o : Outcome) → RunComes text names before.work after.work o → Tells o after.work.report.status before.err after.err status
         → after.work.source.faults ≢ before.work.source.faults → (status ≡ 6) ⊎ ((status ≡ 7) × FailsWithin before.err after.err read_line)
     take_failed (Refused fault) came told rose = elim came.0.reads [ inl says ↦ absurd (rose says.1.2) | inr most ↦ absurd (rose most.0.3) ]
     take_failed ReadFailed came told rose = elim told [ inl put ↦ inl put.0 | inr failed ↦ inr failed ]
     take_failed Memory came told rose = absurd (rose came.0)
+    take_failed NoText came told rose = absurd (rose came.1.1.1.2)
     take_failed WriteFailed came told rose = absurd (rose came.0.1.1.2)
     take_failed Ran came told rose = absurd (rose came.0.1.1.2)
 
-    faulty : (o : Outcome) → RunComes names before.work after.work o → Tells o after.work.report.status before.err after.err status
+    faulty : (o : Outcome) → RunComes text names before.work after.work o → Tells o after.work.report.status before.err after.err status
         → (input : List ℕ) (fault : ScriptFault) → before.work.source.left ≡ Some input → scenario_of input names ≡ Err fault
         → (status ≡ 3) ⊎ ((status ≡ 6) × Rose before.work.source.faults after.work.source.faults)
         ⊎ ((status ≡ 7) × Rose before.err.faults after.err.faults) ⊎ (status ≡ 9)
     faulty (Refused found) came told input fault left says = elim told [ inl put ↦ inl put.0 | inr failed ↦ inr (inr (inl (failed.0, failed.1.1))) ]
     faulty ReadFailed came told input fault left says = elim told [ inl put ↦ inr (inl (put.0, came.0)) | inr failed ↦ inr (inr (inl (failed.0, failed.1.1))) ]
     faulty Memory came told input fault left says = inr (inr (inr told.0))
+    faulty NoText came told input fault left says = absurd (no_run names before.work after.work input fault came.1 left says)
     faulty WriteFailed came told input fault left says = absurd (no_run names before.work after.work input fault came.0 left says)
     faulty Ran came told input fault left says = absurd (no_run names before.work after.work input fault came.0 left says)
 
-    complete : (o : Outcome) → RunComes names before.work after.work o → Tells o after.work.report.status before.err after.err status
+    complete : (o : Outcome) → RunComes text names before.work after.work o → Tells o after.work.report.status before.err after.err status
         → (input : List ℕ) (s : Scenario) → before.work.source.left ≡ Some input → scenario_of input names ≡ Ok s
         → (Rose before.work.source.faults after.work.source.faults → ⊥) → NoPutFails before after → IsEndStatus status
     complete (Refused fault) came told input s left says taking putting = absurd (no_fault names before.work.source.left input s fault came.0.first left says)
     complete ReadFailed came told input s left says taking putting = absurd (taking came.0)
     complete Memory came told input s left says taking putting = inr told.0
+    complete NoText came told input s left says taking putting = inr told.0
     complete WriteFailed came told input s left says taking putting = absurd (putting.out came.1.1)
     complete Ran came told input s left says taking putting = subst IsEndStatus (sym told.status_is) (ended_run came.0.0 after.work.report came.0.2)
+
+-- the text that was asked for is the one that was told by the words
+pub run_asked : (words : List (List ℕ)) (found text : Text) → AsksRun words found → AsksRun words text → (names : List (List ℕ)) (before after : Scene)
+    (o : Outcome) (status : ℕ) → RunComes found names before.work after.work o → TakesAtMost most_taken before.work.source after.work.source
+    → Tells o after.work.report.status before.err after.err status → RunAnswers text names before after status
+run_asked words found text is asks names before after o status came taken told =
+    subst (λ (t : Text). RunAnswers t names before after status) (one_text words found text is asks)
+    (run_answers found names before after o status came taken told)
 
 -- ---- the scenario of a number
 
@@ -222,6 +247,7 @@ keeps_soak number before after = record {
     by (Refused fault) came rose = absurd came
     by ReadFailed came rose = absurd came
     by Memory came rose = absurd (rose came.0.1)
+    by NoText came rose = absurd came.0
     by WriteFailed came rose = refl
     by Ran came rose = absurd (rose came.1.1)
 
@@ -238,5 +264,6 @@ soak_answers number before after o status came unread told = record {
     complete (Refused fault) came told putting = absurd came
     complete ReadFailed came told putting = absurd came
     complete Memory came told putting = inr told.0
+    complete NoText came told putting = inr told.0
     complete WriteFailed came told putting = absurd (putting.out came.1.1)
     complete Ran came told putting = subst IsEndStatus (sym told.status_is) (ended_run (generated number) after.work.report came.0)

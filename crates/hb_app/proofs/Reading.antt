@@ -8,7 +8,8 @@ use Rattle.script_fault.specs.declared.fault.ScriptFault.TheVariants.{TooLong, N
 use Rattle.script_reader.specs.Fault.{Fails}
 use Rattle.script_reader.specs.Reading.{scenario_of}
 use Rattle.hb_app.specs.declared.outcome.Outcome.{Outcome}
-use Rattle.hb_app.specs.declared.outcome.Outcome.TheVariants.{Refused, ReadFailed, WriteFailed, Ran}
+use Rattle.hb_app.specs.declared.outcome.Outcome.TheVariants.{Refused, ReadFailed, NoText, WriteFailed, Ran}
+use Rattle.hb_app.specs.declared.command.Text.{Text}
 use Rattle.hb_app.specs.declared.outcome.Outcome.TheVariants as outcomes
 use Rattle.hb_app.specs.Input.{most_taken, ReadsMost}
 use Rattle.hb_app.specs.Outcomes.{Work, HasFault, Refuses, RunComes, BytesCome}
@@ -43,14 +44,16 @@ pub refuses_long : (names : List (List ℕ)) (old new : SourceView) → ReadsMos
 refuses_long names old new most = record { first = taken_long names old.left new.left most.0 most.1 most.2; reads = inr (most, refl) }
 
 -- what bytes come to that are the whole input
-pub run_comes : (names : List (List ℕ)) (before after : Work) (input : List ℕ) (o : Outcome) → ReadsAll before.source after.source input
-    → BytesCome (scenario_of input names) before.out after.out before.report after.report o → RunComes names before after o
-run_comes names before after input (Refused fault) all came =
+pub run_comes : (text : Text) (names : List (List ℕ)) (before after : Work) (input : List ℕ) (o : Outcome)
+    → ReadsAll before.source after.source input → BytesCome text (scenario_of input names) before.out after.out before.report after.report o
+    → RunComes text names before after o
+run_comes text names before after input (Refused fault) all came =
     (record { first = left_whole names before.source.left after.source.left input fault all.0 all.1 came.0; reads = inl (input, all, came.0) }, (came.1, came.2))
-run_comes names before after input ReadFailed all came = absurd came
-run_comes names before after input outcomes.Memory all came = (all.2, (came.0, came.1))
-run_comes names before after input WriteFailed all came = ((came.0.0, (input, all, came.0.1), came.0.2), came.1)
-run_comes names before after input Ran all came = ((came.0.0, (input, all, came.0.1), came.0.2), came.1)
+run_comes text names before after input ReadFailed all came = absurd came
+run_comes text names before after input outcomes.Memory all came = (all.2, (came.0, came.1))
+run_comes text names before after input NoText all came = (came.0, (came.1.0, (input, all, came.1.1), came.1.2), came.2)
+run_comes text names before after input WriteFailed all came = ((came.0.0, (input, all, came.0.1), came.0.2), came.1)
+run_comes text names before after input Ran all came = ((came.0.0, (input, all, came.0.1), came.0.2), came.1)
 
 -- a fault that is not want of memory is the one that was read
 pub fails_with : {Y : Type 0} (fault : ScriptFault) (read : Result Y ScriptFault) → fault ≢ Memory → Fails fault read → read ≡ Err fault

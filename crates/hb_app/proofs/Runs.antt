@@ -1,40 +1,62 @@
 -- The report of a run with its status.
-use Rattle.std.proofs.Common.{◌≡◌, ℕ, ap}
+use Rattle.std.proofs.Common.{◌≡◌, ℕ, true, Contains, ap}
+use Rattle.hb_base.specs.NodeSet.{is_in}
+use Rattle.hb_base.specs.Numbers.{AreSound}
 use Rattle.net_script.specs.declared.script.Script.{Script}
 use Rattle.net_script.specs.Scenario.{told}
 use Rattle.hb_rules.specs.declared.report.Report.{Report}
 use Rattle.hb_rules.specs.Ledger.{AreComparable, BatchesAreEnough, AreUnaltered}
-use Rattle.hb_rules.specs.Report.{status_of}
+use Rattle.hb_rules.specs.History.{IsLegal}
+use Rattle.hb_rules.specs.Report.{IsQuiet, StaysWithinPlan, status_of}
 use Rattle.hb_rules.specs.Strings.{NoCollision}
+use Rattle.quiet_lanes.specs.Calm.{IsCalm}
 use Rattle.quiet_world.specs.Completed.{HasEachCompleted}
+use Rattle.quiet_world.specs.Epochs.{EpochsEnd}
+use Rattle.quiet_world.specs.Spared.{IsSpared, IsSparedStatus}
+use Rattle.accuse.specs.declared.accusation.Accusation.{Accusation}
+use Rattle.accuse.specs.Accused.{accused}
 use Rattle.ledger_run.specs.Run.{IsRunOf}
 use Rattle.hb_app.specs.Runs.{IsLedgerRun}
 
 abbrev pub with_status : Report → ℕ → Report
 with_status made status = record { config = made.config; script = made.script; history = made.history; ends = made.ends; status = status }
 
-pub ledger_run : (s : Script) (made : Report) (status : ℕ) → IsRunOf s made → status ≡ status_of made
+-- what does not look at the status stays
+quiet_with : (made : Report) (status : ℕ) → IsQuiet made → IsQuiet (with_status made status)
+quiet_with made status quiet = record {
+  ends = quiet.ends;
+  got = quiet.got;
+  settled = λ end stands fate.
+      let settled = quiet.settled end stands fate in
+      record { received = λ k expected. settled.received k (record { post = expected.post; stands = expected.stands; comes = expected.comes; sent = expected.sent }); idle = settled.idle };
+}
+
+plan_with : (made : Report) (status : ℕ) → StaysWithinPlan made → StaysWithinPlan (with_status made status)
+plan_with made status plan = record { votes = plan.votes; lies = plan.lies; journals = plan.journals }
+
+pub ledger_run : (s : Script) (made : Report) (status : ℕ) → IsRunOf s made → status ≡ status_of made → AreSound made.config
     → (NoCollision made.config made.history.items → AreComparable made.config made.history.items)
     → (NoCollision made.config made.history.items → BatchesAreEnough made.config made.history.items)
     → (NoCollision made.config made.history.items → AreUnaltered made.config made.history.items)
-    → HasEachCompleted made → IsLedgerRun (told s) (with_status made status)
-ledger_run s made status run is comparable enough unaltered complete = record {
+    → HasEachCompleted made → ((report : Report) → IsCalm report → EpochsEnd report)
+    → ((report : Report) → AreSound report.config → IsLegal report.config report.history.items → NoCollision report.config report.history.items
+    → IsQuiet report → StaysWithinPlan report → IsSpared report → report.status ≡ status_of report → IsSparedStatus report.status)
+    → ((a : Accusation) → Contains (accused made.config made.history.items) a → is_in made.config.liars a.node ≡ true)
+    → IsLedgerRun (told s) (with_status made status)
+ledger_run s made status run is sound comparable enough unaltered complete ends spared accused = record {
   script = ap told run.script;
   config = run.config;
   status = is;
   legal = run.legal;
-  quiet = record {
-    ends = run.quiet.ends;
-    got = run.quiet.got;
-    settled = λ end stands fate.
-        let settled = run.quiet.settled end stands fate in
-        record { received = λ k expected. settled.received k (record { post = expected.post; stands = expected.stands; comes = expected.comes; sent = expected.sent }); idle = settled.idle };
-  };
-  plan = record { votes = run.plan.votes; lies = run.plan.lies; journals = run.plan.journals };
+  quiet = quiet_with made status run.quiet;
+  plan = plan_with made status run.plan;
   full = record { full = run.full.full };
   rule = record { proposals = run.rule.proposals };
   comparable = comparable;
   enough = enough;
   unaltered = unaltered;
   complete = complete;
+  ends = λ calm. ends (with_status made status) calm;
+  spared = λ apart safe. spared (with_status made status) sound run.legal apart (quiet_with made status run.quiet) (plan_with made status run.plan) safe is;
+  accused = accused;
 }

@@ -7,7 +7,8 @@ use Rattle.net_script.specs.Scenario.{Scenario}
 use Rattle.script_reader.specs.Reading.{scenario_of}
 use Rattle.hb_rules.specs.declared.report.Report.{Report}
 use Rattle.hb_app.specs.declared.outcome.Outcome.{Outcome}
-use Rattle.hb_app.specs.declared.outcome.Outcome.TheVariants.{Refused, ReadFailed, Memory, WriteFailed, Ran}
+use Rattle.hb_app.specs.declared.outcome.Outcome.TheVariants.{Refused, ReadFailed, Memory, NoText, WriteFailed, Ran}
+use Rattle.hb_app.specs.declared.command.Text.{Text}
 use Rattle.hb_app.specs.Input.{most_taken}
 use Rattle.hb_app.specs.Lines.{read_line, write_line, memory_line}
 use Rattle.hb_app.specs.Outcomes.{Work, RunComes, SoakComes}
@@ -34,6 +35,7 @@ abbrev pub Tells : Outcome → ℕ → SinkView → SinkView → ℕ → Type 0
 Tells (Refused fault) run old new status = PutsOr7 old new (fault_line fault) 3 status
 Tells ReadFailed run old new status = PutsOr7 old new read_line 6 status
 Tells Memory run old new status = (status ≡ 9) × PutsOrFails old new memory_line
+Tells NoText run old new status = (status ≡ 9) × PutsOrFails old new memory_line
 Tells WriteFailed run old new status = (status ≡ 7) × PutsOrFails old new write_line
 Tells Ran run old new status = AnswersRun run old new status
 
@@ -56,6 +58,7 @@ pub record Answers (comes : Outcome → Type 0) (before after : Scene) (status :
   pub memory : status ≡ 9
       → (comes Ran × (after.work.report.status ≡ 9) × PutsOrFails before.err after.err memory_line)
       ⊎ (comes Memory × PutsOrFails before.err after.err memory_line)
+      ⊎ (comes NoText × PutsOrFails before.err after.err memory_line)
   pub no_other : IsRunStatus status ⊎ (status ≡ 3) ⊎ (status ≡ 6) ⊎ (status ≡ 7) ⊎ (status ≡ 9)
   pub put_failed : after.work.out.faults ≢ before.work.out.faults → status ≡ 7
   pub tell_failed : after.err.faults ≢ before.err.faults → (status ≡ 7) ⊎ ((status ≡ 9) × FailsWithin before.err after.err memory_line)
@@ -65,10 +68,10 @@ pub record NoPutFails (before after : Scene) : Type 0 where
   pub out : Rose before.work.out.faults after.work.out.faults → ⊥
   pub err : Rose before.err.faults after.err.faults → ⊥
 
--- What a call answers that runs the scenario on the input, whose liars are of a cast with these names. Each fault of the input
--- has its status, and so has each scenario.
-pub record RunAnswers (names : List (List ℕ)) (before after : Scene) (status : ℕ) : Type 0 where
-  pub answers : Answers (RunComes names before.work after.work) before after status
+-- What a call answers that runs the scenario on the input, whose liars are of a cast with these names, and prints this text of the
+-- run. Each fault of the input has its status, and so has each scenario.
+pub record RunAnswers (text : Text) (names : List (List ℕ)) (before after : Scene) (status : ℕ) : Type 0 where
+  pub answers : Answers (RunComes text names before.work after.work) before after status
   pub taken : TakesAtMost most_taken before.work.source after.work.source
   pub take_failed : after.work.source.faults ≢ before.work.source.faults → (status ≡ 6) ⊎ ((status ≡ 7) × FailsWithin before.err after.err read_line)
   pub faulty : (input : List ℕ) (fault : ScriptFault) → before.work.source.left ≡ Some input → scenario_of input names ≡ Err fault

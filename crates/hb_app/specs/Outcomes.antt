@@ -7,10 +7,12 @@ use Rattle.net_script.specs.Scenario.{Scenario}
 use Rattle.script_reader.specs.Reading.{scenario_of}
 use Rattle.scenario_gen.specs.Generated.{generated}
 use Rattle.hb_rules.specs.declared.report.Report.{Report}
-use Rattle.ledger_text.specs.Text.{run_text, soak_text}
+use Rattle.ledger_text.specs.Text.{soak_text}
+use Rattle.hb_app.specs.declared.command.Text.{Text}
 use Rattle.hb_app.specs.declared.outcome.Outcome.{Outcome}
-use Rattle.hb_app.specs.declared.outcome.Outcome.TheVariants.{Refused, ReadFailed, Memory, WriteFailed, Ran}
+use Rattle.hb_app.specs.declared.outcome.Outcome.TheVariants.{Refused, ReadFailed, Memory, NoText, WriteFailed, Ran}
 use Rattle.hb_app.specs.Input.{ReadsMost}
+use Rattle.hb_app.specs.Printed.{text_of, WantsMemory}
 use Rattle.hb_app.specs.Runs.{IsLedgerRun}
 use Rattle.hb_app.specs.Streams.{SourceView, SinkView, IsFaultless, ReadsAll, IsUnused, HasPut, FailsWithin}
 
@@ -49,32 +51,36 @@ HasRun names before after = (s : Scenario) × Says names before.source after.sou
 
 -- ---- what a call comes to
 
--- where it is to run the scenario on the input
-abbrev pub RunComes : List (List ℕ) → Work → Work → Outcome → Type 0
-RunComes names before after (Refused fault) = Refuses names before.source after.source fault × IsUntouched before after
-RunComes names before after ReadFailed = Rose before.source.faults after.source.faults × IsUntouched before after
-RunComes names before after Memory = IsFaultless before.source after.source × IsUntouched before after
-RunComes names before after WriteFailed = HasRun names before after × FailsWithin before.out after.out (run_text after.report)
-RunComes names before after Ran = HasRun names before after × HasPut before.out after.out (run_text after.report)
+-- where it is to run the scenario on the input, and print this text of the run
+abbrev pub RunComes : Text → List (List ℕ) → Work → Work → Outcome → Type 0
+RunComes text names before after (Refused fault) = Refuses names before.source after.source fault × IsUntouched before after
+RunComes text names before after ReadFailed = Rose before.source.faults after.source.faults × IsUntouched before after
+RunComes text names before after Memory = IsFaultless before.source after.source × IsUntouched before after
+RunComes text names before after NoText = WantsMemory text × HasRun names before after × IsUnused before.out after.out
+RunComes text names before after WriteFailed = HasRun names before after × FailsWithin before.out after.out (text_of text after.report)
+RunComes text names before after Ran = HasRun names before after × HasPut before.out after.out (text_of text after.report)
 
--- where there is a scenario to run, and a report has this text
-abbrev pub ScriptComes : (Report → List ℕ) → Scenario → SinkView → SinkView → Report → Report → Outcome → Type 0
-ScriptComes text s out out_after report report_after (Refused fault) = ⊥
-ScriptComes text s out out_after report report_after ReadFailed = ⊥
-ScriptComes text s out out_after report report_after Memory = IsUnused out out_after × (report_after ≡ report)
-ScriptComes text s out out_after report report_after WriteFailed = IsLedgerRun s report_after × FailsWithin out out_after (text report_after)
-ScriptComes text s out out_after report report_after Ran = IsLedgerRun s report_after × HasPut out out_after (text report_after)
+-- where there is a scenario to run, and a report has this text, which may want memory or not
+abbrev pub ScriptComes : (Report → List ℕ) → Type 0 → Scenario → SinkView → SinkView → Report → Report → Outcome → Type 0
+ScriptComes text wants s out out_after report report_after (Refused fault) = ⊥
+ScriptComes text wants s out out_after report report_after ReadFailed = ⊥
+ScriptComes text wants s out out_after report report_after Memory = IsUnused out out_after × (report_after ≡ report)
+ScriptComes text wants s out out_after report report_after NoText = wants × IsLedgerRun s report_after × IsUnused out out_after
+ScriptComes text wants s out out_after report report_after WriteFailed = IsLedgerRun s report_after × FailsWithin out out_after (text report_after)
+ScriptComes text wants s out out_after report report_after Ran = IsLedgerRun s report_after × HasPut out out_after (text report_after)
 
 -- where it is to run the scenario of a number
 abbrev pub SoakComes : ℕ → Work → Work → Outcome → Type 0
-SoakComes number before after outcome = ScriptComes (soak_text number) (generated number) before.out after.out before.report after.report outcome
+SoakComes number before after outcome = ScriptComes (soak_text number) ⊥ (generated number) before.out after.out before.report after.report outcome
 
 -- where bytes have been read that say this, with the output and the report before and after
-abbrev pub BytesCome : Result Scenario ScriptFault → SinkView → SinkView → Report → Report → Outcome → Type 0
-BytesCome read out out_after report report_after (Refused fault) = (read ≡ Err fault) × IsUnused out out_after × (report_after ≡ report)
-BytesCome read out out_after report report_after ReadFailed = ⊥
-BytesCome read out out_after report report_after Memory = IsUnused out out_after × (report_after ≡ report)
-BytesCome read out out_after report report_after WriteFailed =
-    ((s : Scenario) × (read ≡ Ok s) × IsLedgerRun s report_after) × FailsWithin out out_after (run_text report_after)
-BytesCome read out out_after report report_after Ran =
-    ((s : Scenario) × (read ≡ Ok s) × IsLedgerRun s report_after) × HasPut out out_after (run_text report_after)
+abbrev pub BytesCome : Text → Result Scenario ScriptFault → SinkView → SinkView → Report → Report → Outcome → Type 0
+BytesCome text read out out_after report report_after (Refused fault) = (read ≡ Err fault) × IsUnused out out_after × (report_after ≡ report)
+BytesCome text read out out_after report report_after ReadFailed = ⊥
+BytesCome text read out out_after report report_after Memory = IsUnused out out_after × (report_after ≡ report)
+BytesCome text read out out_after report report_after NoText =
+    WantsMemory text × ((s : Scenario) × (read ≡ Ok s) × IsLedgerRun s report_after) × IsUnused out out_after
+BytesCome text read out out_after report report_after WriteFailed =
+    ((s : Scenario) × (read ≡ Ok s) × IsLedgerRun s report_after) × FailsWithin out out_after (text_of text report_after)
+BytesCome text read out out_after report report_after Ran =
+    ((s : Scenario) × (read ≡ Ok s) × IsLedgerRun s report_after) × HasPut out out_after (text_of text report_after)

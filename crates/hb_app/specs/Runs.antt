@@ -1,12 +1,18 @@
 -- What stands of a run whose text is printed.
-use Rattle.std.specs.Prelude.{◌≡◌}
+use Rattle.std.specs.Prelude.{◌≡◌, true, Contains}
+use Rattle.hb_base.specs.NodeSet.{is_in}
 use Rattle.net_script.specs.Scenario.{Scenario, told}
 use Rattle.hb_rules.specs.declared.report.Report.{Report}
 use Rattle.hb_rules.specs.History.{IsLegal}
 use Rattle.hb_rules.specs.Ledger.{AreComparable, BatchesAreEnough, AreUnaltered}
 use Rattle.hb_rules.specs.Report.{IsQuiet, StaysWithinPlan, FollowsPoolRule, status_of}
 use Rattle.hb_rules.specs.Strings.{NoCollision}
+use Rattle.quiet_lanes.specs.Calm.{IsCalm}
 use Rattle.quiet_world.specs.Completed.{HasEachCompleted}
+use Rattle.quiet_world.specs.Epochs.{EpochsEnd}
+use Rattle.quiet_world.specs.Spared.{IsSpared, IsSparedStatus}
+use Rattle.accuse.specs.declared.accusation.Accusation.{Accusation}
+use Rattle.accuse.specs.Accused.{accused}
 use Rattle.step_driver.specs.Running.{EndsFullByCause}
 
 -- The report of a run of a scenario, with its script, its config and its status. Its history is legal, nothing is left to do, no
@@ -14,7 +20,8 @@ use Rattle.step_driver.specs.Running.{EndsFullByCause}
 -- desk is of the oldest transactions of its pool. Where no two hashed strings share a digest, of any two correct nodes' ledgers
 -- one begins with the other, each list of them has the batches of n - f nodes at least, and what it has of a correct node is what
 -- that node's desk proposed. A running node's ledger has a list for each epoch up to which its agreements, and the broadcasts
--- that they accepted, have completed.
+-- that they accepted, have completed. In a calm run each running node has closed every epoch, unless a lane has spent its rounds;
+-- and where nothing was done to correct nodes, the status is 0, 5 or 9. Only liars are accused.
 pub record IsLedgerRun (s : Scenario) (report : Report) : Type 0 where
   pub script : told report.script ≡ s
   pub config : report.config ≡ s.config
@@ -28,3 +35,6 @@ pub record IsLedgerRun (s : Scenario) (report : Report) : Type 0 where
   pub enough : NoCollision report.config report.history.items → BatchesAreEnough report.config report.history.items
   pub unaltered : NoCollision report.config report.history.items → AreUnaltered report.config report.history.items
   pub complete : HasEachCompleted report
+  pub ends : IsCalm report → EpochsEnd report
+  pub spared : NoCollision report.config report.history.items → IsSpared report → IsSparedStatus report.status
+  pub accused : (a : Accusation) → Contains (accused report.config report.history.items) a → is_in report.config.liars a.node ≡ true

@@ -1,21 +1,33 @@
 //! What the words of a call ask for.
 
 ghost use Rattle.std.specs.Prelude.{◌≡◌, ℕ, ◌<◌, ◌^◌, [], ◌∷◌, None, IfSome, map, string_bytes, decimal};
-ghost use Rattle.hb_app.specs.Commands.{Asks};
+ghost use Rattle.hb_app.specs.Commands.{Asks, word_of};
+ghost use Rattle.hb_app.specs.declared.command.Text.{Text};
 
 use itoa::Buffer;
+
+/// What is printed of the run of a scenario.
+#[derive(Clone, Copy, Debug, PartialEq, Eq)]
+pub enum Text {
+    /// How each node stands, and the ledger of each correct one.
+    Ledgers,
+    /// The history, post by post.
+    Trace,
+    /// The nodes whose own posts contradict each other.
+    Accused,
+}
 
 /// What a call asks for.
 #[derive(Clone, Copy, Debug, PartialEq, Eq)]
 pub enum Command {
-    /// The run of the scenario on the input.
-    Run,
+    /// The run of the scenario on the input, and this text of it.
+    Run(Text),
     /// The run of the scenario of this number.
     Soak(u64),
 }
 
-/// What these words ask for: `run`, or `soak` and a whole number below 2^64 in decimal digits, with no sign and no needless
-/// zeros in front. None for all other words.
+/// What these words ask for: `run`, `trace`, `observe` or `accuse`, or `soak` and a whole number below 2^64 in decimal digits, with
+/// no sign and no needless zeros in front. None for all other words.
 pub fn command_of(words: &[String]) -> Option<Command>
     ensures { Asks (map string_bytes words.now) result }
 {
@@ -29,10 +41,19 @@ pub fn command_of(words: &[String]) -> Option<Command>
 fn run_of(word: &str) -> Option<Command>
     ensures { Asks (word.now ∷ []) result }
 {
-    if word == "run" {
-        Some(Command::Run)
-    } else {
-        None
+    text_of(word).map(Command::Run)
+}
+
+// The text that a word asks for.
+fn text_of(word: &str) -> Option<Text>
+    ensures some { IfSome result (λ text. word.now ≡ word_of text) }
+    ensures none { result ≡ None → (text : Text) → word.now ≡ word_of text → ⊥ }
+{
+    match word {
+        "run" => Some(Text::Ledgers),
+        "trace" => Some(Text::Trace),
+        "accuse" => Some(Text::Accused),
+        _ => None,
     }
 }
 

@@ -4,6 +4,7 @@
 mod command;
 mod input;
 mod outcome;
+mod printing;
 mod running;
 mod telling;
 mod top;

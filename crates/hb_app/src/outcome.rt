@@ -11,6 +11,8 @@ pub enum Outcome {
     ReadFailed,
     /// There was no memory for the input or for the run.
     Memory,
+    /// There was a run, and no memory to make its text of it.
+    NoText,
     /// The text of the run can't be written.
     WriteFailed,
     /// There was a run, and its text was written.

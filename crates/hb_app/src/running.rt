@@ -7,13 +7,14 @@ ghost use Rattle.net_script.specs.declared.script.Script.{Script};
 ghost use Rattle.ledger_run.specs.Run.{IsRunOf};
 ghost use Rattle.hb_app.specs.Runs.{IsLedgerRun};
 
+use accuse::accuse_laws;
 use acs_world::ledger_laws;
 use hb_base::{Gate, LiarName};
 use hb_rules::Report;
 use ledger_run::{hire, run_script};
 use liar_cast::Liar;
 use net_script::Script;
-use quiet_world::quiet_laws;
+use quiet_world::{calm_laws, quiet_laws};
 use run_status::status;
 use std::alloc::{AllocError, Global};
 
@@ -41,9 +42,11 @@ fn with_status(made: Report) -> Report
     ensures { (s : Script) → IsRunOf s made → IsLedgerRun (told s) result }
 {
     let mut made = made;
-    // what these calls ensure are the laws of ledgers and of quiet runs, and that the numbers of the run are sound
+    // what these calls ensure are the laws of ledgers, of quiet and calm runs and of accusations, and that the numbers of the run are sound
     ledger_laws();
     quiet_laws();
+    calm_laws();
+    accuse_laws();
     let _sound = made.config.liars();
     made.status = status(&made);
     made

@@ -28,7 +28,7 @@ pub fn tell_outcome<E: Sink>(outcome: &Outcome, run: u8, err: &mut E) -> u8
     match outcome {
         Outcome::Refused(fault) => tell_fault(fault, err),
         Outcome::ReadFailed => tell(READ_FAILED, 6, err),
-        Outcome::Memory => hint(NO_MEMORY, 9, err),
+        Outcome::Memory | Outcome::NoText => hint(NO_MEMORY, 9, err),
         Outcome::WriteFailed => hint(WRITE_FAILED, 7, err),
         Outcome::Ran => answer(run, err),
     }

@@ -5,7 +5,9 @@ ghost use Rattle.net_script.specs.Scenario.{told};
 ghost use Rattle.net_script.specs.Sound.{IsScenario};
 ghost use Rattle.scenario_gen.specs.Generated.{generated};
 ghost use Rattle.script_reader.specs.Reading.{scenario_of};
-ghost use Rattle.ledger_text.specs.Text.{run_text, soak_text};
+ghost use Rattle.ledger_text.specs.Text.{soak_text};
+ghost use Rattle.hb_app.specs.declared.command.Text.{Text};
+ghost use Rattle.hb_app.specs.Printed.{text_of, WantsMemory};
 ghost use Rattle.hb_app.specs.Answers.{RunAnswers, SoakAnswers, scene};
 ghost use Rattle.hb_app.specs.Commands.{AsksRun, AsksSoak, AsksNothing};
 ghost use Rattle.hb_app.specs.Input.{most_taken};
@@ -13,14 +15,15 @@ ghost use Rattle.hb_app.specs.Lines.{usage_line};
 ghost use Rattle.hb_app.specs.Outcomes.{RunComes, BytesCome, ScriptComes, work};
 ghost use Rattle.hb_app.specs.Streams.{SourceView, TakesAtMost, PutsOr7, source_view, sink_view};
 
-use crate::command::{Command, command_of};
+use crate::command::{Command, Text, command_of};
 use crate::input::{Input, read_input};
 use crate::outcome::Outcome;
+use crate::printing::{PrintFault, print};
 use crate::running::{names_of, run_with};
 use crate::telling::{USAGE, tell, tell_outcome};
 use hb_base::{Gate, Sink, Source};
 use hb_rules::Report;
-use ledger_text::{print_run, print_soak};
+use ledger_text::print_soak;
 use liar_cast::Liar;
 use net_script::Script;
 use scenario_gen::generate;
@@ -28,9 +31,10 @@ use script_fault::ScriptFault;
 use script_reader::read_script;
 use std::alloc::Global;
 
-/// The program `hb_ledger`: what its words ask for, over any input and output, with a cast of liars. `run` runs the scenario on
-/// the input and prints the ledger of each correct node; `soak N` runs the scenario of a number and prints whether the ledgers
-/// agree. The status is
+/// The program `hb_ledger`: what its words ask for, over any input and output, with a cast of liars. `run`, `trace`, `observe` and
+/// `accuse` run the scenario on the input. `run` prints the ledger of each correct node, `trace` the history, `observe` the ledgers
+/// that observers take from closing votes, and `accuse` the nodes whose own posts contradict each other. `soak N` runs the scenario
+/// of a number and prints whether the ledgers agree. The status is
 ///   0 if some correct node runs, and each that runs closed the last epoch,
 ///   2 if the words are unknown,
 ///   3 if the input is no scenario,
@@ -54,7 +58,7 @@ pub fn hb_main<S: Source, O: Sink, E: Sink, G: Gate>(
     gate: &G,
     report: &mut Report,
 ) -> u8
-    ensures run { AsksRun (map string_bytes words.now) → RunAnswers (map (λ liar. called liar) cast.items)
+    ensures run { (text : Text) → AsksRun (map string_bytes words.now) text → RunAnswers text (map (λ liar. called liar) cast.items)
         (scene (source_view S.left S.faults source.old) (sink_view O.held O.faults out.old) (sink_view E.held E.faults err.old) report.old)
         (scene (source_view S.left S.faults source.new) (sink_view O.held O.faults out.new) (sink_view E.held E.faults err.new) report.new)
         result }
@@ -67,65 +71,36 @@ pub fn hb_main<S: Source, O: Sink, E: Sink, G: Gate>(
         × (report.new ≡ report.old) × (out.new ≡ out.old) × (source.new ≡ source.old) }
 {
     match command_of(words) {
-        Some(Command::Run) => run_command(alloc, source, out, err, cast, gate, report),
-        Some(Command::Soak(number)) => soak_command(alloc, number, out, err, cast, gate, report),
+        Some(Command::Run(text)) => {
+            let outcome = run_source(alloc, text, source, out, cast, gate, report);
+            tell_outcome(&outcome, report.status, err)
+        }
+        Some(Command::Soak(number)) => {
+            let outcome = soak_number(alloc, number, out, cast, gate, report);
+            tell_outcome(&outcome, report.status, err)
+        }
         None => tell(USAGE, 2, err),
     }
-}
-
-fn run_command<S: Source, O: Sink, E: Sink, G: Gate>(
-    alloc: Global,
-    source: &mut S,
-    out: &mut O,
-    err: &mut E,
-    cast: Vec<Box<dyn Liar>>,
-    gate: &G,
-    report: &mut Report,
-) -> u8
-    ensures { RunAnswers (map (λ liar. called liar) cast.items)
-        (scene (source_view S.left S.faults source.old) (sink_view O.held O.faults out.old) (sink_view E.held E.faults err.old) report.old)
-        (scene (source_view S.left S.faults source.new) (sink_view O.held O.faults out.new) (sink_view E.held E.faults err.new) report.new)
-        result }
-{
-    let outcome = run_source(alloc, source, out, cast, gate, report);
-    tell_outcome(&outcome, report.status, err)
-}
-
-fn soak_command<O: Sink, E: Sink, G: Gate>(
-    alloc: Global,
-    number: u64,
-    out: &mut O,
-    err: &mut E,
-    cast: Vec<Box<dyn Liar>>,
-    gate: &G,
-    report: &mut Report,
-) -> u8
-    ensures { (source : SourceView) → SoakAnswers number
-        (scene source (sink_view O.held O.faults out.old) (sink_view E.held E.faults err.old) report.old)
-        (scene source (sink_view O.held O.faults out.new) (sink_view E.held E.faults err.new) report.new)
-        result }
-{
-    let outcome = soak_number(alloc, number, out, cast, gate, report);
-    tell_outcome(&outcome, report.status, err)
 }
 
 // Runs the scenario that the whole input says, and prints the run.
 fn run_source<S: Source, O: Sink, G: Gate>(
     alloc: Global,
+    text: Text,
     source: &mut S,
     out: &mut O,
     cast: Vec<Box<dyn Liar>>,
     gate: &G,
     report: &mut Report,
 ) -> Outcome
-    ensures comes { RunComes (map (λ liar. called liar) cast.items)
+    ensures comes { RunComes text (map (λ liar. called liar) cast.items)
         (work (source_view S.left S.faults source.old) (sink_view O.held O.faults out.old) report.old)
         (work (source_view S.left S.faults source.new) (sink_view O.held O.faults out.new) report.new)
         result }
     ensures taken { TakesAtMost most_taken (source_view S.left S.faults source.old) (source_view S.left S.faults source.new) }
 {
     match read_input(alloc, source) {
-        Input::Whole(bytes) => run_bytes(alloc, bytes.as_slice(), out, cast, gate, report),
+        Input::Whole(bytes) => run_bytes(alloc, text, bytes.as_slice(), out, cast, gate, report),
         Input::TooLong => Outcome::Refused(ScriptFault::TooLong),
         Input::Failed => Outcome::ReadFailed,
         Input::Memory => Outcome::Memory,
@@ -136,20 +111,21 @@ fn run_source<S: Source, O: Sink, G: Gate>(
 #[tactic(auto, using(crate::proofs::Reading::fails_with))]
 fn run_bytes<O: Sink, G: Gate>(
     alloc: Global,
+    text: Text,
     bytes: &[u8],
     out: &mut O,
     cast: Vec<Box<dyn Liar>>,
     gate: &G,
     report: &mut Report,
 ) -> Outcome
-    ensures { BytesCome (scenario_of bytes.now (map (λ liar. called liar) cast.items))
+    ensures { BytesCome text (scenario_of bytes.now (map (λ liar. called liar) cast.items))
         (sink_view O.held O.faults out.old) (sink_view O.held O.faults out.new) report.old report.new result }
 {
     let Ok(names) = names_of(alloc, cast.as_slice()) else {
         return Outcome::Memory;
     };
     match read_script(alloc, bytes, names.as_slice()) {
-        Ok(script) => run_and_print(alloc, script, out, cast, gate, report),
+        Ok(script) => run_and_print(alloc, text, script, out, cast, gate, report),
         Err(ScriptFault::Memory) => Outcome::Memory,
         Err(fault) => Outcome::Refused(fault),
     }
@@ -158,6 +134,7 @@ fn run_bytes<O: Sink, G: Gate>(
 // Runs a script, and prints the run.
 fn run_and_print<O: Sink, G: Gate>(
     alloc: Global,
+    text: Text,
     script: Script,
     out: &mut O,
     cast: Vec<Box<dyn Liar>>,
@@ -165,15 +142,16 @@ fn run_and_print<O: Sink, G: Gate>(
     report: &mut Report,
 ) -> Outcome
     requires scenario { IsScenario (told script) }
-    ensures { ScriptComes run_text (told script)
+    ensures { ScriptComes (text_of text) (WantsMemory text) (told script)
         (sink_view O.held O.faults out.old) (sink_view O.held O.faults out.new) report.old report.new result }
 {
     if run_with(alloc, script, cast, gate, report).is_err() {
         return Outcome::Memory;
     }
-    match print_run(report, out) {
+    match print(alloc, text, report, out) {
         Ok(()) => Outcome::Ran,
-        Err(_) => Outcome::WriteFailed,
+        Err(PrintFault::Sink) => Outcome::WriteFailed,
+        Err(PrintFault::Memory) => Outcome::NoText,
     }
 }
 
@@ -186,7 +164,7 @@ fn soak_number<O: Sink, G: Gate>(
     gate: &G,
     report: &mut Report,
 ) -> Outcome
-    ensures { ScriptComes (soak_text number) (generated number)
+    ensures { ScriptComes (soak_text number) ⊥ (generated number)
         (sink_view O.held O.faults out.old) (sink_view O.held O.faults out.new) report.old report.new result }
 {
     let Ok(script) = generate(alloc, number) else {

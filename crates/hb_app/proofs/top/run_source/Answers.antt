@@ -6,7 +6,7 @@ use Rattle.hb_app.proofs.top.run_source.Goals as goal
 
 pub returns-in-Whole-clause-comes : goal.returns-in-Whole-clause-comes
 returns-in-Whole-clause-comes g c =
-    run_comes _
+    run_comes c.args.text _
     (work (source_view g.S.Source.left g.S.Source.faults c.args.source.now) (sink_view g.O.Sink.held g.O.Sink.faults c.args.out.now) c.args.report.now)
     (work (source_view g.S.Source.left g.S.Source.faults c.read_input.new.source) (sink_view g.O.Sink.held g.O.Sink.faults c.run_bytes.new.out) c.run_bytes.new.report)
     c.as_slice.result.now c.run_bytes.result

@@ -1,0 +1,99 @@
+//! What `trace` and `accuse` print of a run.
+
+ghost use Rattle.std.specs.Prelude.{codes};
+
+use crate::calls::{Answer, Request, call, call_with, check_none, check_ran};
+use crate::texts::four;
+use hb_base::LiarName;
+use hb_wire::{Post, To};
+use liar_cast::{Liar, LiarSeat, Lies};
+use std::alloc::{AllocError, Global};
+use std::process::Abort;
+use std::test::Fail;
+
+// One node, whose run of three rounds has 23 posts.
+const ALONE: &str =
+    r#"{"nodes":1,"faulty":0,"epochs":1,"rounds":3,"seed":0,"submit":[{"node":0,"tx":"6869"}]}"#;
+
+const FIRST_LINES: &str =
+    "trace nodes 1 faulty 0 version 1 epochs 1 rounds 3 batch 64 seed 0 liars 0
+post 0 from 0 actor 1 to home 100000000006000100026869
+";
+
+const LAST_LINES: &str = "post 20 from 0 actor 0 to home 0a0001
+post 21 from 0 actor 1 to home 1100
+post 22 from 0 actor 1 to book 1200010000000006000100026869
+end 23
+";
+
+#[test]
+fn trace_of_one_node(rt: HostRuntime) -> Result<(), Fail> {
+    let answer = call(rt.alloc(), &Request::new(&["trace"], ALONE))?;
+    assert_eq!(rt; answer.status, 0);
+    assert!(rt; answer.err.held().is_empty());
+    let text = answer.out.held();
+    assert!(rt; text.starts_with(FIRST_LINES.as_bytes()));
+    assert!(rt; text.ends_with(LAST_LINES.as_bytes()));
+    assert_eq!(rt; text.iter().filter(|byte| **byte == b'\n').count(), 25);
+    Ok(())
+}
+
+#[test]
+fn nobody_is_accused(rt: HostRuntime) -> Result<(), Fail> {
+    let answer = call(rt.alloc(), &Request::new(&["accuse"], ALONE))?;
+    let text = "accuse nodes 1 faulty 0 version 1 epochs 1\nend 0\n";
+    check_ran(&rt, &answer, 0, text, "one node");
+    Ok(())
+}
+
+// A liar that says two votes at its start, which differ in their last byte.
+#[derive(Drop)]
+struct Doubtful {
+    kind: u8,
+}
+
+impl Liar for Doubtful {
+    ghost called = { λ _. codes "doubtful" };
+
+    fn name(&self) -> LiarName {
+        LiarName::of("doubtful").unwrap()
+    }
+
+    fn start(&mut self, alloc: Global, _me: &LiarSeat, lies: &mut Lies) {
+        lies.say(alloc, 0, To::All, &[self.kind, 0, 0, 0]);
+        lies.say(alloc, 0, To::All, &[self.kind, 0, 0, 1]);
+    }
+
+    fn hear(&mut self, _alloc: Global, _me: &LiarSeat, _post: &Post, _lies: &mut Lies) {}
+}
+
+// Asks who is accused among four nodes, of which node 3 says two votes of a kind.
+fn accuse(alloc: Global, kind: u8) -> Result<Answer, AllocError> {
+    let scenario = four(alloc, r#","liars":[{"node":3,"name":"doubtful"}]"#)?;
+    let mut liars: Vec<Box<dyn Liar>> = Vec::new(alloc);
+    liars.push(Box::new(alloc, Doubtful { kind })?)?;
+    call_with(alloc, &Request::new(&["accuse"], scenario.as_str()), liars)
+}
+
+// The three correct nodes propose first, so the two votes are posts 3 and 4. A node may support both bits of a round (kind 6), and
+// may vote for one of them (kind 7).
+#[test]
+fn two_votes_of_a_liar(rt: HostRuntime) -> Result<(), Fail> {
+    for (kind, accused) in [(7, "accused 3 posts 3 4\n"), (6, "")] {
+        let answer = accuse(rt.alloc(), kind)?;
+        let text = format!(in rt.alloc();
+            "accuse nodes 4 faulty 1 version 1 epochs 1\n{accused}end 0\n"
+        )?;
+        check_ran(&rt, &answer, 0, text.as_str(), accused);
+    }
+    Ok(())
+}
+
+#[test]
+fn inputs_that_are_no_scenarios(rt: HostRuntime) -> Result<(), Fail> {
+    for word in ["trace", "accuse"] {
+        let answer = call(rt.alloc(), &Request::new(&[word], "{"))?;
+        check_none(&rt, &answer, 3, "refused 2 NotJson\n", word);
+    }
+    Ok(())
+}

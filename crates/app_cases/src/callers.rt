@@ -1,0 +1,43 @@
+//! A caller of the program, as one that runs scenarios of its own. What it promises is proved by the contract of the call alone.
+
+ghost use Rattle.std.specs.Prelude.{◌≡◌, IfOk};
+ghost use Rattle.hb_rules.specs.Ledger.{AreComparable};
+ghost use Rattle.hb_rules.specs.Strings.{NoCollision};
+ghost use Rattle.ledger_text.specs.Text.{run_text};
+ghost use Rattle.hb_app.specs.Answers.{IsRunStatus};
+
+use hb_app::hb_main;
+use hb_base::{Bytes, MemorySink, MemorySource, OpenGate};
+use hb_rules::Report;
+use liar_cast::Liar;
+use std::alloc::{AllocError, Global};
+
+/// Runs the scenario that the bytes say, with this cast: the status, and what was printed. After 0, 4 and 5 it is the text of the
+/// run that the report tells, whose ledgers are comparable where no two hashed strings share a digest.
+pub fn run_bytes(
+    alloc: Global,
+    input: Bytes,
+    cast: Vec<Box<dyn Liar>>,
+    report: &mut Report,
+) -> Result<(u8, MemorySink), AllocError>
+    ensures text { IfOk result (λ answer. IsRunStatus answer.0 → answer.1.held ≡ run_text report.new) }
+    ensures agree { IfOk result (λ answer. IsRunStatus answer.0
+        → NoCollision report.new.config report.new.history.items → AreComparable report.new.config report.new.history.items) }
+{
+    let mut words = Vec::new(alloc);
+    words.push(String::from_str(alloc, "run")?)?;
+    let mut source = MemorySource::new(input, 4_096, Vec::new(alloc));
+    let mut out = MemorySink::new(alloc, Vec::new(alloc));
+    let mut err = MemorySink::new(alloc, Vec::new(alloc));
+    let status = hb_main(
+        alloc,
+        words.as_slice(),
+        &mut source,
+        &mut out,
+        &mut err,
+        cast,
+        &OpenGate,
+        report,
+    );
+    Ok((status, out))
+}

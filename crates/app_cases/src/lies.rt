@@ -1,0 +1,127 @@
+//! What the nodes post that lie: how each kind of liar begins, and how often a liar is asked to hear.
+
+ghost use Rattle.std.specs.Prelude.{codes};
+
+use crate::calls::{Request, call_with, first_bytes, run};
+use crate::texts::four;
+use hb_base::LiarName;
+use hb_wire::{Post, To};
+use liar_cast::{Liar, LiarSeat, Lies};
+use std::alloc::{AllocError, Global};
+use std::process::Abort;
+use std::sync::Arc;
+use std::test::Fail;
+
+// The four nodes with a liar at node 3 that hears so many posts.
+fn with_liar(alloc: Global, name: &str, hears: u32) -> Result<String, AllocError> {
+    let keys = format!(in alloc;
+        ",\"liars\":[{{\"node\":3,\"name\":\"{name}\",\"hears\":{hears}}}]"
+    )?;
+    four(alloc, keys.as_str())
+}
+
+// A liar that goes on is asked to hear at most so many posts.
+const ALL: u32 = 4_194_304;
+
+// The first bytes of what a liar posts. Where it speaks at once it sends each node a VAL. The three correct nodes send it a VAL each,
+// and these are the first posts that reach it: one that splits its Echo answers with one to nodes 0 and 2 and a Ready to nodes 1 and
+// 3, one that babbles with a byte of no vote and the VAL with one bit turned.
+#[test]
+fn posts_of_liars(rt: HostRuntime) -> Result<(), Fail> {
+    let alloc = rt.alloc();
+    for (name, hears, want) in [
+        ("silent", ALL, b"".as_slice()),
+        ("equivocate", ALL, b"\x01\x01\x01\x01".as_slice()),
+        ("equivocate", 0, b"\x01\x01\x01\x01".as_slice()),
+        (
+            "echo_split",
+            ALL,
+            b"\x02\x02\x03\x03\x02\x02\x03\x03\x02\x02\x03\x03".as_slice(),
+        ),
+        ("echo_split", 1, b"\x02\x02\x03\x03".as_slice()),
+        ("babble", 0, b"".as_slice()),
+        ("babble", 1, b"\xff\x01".as_slice()),
+        ("babble", 3, b"\xff\x01\xff\x01\xff\x01".as_slice()),
+    ] {
+        let scenario = with_liar(alloc, name, hears)?;
+        let answer = run(alloc, scenario.as_str())?;
+        let found = first_bytes(alloc, &answer.report, 3)?;
+        assert_eq!(rt; found.as_slice(), want, "{name} {hears}");
+    }
+    Ok(())
+}
+
+// Checks that node 3 posts the same votes again and again, at least once for each lane.
+fn check_each_lane(rt: &impl Abort, alloc: Global, name: &str, votes: &[u8]) -> Result<(), Fail> {
+    let scenario = with_liar(alloc, name, ALL)?;
+    let answer = run(alloc, scenario.as_str())?;
+    let found = first_bytes(alloc, &answer.report, 3)?;
+    assert!(rt; found.len() >= 4 * votes.len(), "{name}");
+    for (place, byte) in found.iter().enumerate() {
+        assert_eq!(rt;
+            Some(byte),
+            votes.get(place % votes.len().max(1)),
+            "{name} {place}"
+        );
+    }
+    Ok(())
+}
+
+// In each lane there is an agreement, in which it hears bits and shares of coins.
+#[test]
+fn liars_in_agreements(rt: HostRuntime) -> Result<(), Fail> {
+    check_each_lane(&rt, rt.alloc(), "bval_both", b"\x06\x06\x07\x07")?;
+    check_each_lane(&rt, rt.alloc(), "false_share", b"\x09")
+}
+
+// One that babbles answers its own posts too, and so speaks until it has said all that a liar may.
+#[test]
+fn babble_to_the_end(rt: HostRuntime) -> Result<(), Fail> {
+    let scenario = with_liar(rt.alloc(), "babble", ALL)?;
+    let answer = run(rt.alloc(), scenario.as_str())?;
+    let found = first_bytes(rt.alloc(), &answer.report, 3)?;
+    assert_eq!(rt; found.len(), 4_096);
+    Ok(())
+}
+
+// A liar that says one byte each time it is asked to hear. It shares a value, so that one can count who is left that has it.
+#[derive(Drop)]
+struct Counting {
+    _shared: Arc<u8, Global>,
+}
+
+impl Liar for Counting {
+    ghost called = { λ _. codes "counting" };
+
+    fn name(&self) -> LiarName {
+        LiarName::of("counting").unwrap()
+    }
+
+    fn start(&mut self, _alloc: Global, _me: &LiarSeat, _lies: &mut Lies) {}
+
+    fn hear(&mut self, alloc: Global, _me: &LiarSeat, _post: &Post, lies: &mut Lies) {
+        lies.say(alloc, 0, To::Node(0), &[0xff]);
+    }
+}
+
+// A liar is asked to hear as often as the scenario says, and at the end nothing is left of the cast, be it asked for or not.
+#[test]
+fn boxes_are_asked_and_dropped(rt: HostRuntime) -> Result<(), Fail> {
+    let alloc = rt.alloc();
+    for hears in [0u32, 1, 3, 50] {
+        let shared = Arc::new(alloc, 0u8)?;
+        let mut liars: Vec<Box<dyn Liar>> = Vec::new(alloc);
+        for _ in 0..3 {
+            let counting = Counting {
+                _shared: shared.clone()?,
+            };
+            liars.push(Box::new(alloc, counting)?)?;
+        }
+        let scenario = with_liar(alloc, "counting", hears)?;
+        let answer = call_with(alloc, &Request::new(&["run"], scenario.as_str()), liars)?;
+        let found = first_bytes(alloc, &answer.report, 3)?;
+        assert_eq!(rt; found.len(), hears as usize);
+        assert_eq!(rt; Arc::strong_count(&shared), 1, "{hears}");
+    }
+    Ok(())
+}

@@ -1,0 +1,111 @@
+//! Whether reports are quiet: those of runs, and those of which something was taken away.
+
+use crate::calls::run;
+use crate::texts::four;
+use hb_rules::{Fate, Report};
+use quiet_check::is_quiet;
+use std::alloc::{AllocError, Global};
+use std::test::Fail;
+
+// The report of a run of four nodes, with these keys besides.
+fn report_of(alloc: Global, keys: &str) -> Result<Report, AllocError> {
+    let answer = run(alloc, four(alloc, keys)?.as_str())?;
+    Ok(answer.report)
+}
+
+// A run that ended left nothing to do, whatever was lost, doubled, lied or stopped on the way.
+#[test]
+fn reports_of_runs(rt: HostRuntime) -> Result<(), Fail> {
+    let alloc = rt.alloc();
+    for keys in [
+        "",
+        r#","version":2"#,
+        r#","links":[{"to":2,"every":1,"at":0,"shape":"drop"}]"#,
+        r#","links":[{"from":3,"every":1,"at":0,"shape":"late"},{"every":2,"at":0,"shape":"twice"}]"#,
+        r#","order":"mixed","seed":7,"liars":[{"node":3,"name":"bval_both"}]"#,
+        r#","faults":[{"node":1,"actor":1,"call":9}]"#,
+        r#","stops":[{"node":1,"actor":4,"call":9,"leave":"torn"}]"#,
+    ] {
+        assert!(rt; is_quiet(alloc, &report_of(alloc, keys)?)?, "{keys}");
+    }
+    Ok(())
+}
+
+// A lane that has spent its rounds owes nothing.
+#[test]
+fn spent_rounds(rt: HostRuntime) -> Result<(), Fail> {
+    for version in [1u32, 2] {
+        let scenario = format!(in rt.alloc();
+            "{{\"nodes\":1,\"faulty\":0,\"epochs\":1,\"rounds\":2,\"seed\":0,\"version\":{version}}}"
+        )?;
+        let answer = run(rt.alloc(), scenario.as_str())?;
+        assert_eq!(rt; answer.status, 5);
+        assert!(rt; is_quiet(rt.alloc(), &answer.report)?);
+    }
+    Ok(())
+}
+
+// What is done to a report.
+#[derive(Clone, Copy)]
+enum Change {
+    LoseTheLastNumber,
+    HaveANumberTwice,
+    HaveANumberOfNoPost,
+    ExchangeTwoEnds,
+    LoseAnEnd,
+    EndWithoutPosts,
+    LoseTheLastPost,
+}
+
+fn apply(report: &mut Report, change: Change) -> Result<(), AllocError> {
+    match change {
+        Change::LoseTheLastNumber => {
+            report.ends[7].got.pop();
+        }
+        Change::HaveANumberTwice => {
+            let number = report.ends[7].got[0];
+            report.ends[7].got.push(number)?;
+        }
+        Change::HaveANumberOfNoPost => {
+            report.ends[7].got.push(4_194_304)?;
+        }
+        Change::ExchangeTwoEnds => report.ends.swap(3, 4),
+        Change::LoseAnEnd => {
+            report.ends.pop();
+        }
+        Change::EndWithoutPosts => {
+            report.ends[7].fate = Fate::Memory;
+            report.ends[7].got.clear();
+        }
+        Change::LoseTheLastPost => {
+            report.history.pop();
+        }
+    }
+    Ok(())
+}
+
+// Each actor needs each number once. An actor that has ended needs none. The last post is a Closed, which a desk owes without it.
+#[test]
+fn changed_reports(rt: HostRuntime) -> Result<(), Fail> {
+    for (what, wanted) in [
+        (Change::LoseTheLastNumber, false),
+        (Change::HaveANumberTwice, true),
+        (Change::HaveANumberOfNoPost, false),
+        (Change::ExchangeTwoEnds, false),
+        (Change::LoseAnEnd, false),
+        (Change::EndWithoutPosts, true),
+        (Change::LoseTheLastPost, false),
+    ] {
+        let mut report = report_of(rt.alloc(), "")?;
+        apply(&mut report, what)?;
+        assert_eq!(rt; is_quiet(rt.alloc(), &report)?, wanted);
+    }
+    Ok(())
+}
+
+// A report of no run has none of the ends that its one node has to have.
+#[test]
+fn no_run(rt: HostRuntime) -> Result<(), Fail> {
+    assert!(rt; !is_quiet(rt.alloc(), &Report::empty(rt.alloc()))?);
+    Ok(())
+}

@@ -1,0 +1,60 @@
+//! The texts of a run.
+
+ghost use Rattle.std.specs.Prelude.{◌≡◌, ◌<◌, ◌^◌, length};
+ghost use Rattle.hb_app.specs.declared.printing.PrintFault.TheVariants as faults;
+ghost use Rattle.hb_app.specs.Printed.{Prints};
+ghost use Rattle.hb_app.specs.Streams.{sink_view};
+
+use crate::command::Text;
+use accuse::accuse;
+use accuse_text::print_accuse;
+use hb_base::{Failed, Sink};
+use hb_rules::Report;
+use ledger_text::print_run;
+use std::alloc::{AllocError, Global};
+use trace_text::print_trace;
+
+/// Why a text was not printed whole.
+#[derive(Clone, Copy, Debug, PartialEq, Eq)]
+pub enum PrintFault {
+    /// A put failed. A front of the text was written.
+    Sink,
+    /// No memory was left for the text. Nothing was written.
+    Memory,
+}
+
+impl From<Failed> for PrintFault {
+    ghost from_gives = { λ _ e. e ≡ faults.Sink };
+
+    fn from(_: Failed) -> Self {
+        PrintFault::Sink
+    }
+}
+
+impl From<AllocError> for PrintFault {
+    ghost from_gives = { λ _ e. e ≡ faults.Memory };
+
+    fn from(_: AllocError) -> Self {
+        PrintFault::Memory
+    }
+}
+
+/// Prints a text of a run.
+pub fn print<O: Sink>(
+    alloc: Global,
+    text: Text,
+    report: &Report,
+    out: &mut O,
+) -> Result<(), PrintFault>
+    requires { length report.now.history.items < 2 ^ 32 }
+    ensures { Prints text report.now (sink_view O.held O.faults out.old) (sink_view O.held O.faults out.new) result }
+{
+    match text {
+        Text::Ledgers => Ok(print_run(report, out)?),
+        Text::Trace => Ok(print_trace(report, out)?),
+        Text::Accused => {
+            let found = accuse(alloc, &report.config, report.history.as_slice())?;
+            Ok(print_accuse(report, found.as_slice(), out)?)
+        }
+    }
+}
