@@ -56,7 +56,10 @@ fn fate_of(report: &Report, actor: u8) -> Option<Fate> {
 
 // Checks that the disk of an actor is called so often, by a fault at the last call and one behind it.
 fn check_calls(rt: &impl Abort, alloc: Global, actor: u8, calls: u32) -> Result<(), Fail> {
-    for (call, fate) in [(calls, Fate::Journal), (calls + 1, Fate::Running)] {
+    for (call, fate) in [
+        (calls, Fate::Journal),
+        (calls.saturating_add(1), Fate::Running),
+    ] {
         let keys = format!(in alloc;
             ",\"faults\":[{{\"node\":0,\"actor\":{actor},\"call\":{call}}}]"
         )?;
@@ -76,7 +79,7 @@ fn calls_of_disks(rt: HostRuntime) -> Result<(), Fail> {
 #[test]
 fn faults_at_each_call(rt: HostRuntime) -> Result<(), Fail> {
     let alloc = rt.alloc();
-    for actor in 0..2u8 {
+    for (actor, other) in [(0u8, 1u8), (1, 0)] {
         for call in 1..61u32 {
             let keys = format!(in alloc;
                 ",\"faults\":[{{\"node\":0,\"actor\":{actor},\"call\":{call}}}]"
@@ -89,7 +92,7 @@ fn faults_at_each_call(rt: HostRuntime) -> Result<(), Fail> {
                 "{keys}"
             );
             assert_eq!(rt;
-                fate_of(&answer.report, 1 - actor),
+                fate_of(&answer.report, other),
                 Some(Fate::Running),
                 "{keys}"
             );
@@ -101,7 +104,7 @@ fn faults_at_each_call(rt: HostRuntime) -> Result<(), Fail> {
 // Runs the node with a stop at a call, and one more at the third call of the restart. Whatever the crashes leave, the actor begins
 // again, posts all again that it had posted, and all epochs are closed.
 fn check_stops(rt: &impl Abort, alloc: Global, actor: u8, call: u32) -> Result<(), Fail> {
-    let again = call + 3;
+    let again = call.saturating_add(3);
     for leave in ["old", "new", "torn"] {
         let keys = format!(in alloc;
             ",\"stops\":[{{\"node\":0,\"actor\":{actor},\"call\":{call},\"leave\":\"{leave}\"}},

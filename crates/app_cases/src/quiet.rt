@@ -2,7 +2,7 @@
 
 use crate::calls::run;
 use crate::texts::four;
-use hb_rules::{Fate, Report};
+use hb_rules::{End, Fate, Report};
 use quiet_check::is_quiet;
 use std::alloc::{AllocError, Global};
 use std::test::Fail;
@@ -51,7 +51,7 @@ enum Change {
     LoseTheLastNumber,
     HaveANumberTwice,
     HaveANumberOfNoPost,
-    ExchangeTwoEnds,
+    MoveTheLastEnd,
     LoseAnEnd,
     EndWithoutPosts,
     LoseTheLastPost,
@@ -59,26 +59,40 @@ enum Change {
 
 fn apply(report: &mut Report, change: Change) -> Result<(), AllocError> {
     match change {
-        Change::LoseTheLastNumber => {
-            report.ends[7].got.pop();
+        Change::MoveTheLastEnd => {
+            if let Some(end) = report.ends.pop() {
+                report.ends.insert(0, end)?;
+            }
         }
-        Change::HaveANumberTwice => {
-            let number = report.ends[7].got[0];
-            report.ends[7].got.push(number)?;
-        }
-        Change::HaveANumberOfNoPost => {
-            report.ends[7].got.push(4_194_304)?;
-        }
-        Change::ExchangeTwoEnds => report.ends.swap(3, 4),
         Change::LoseAnEnd => {
             report.ends.pop();
         }
-        Change::EndWithoutPosts => {
-            report.ends[7].fate = Fate::Memory;
-            report.ends[7].got.clear();
-        }
         Change::LoseTheLastPost => {
             report.history.pop();
+        }
+        _ => {
+            if let Some(end) = report.ends.get_mut(7) {
+                apply_to_end(end, change)?;
+            }
+        }
+    }
+    Ok(())
+}
+
+fn apply_to_end(end: &mut End, change: Change) -> Result<(), AllocError> {
+    match change {
+        Change::HaveANumberTwice => {
+            if let Some(number) = end.got.first().copied() {
+                end.got.push(number)?;
+            }
+        }
+        Change::HaveANumberOfNoPost => end.got.push(4_194_304)?,
+        Change::EndWithoutPosts => {
+            end.fate = Fate::Memory;
+            end.got.clear();
+        }
+        _ => {
+            end.got.pop();
         }
     }
     Ok(())
@@ -91,7 +105,7 @@ fn changed_reports(rt: HostRuntime) -> Result<(), Fail> {
         (Change::LoseTheLastNumber, false),
         (Change::HaveANumberTwice, true),
         (Change::HaveANumberOfNoPost, false),
-        (Change::ExchangeTwoEnds, false),
+        (Change::MoveTheLastEnd, false),
         (Change::LoseAnEnd, false),
         (Change::EndWithoutPosts, true),
         (Change::LoseTheLastPost, false),
