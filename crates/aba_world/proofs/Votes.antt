@@ -16,16 +16,11 @@ use Rattle.hb_rules.specs.Hearing.{Hearing, own_in, said_in}
 use Rattle.hb_rules.specs.Marks.{single, same_vals, is_est, is_bval, is_aux, is_conf, is_pick, any_aux, any_conf, bears, Claim, bvals, auxes, any_auxes, confs, any_confs, confs_with, makes}
 use Rattle.hb_rules.specs.Rules.{MayCast}
 use Rattle.hb_rules.specs.History.{IsLegal}
+use Rattle.hb_rules.proofs.AgreementParts.{same_bits}
 use Rattle.hb_rules.proofs.Among.{any_stands, IsAway}
 use Rattle.hb_rules.proofs.Once.{IsOnce, cast_once}
 
 -- ---- the vote that passes a test
-
-same_bits : (b d : Bool) → same_bit b d ≡ true → b ≡ d
-same_bits true true h = refl
-same_bits true false h = absurd (cc (h))
-same_bits false true h = absurd (cc (h))
-same_bits false false h = refl
 
 same_sets : (v w : Vals) → same_vals v w ≡ true → v ≡ w
 same_sets Zero Zero h = refl
@@ -34,11 +29,22 @@ same_sets Both Both h = refl
 same_sets v w h = absurd (cc (h))
 
 -- epoch and round are those of the test, and the rest of it passes
-named : (d e s r : ℕ) (rest : Bool) → ((d == e) && ((s == r) && rest)) ≡ true → (d ≡ e) × (s ≡ r) × (rest ≡ true)
+pub named : (d e s r : ℕ) (rest : Bool) → ((d == e) && ((s == r) && rest)) ≡ true → (d ≡ e) × (s ≡ r) × (rest ≡ true)
 named d e s r rest h =
     let outer = and_parts (d == e) ((s == r) && rest) h in
     let inner = and_parts (s == r) rest outer.1 in
     (eqb-true d e outer.0, eqb-true s r inner.0, inner.1)
+
+-- votes of one kind are the same where their parts are
+pub alike : {A : Type 0} (make : ℕ → ℕ → A → Vote) (d e s r : ℕ) (x y : A) → (d ≡ e) × (s ≡ r) × (x ≡ y) → make d s x ≡ make e r y
+alike make d e s r x y is =
+    ap (λ (n : ℕ). make n s x) is.0 ∙ ap (λ (n : ℕ). make e n x) is.1 ∙ ap (make e r) is.2
+
+-- the same of a test of epoch and round alone
+pub of_round : {A : Type 0} (make : ℕ → ℕ → A → Vote) (d e s r : ℕ) (x : A) → ((d == e) && (s == r)) ≡ true → make d s x ≡ make e r x
+of_round make d e s r x h =
+    let is = and_parts (d == e) (s == r) h in
+    alike make d e s r x x (eqb-true d e is.0, eqb-true s r is.1, refl)
 
 -- so are the bits, and the sets
 named_bit : (d e s r : ℕ) (bit b : Bool) → ((d == e) && ((s == r) && same_bit bit b)) ≡ true → (d ≡ e) × (s ≡ r) × (bit ≡ b)
@@ -46,11 +52,6 @@ named_bit d e s r bit b h = let is = named d e s r (same_bit bit b) h in (is.0, 
 
 named_set : (d e s r : ℕ) (set vals : Vals) → ((d == e) && ((s == r) && same_vals set vals)) ≡ true → (d ≡ e) × (s ≡ r) × (set ≡ vals)
 named_set d e s r set vals h = let is = named d e s r (same_vals set vals) h in (is.0, is.1, same_sets set vals is.2)
-
--- votes of one kind are the same where their parts are
-alike : {A : Type 0} (make : ℕ → ℕ → A → Vote) (d e s r : ℕ) (x y : A) → (d ≡ e) × (s ≡ r) × (x ≡ y) → make d s x ≡ make e r y
-alike make d e s r x y is =
-    ap (λ (n : ℕ). make n s x) is.0 ∙ ap (λ (n : ℕ). make e n x) is.1 ∙ ap (make e r) is.2
 
 pub est-is : (e r : ℕ) (b : Bool) (vote : Vote) → is_est e r b vote ≡ true → vote ≡ Est e r b
 est-is e r b (Est d s bit) h = alike Est d e s r bit b (named_bit d e s r bit b h)
@@ -60,11 +61,11 @@ pub bval-is : (e r : ℕ) (b : Bool) (vote : Vote) → is_bval e r b vote ≡ tr
 bval-is e r b (Bval d s bit) h = alike Bval d e s r bit b (named_bit d e s r bit b h)
 bval-is e r b vote h = absurd (cc (h))
 
-aux-is : (e r : ℕ) (b : Bool) (vote : Vote) → is_aux e r b vote ≡ true → vote ≡ Aux e r b
+pub aux-is : (e r : ℕ) (b : Bool) (vote : Vote) → is_aux e r b vote ≡ true → vote ≡ Aux e r b
 aux-is e r b (Aux d s bit) h = alike Aux d e s r bit b (named_bit d e s r bit b h)
 aux-is e r b vote h = absurd (cc (h))
 
-conf-is : (e r : ℕ) (vals : Vals) (vote : Vote) → is_conf e r vals vote ≡ true → vote ≡ Conf e r vals
+pub conf-is : (e r : ℕ) (vals : Vals) (vote : Vote) → is_conf e r vals vote ≡ true → vote ≡ Conf e r vals
 conf-is e r vals (Conf d s set) h = alike Conf d e s r set vals (named_set d e s r set vals h)
 conf-is e r vals vote h = absurd (cc (h))
 

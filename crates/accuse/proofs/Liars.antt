@@ -37,74 +37,68 @@ use Rattle.accuse.proofs.Against.{either_true, not_true}
 
 -- ---- votes that a correct actor casts once
 
+-- what passes a test of one number passes that of an equal one, and so it is with two numbers
+in_epoch : (test : ℕ → Vote → Bool) (d e : ℕ) (own : List Vote) → (d == e) ≡ true → list_any (test e) own ≡ list_any (test d) own
+in_epoch test d e own h = ap (λ (k : ℕ). list_any (test k) own) (sym (eqb-true d e h))
+
+in_round : (test : ℕ → ℕ → Vote → Bool) (d e s r : ℕ) (own : List Vote) → ((d == e) && (s == r)) ≡ true
+    → list_any (test e r) own ≡ list_any (test d s) own
+in_round test d e s r own h =
+    let parts = and_parts (d == e) (s == r) h in
+    let epochs : d ≡ e = eqb-true d e parts.0 in
+    let rounds : s ≡ r = eqb-true s r parts.1 in
+    sym (λ k. list_any (test (epochs k) (rounds k)) own)
+
 -- a vote that another excludes may be cast only where no vote is that the other excludes
 limited : (c : Numbers) (i x : ℕ) (own : List Vote) (heard : List Hearing) (v w : Vote) → excludes v w ≡ true → MayCast c i x own heard w
     → list_any (excludes v) own ≡ false
 unfolding excludes
 limited c i x own heard (Val e m root shard branch) (Val d t other piece path) h (inl may) =
-    let parts = and_parts (d == e) (t == m) h in
-    let epochs : d ≡ e = eqb-true d e parts.0 in
-    let targets : t ≡ m = eqb-true t m parts.1 in
-    sym (λ k. list_any (is_val_to (epochs k) (targets k)) own) ∙ may.1.2
+    in_round is_val_to d e t m own h ∙ may.1.2
 limited c i x own heard (Val e m root shard branch) (Val d t other piece path) h (inr may) = absurd may.1
 limited c i x own heard (Val e m root shard branch) w h may = absurd (cc (h))
 limited c i x own heard (Echo e root shard branch) (Echo d other piece path) h (inl may) =
-    ap (λ (k : ℕ). list_any (is_any_echo k) own) (sym (eqb-true d e h)) ∙ may.1.2
+    in_epoch is_any_echo d e own h ∙ may.1.2
 limited c i x own heard (Echo e root shard branch) (Echo d other piece path) h (inr may) = absurd may.1
 limited c i x own heard (Echo e root shard branch) w h may = absurd (cc (h))
 limited c i x own heard (Ready e root) (Ready d other) h (inl may) =
-    ap (λ (k : ℕ). list_any (is_any_ready k) own) (sym (eqb-true d e (if_some (d == e) other h))) ∙ may.1.1
+    in_epoch is_any_ready d e own (if_some (d == e) other h) ∙ may.1.1
 limited c i x own heard (Ready e root) (Ready d other) h (inr may) = absurd may.1
 limited c i x own heard (Ready e root) w h may = absurd (cc (h))
 limited c i x own heard (Delivered e value) (Delivered d other) h (inl may) =
-    ap (λ (k : ℕ). list_any (is_any_delivery k) own) (sym (eqb-true d e (if_some (d == e) other h))) ∙ may.1.1
+    in_epoch is_any_delivery d e own (if_some (d == e) other h) ∙ may.1.1
 limited c i x own heard (Delivered e value) (Delivered d other) h (inr may) = absurd may.1
 limited c i x own heard (Delivered e value) w h may = absurd (cc (h))
 limited c i x own heard (Est e r bit) (Est d s other) h (inl may) =
-    let parts = and_parts (d == e) (s == r) h in
-    let epochs : d ≡ e = eqb-true d e parts.0 in
-    let rounds : s ≡ r = eqb-true s r parts.1 in
-    sym (λ k. list_any (is_any_est (epochs k) (rounds k)) own) ∙ may.1.2
+    in_round is_any_est d e s r own h ∙ may.1.2
 limited c i x own heard (Est e r bit) (Est d s other) h (inr may) = absurd may.1
 limited c i x own heard (Est e r bit) w h may = absurd (cc (h))
 limited c i x own heard (Aux e r bit) (Aux d s other) h (inl may) =
-    let parts = and_parts (d == e) (s == r) h in
-    let epochs : d ≡ e = eqb-true d e parts.0 in
-    let rounds : s ≡ r = eqb-true s r parts.1 in
-    sym (λ k. list_any (is_any_aux (epochs k) (rounds k)) own) ∙ may.1.3
+    in_round is_any_aux d e s r own h ∙ may.1.3
 limited c i x own heard (Aux e r bit) (Aux d s other) h (inr may) = absurd may.1
 limited c i x own heard (Aux e r bit) w h may = absurd (cc (h))
 limited c i x own heard (Conf e r vals) (Conf d s others) h (inl may) =
-    let parts = and_parts (d == e) (s == r) h in
-    let epochs : d ≡ e = eqb-true d e parts.0 in
-    let rounds : s ≡ r = eqb-true s r parts.1 in
-    sym (λ k. list_any (is_any_conf (epochs k) (rounds k)) own) ∙ may.1.3
+    in_round is_any_conf d e s r own h ∙ may.1.3
 limited c i x own heard (Conf e r vals) (Conf d s others) h (inr may) = absurd may.1
 limited c i x own heard (Conf e r vals) w h may = absurd (cc (h))
 limited c i x own heard (Pick e r vals) (Pick d s others) h (inl may) =
-    let parts = and_parts (d == e) (s == r) h in
-    let epochs : d ≡ e = eqb-true d e parts.0 in
-    let rounds : s ≡ r = eqb-true s r parts.1 in
-    sym (λ k. list_any (is_any_pick (epochs k) (rounds k)) own) ∙ may.1.2
+    in_round is_any_pick d e s r own h ∙ may.1.2
 limited c i x own heard (Pick e r vals) (Pick d s others) h (inr may) = absurd may.1
 limited c i x own heard (Pick e r vals) w h may = absurd (cc (h))
 limited c i x own heard (Coin e r share salt branch) (Coin d s other sugar path) h (inl may) =
-    let parts = and_parts (d == e) (s == r) h in
-    let epochs : d ≡ e = eqb-true d e parts.0 in
-    let rounds : s ≡ r = eqb-true s r parts.1 in
-    sym (λ k. list_any (is_any_coin (epochs k) (rounds k)) own) ∙ may.1.5
+    in_round is_any_coin d e s r own h ∙ may.1.5
 limited c i x own heard (Coin e r share salt branch) (Coin d s other sugar path) h (inr may) = absurd may.1
 limited c i x own heard (Coin e r share salt branch) w h may = absurd (cc (h))
 limited c i x own heard (Decided e bit) (Decided d other) h (inl may) =
-    ap (λ (k : ℕ). list_any (is_any_decision k) own) (sym (eqb-true d e (if_some (d == e) other h))) ∙ may.1.1
+    in_epoch is_any_decision d e own (if_some (d == e) other h) ∙ may.1.1
 limited c i x own heard (Decided e bit) (Decided d other) h (inr may) = absurd may.1
 limited c i x own heard (Decided e bit) w h may = absurd (cc (h))
 limited c i x own heard (Propose e value) (Propose d other) h (inr may) =
-    ap (λ (k : ℕ). list_any (is_any_proposal k) own) (sym (eqb-true d e (if_some (d == e) other h))) ∙ may.1.2
+    in_epoch is_any_proposal d e own (if_some (d == e) other h) ∙ may.1.2
 limited c i x own heard (Propose e value) (Propose d other) h (inl may) = absurd may.1
 limited c i x own heard (Propose e value) w h may = absurd (cc (h))
 limited c i x own heard (Closed e list) (Closed d others) h (inr may) =
-    ap (λ (k : ℕ). list_any (is_any_closing k) own) (sym (eqb-true d e (if_some (d == e) others h))) ∙ may.1.2
+    in_epoch is_any_closing d e own (if_some (d == e) others h) ∙ may.1.2
 limited c i x own heard (Closed e list) (Closed d others) h (inl may) = absurd may.1
 limited c i x own heard (Closed e list) w h may = absurd (cc (h))
 limited c i x own heard (Bval e r bit) w h may = absurd (cc (h))

@@ -1,12 +1,9 @@
-//! Whom histories accuse. The answers are those of a separate program in Python, which tries all pairs of posts.
+//! Histories that accuse nodes. The answers are those of a separate program in Python, which tries all pairs of posts.
 
-use crate::posts::{accusations, are_these};
-use std::process::Abort;
+use crate::posts::{History, check_all};
 use std::test::Fail;
 
-// What a history shows; the number of nodes, and the version of the rules; a word for each post; and for each accused node its
-// number and those of its two posts.
-const HISTORIES: [(&str, u8, u8, &[&str], &[(u8, u32, u32)]); 62] = [
+const ACCUSING: [History<'static>; 32] = [
     (
         "two Aux of one round, behind the proposals of the others",
         4,
@@ -20,36 +17,6 @@ const HISTORIES: [(&str, u8, u8, &[&str], &[(u8, u32, u32)]); 62] = [
         ],
         &[(3, 3, 4)],
     ),
-    (
-        "an actor may support both bits",
-        4,
-        1,
-        &[
-            "00.04.10.00.0000000200.00",
-            "01.04.10.00.0000000200.00",
-            "02.04.10.00.0000000200.00",
-            "03.00.06.00.00.00",
-            "03.00.06.00.00.01",
-        ],
-        &[],
-    ),
-    (
-        "a run of one node",
-        1,
-        1,
-        &[
-            "00.01.10.00.000000020000",
-            "00.00.05.00.00.01",
-            "00.00.06.00.00.01",
-            "00.00.07.00.00.01",
-            "00.00.08.00.00.02",
-            "00.00.0a.00.01",
-            "00.01.11.00",
-            "00.01.12.00.01.00.0000000200.00",
-        ],
-        &[],
-    ),
-    ("no post", 4, 2, &[], &[]),
     (
         "Vals: two roots, at two nodes",
         4,
@@ -79,20 +46,6 @@ const HISTORIES: [(&str, u8, u8, &[&str], &[(u8, u32, u32)]); 62] = [
         &[(1, 0, 1)],
     ),
     (
-        "Vals: shards of one root for two nodes",
-        4,
-        2,
-        &["01.02.01.00.00.r.l.aa.v", "01.02.01.00.01.r.l.ab.w"],
-        &[],
-    ),
-    (
-        "Vals: another epoch",
-        4,
-        2,
-        &["01.02.01.00.00.r.l.aa.v", "01.02.01.01.00.s.l.aa.v"],
-        &[],
-    ),
-    (
         "Echo: two roots",
         4,
         2,
@@ -114,25 +67,11 @@ const HISTORIES: [(&str, u8, u8, &[&str], &[(u8, u32, u32)]); 62] = [
         &[(1, 0, 1)],
     ),
     (
-        "Echo: another epoch",
-        4,
-        2,
-        &["01.02.02.00.r.l.aa.v", "01.02.02.01.s.l.aa.v"],
-        &[],
-    ),
-    (
         "Ready",
         4,
         2,
         &["01.02.03.1f.r", "01.02.03.1f.s"],
         &[(1, 0, 1)],
-    ),
-    (
-        "Ready: another epoch",
-        4,
-        2,
-        &["01.02.03.1f.r", "01.02.03.1e.s"],
-        &[],
     ),
     (
         "Delivered",
@@ -142,32 +81,11 @@ const HISTORIES: [(&str, u8, u8, &[&str], &[(u8, u32, u32)]); 62] = [
         &[(1, 0, 1)],
     ),
     (
-        "Delivered: another epoch",
-        4,
-        2,
-        &["01.02.04.00.l.aa", "01.02.04.01.l.ab"],
-        &[],
-    ),
-    (
         "Est",
         4,
         2,
         &["01.02.05.00.1f.00", "01.02.05.00.1f.01"],
         &[(1, 0, 1)],
-    ),
-    (
-        "Est: another round",
-        4,
-        2,
-        &["01.02.05.00.1f.00", "01.02.05.00.1e.01"],
-        &[],
-    ),
-    (
-        "Est: another epoch",
-        4,
-        2,
-        &["01.02.05.00.03.00", "01.02.05.01.03.01"],
-        &[],
     ),
     (
         "Aux",
@@ -177,20 +95,6 @@ const HISTORIES: [(&str, u8, u8, &[&str], &[(u8, u32, u32)]); 62] = [
         &[(1, 0, 1)],
     ),
     (
-        "Aux: another round",
-        4,
-        2,
-        &["01.02.07.00.1f.01", "01.02.07.00.1e.00"],
-        &[],
-    ),
-    (
-        "Aux: another epoch",
-        4,
-        2,
-        &["01.02.07.00.03.01", "01.02.07.01.03.00"],
-        &[],
-    ),
-    (
         "Pick",
         4,
         2,
@@ -198,46 +102,11 @@ const HISTORIES: [(&str, u8, u8, &[&str], &[(u8, u32, u32)]); 62] = [
         &[(1, 0, 1)],
     ),
     (
-        "Pick: another round",
-        4,
-        2,
-        &["01.02.08.00.1f.01", "01.02.08.00.1e.03"],
-        &[],
-    ),
-    (
-        "Pick: another epoch",
-        4,
-        2,
-        &["01.02.08.00.03.01", "01.02.08.01.03.03"],
-        &[],
-    ),
-    (
         "Conf",
         4,
         2,
         &["01.02.0b.00.1f.02", "01.02.0b.00.1f.01"],
         &[(1, 0, 1)],
-    ),
-    (
-        "Conf: another round",
-        4,
-        2,
-        &["01.02.0b.00.1f.02", "01.02.0b.00.1e.01"],
-        &[],
-    ),
-    (
-        "Conf: another epoch",
-        4,
-        2,
-        &["01.02.0b.00.03.02", "01.02.0b.01.03.01"],
-        &[],
-    ),
-    (
-        "Conf is no vote of version 1",
-        4,
-        1,
-        &["01.02.0b.00.03.01", "01.02.0b.00.03.02"],
-        &[],
     ),
     (
         "Pick in version 1",
@@ -268,25 +137,11 @@ const HISTORIES: [(&str, u8, u8, &[&str], &[(u8, u32, u32)]); 62] = [
         &[(1, 0, 1)],
     ),
     (
-        "Coin: another round",
-        4,
-        2,
-        &["01.02.09.00.00.07.t.v", "01.02.09.00.01.08.t.v"],
-        &[],
-    ),
-    (
         "Decided",
         4,
         2,
         &["01.02.0a.05.00", "01.02.0a.05.01"],
         &[(1, 0, 1)],
-    ),
-    (
-        "Decided: another epoch",
-        4,
-        2,
-        &["01.02.0a.05.00", "01.02.0a.06.01"],
-        &[],
     ),
     (
         "Propose",
@@ -296,14 +151,6 @@ const HISTORIES: [(&str, u8, u8, &[&str], &[(u8, u32, u32)]); 62] = [
         &[(1, 0, 1)],
     ),
     (
-        "Propose: another epoch",
-        4,
-        2,
-        &["01.02.10.00.l.aa", "01.02.10.01.l.ab"],
-        &[],
-    ),
-    ("NoMore twice", 4, 2, &["01.02.11.00", "01.02.11.00"], &[]),
-    (
         "Closed",
         4,
         2,
@@ -311,70 +158,11 @@ const HISTORIES: [(&str, u8, u8, &[&str], &[(u8, u32, u32)]); 62] = [
         &[(1, 0, 1)],
     ),
     (
-        "Closed: another epoch",
-        4,
-        2,
-        &["01.02.12.00.01.00.l.aa", "01.02.12.01.00"],
-        &[],
-    ),
-    (
-        "another kind",
-        4,
-        2,
-        &["01.02.05.00.03.01", "01.02.07.00.03.00"],
-        &[],
-    ),
-    (
-        "the same Val twice",
-        4,
-        2,
-        &["01.02.01.00.01.r.l.aa.v", "01.02.01.00.01.r.l.aa.v"],
-        &[],
-    ),
-    (
-        "the same Closed twice",
-        4,
-        2,
-        &["01.02.12.00.01.00.l.aa", "01.02.12.00.01.00.l.aa"],
-        &[],
-    ),
-    (
-        "another actor",
-        4,
-        1,
-        &[
-            "02.00.07.00.00.00",
-            "02.01.07.00.00.01",
-            "02.04.0a.00.00",
-            "02.ff.0a.00.01",
-        ],
-        &[],
-    ),
-    (
         "actors that no run has",
         4,
         1,
         &["02.ff.0a.00.00", "02.fe.0a.00.01", "02.ff.0a.00.01"],
         &[(2, 0, 2)],
-    ),
-    (
-        "another node",
-        4,
-        1,
-        &["00.00.07.00.00.00", "01.00.07.00.00.01"],
-        &[],
-    ),
-    (
-        "nodes that the run has not",
-        4,
-        1,
-        &[
-            "04.00.07.00.00.00",
-            "04.00.07.00.00.01",
-            "ff.00.03.00.r",
-            "ff.00.03.00.s",
-        ],
-        &[],
     ),
     (
         "several nodes, of which the last comes first",
@@ -466,24 +254,6 @@ const HISTORIES: [(&str, u8, u8, &[&str], &[(u8, u32, u32)]); 62] = [
         &[(1, 1, 2)],
     ),
     (
-        "bytes that spell nothing",
-        4,
-        1,
-        &[
-            "00.00",
-            "00.00.07",
-            "00.00.07.00.00.00",
-            "00.00.07.00.00.02",
-            "00.00.07.00.00.01.00",
-            "00.00.07.20.00.01",
-            "00.00.07.00.20.01",
-            "00.00.07.00.00",
-            "00.00.ff.00.00.01",
-            "00.00.0c.00.00.01",
-        ],
-        &[],
-    ),
-    (
         "and a vote behind them",
         4,
         1,
@@ -493,17 +263,6 @@ const HISTORIES: [(&str, u8, u8, &[&str], &[(u8, u32, u32)]); 62] = [
             "00.00.07.00.00.01",
         ],
         &[(0, 0, 2)],
-    ),
-    (
-        "a Val for a node that the run has not",
-        4,
-        1,
-        &[
-            "01.01.01.00.04.r.l.aa.v",
-            "01.01.01.00.04.s.l.aa.v",
-            "01.01.01.00.03.r.l.aa.v",
-        ],
-        &[],
     ),
     (
         "epochs and rounds that the run has not",
@@ -522,10 +281,6 @@ const HISTORIES: [(&str, u8, u8, &[&str], &[(u8, u32, u32)]); 62] = [
 ];
 
 #[test]
-fn histories(rt: HostRuntime) -> Result<(), Fail> {
-    for (what, nodes, version, posts, wanted) in HISTORIES {
-        let found = accusations(rt.alloc(), nodes, version, posts)?;
-        assert!(rt; are_these(&found, wanted), "{what}");
-    }
-    Ok(())
+fn accusing(rt: HostRuntime) -> Result<(), Fail> {
+    check_all(&rt, rt.alloc(), &ACCUSING)
 }

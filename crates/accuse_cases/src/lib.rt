@@ -7,6 +7,8 @@ mod callers;
 #[cfg(test)]
 mod histories;
 #[cfg(test)]
+mod near_misses;
+#[cfg(test)]
 mod posts;
 #[cfg(test)]
 mod texts;

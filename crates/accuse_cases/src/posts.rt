@@ -1,9 +1,11 @@
 //! Posts, told by words.
 
+use crate::callers::count_accused;
 use accuse::{Accusation, accuse};
 use hb_base::{Bytes, Config, NodeSet};
 use hb_wire::{Post, To};
 use std::alloc::Global;
+use std::process::Abort;
 use std::test::Fail;
 
 // Adds so many bytes that are all alike.
@@ -74,23 +76,8 @@ pub(crate) fn config_of(nodes: u8, version: u8) -> Result<Config, Fail> {
     Ok(Config::new(nodes, faulty, 1, 3, 64, 0, version, NodeSet::new()).ok_or("no config")?)
 }
 
-// Whom these posts accuse.
-pub(crate) fn accusations(
-    alloc: Global,
-    nodes: u8,
-    version: u8,
-    words: &[&str],
-) -> Result<Vec<Accusation>, Fail> {
-    let config = config_of(nodes, version)?;
-    let posts = posts_of(alloc, words)?;
-    if posts.len() > 1000 {
-        return Err("too many posts".into());
-    }
-    Ok(accuse(alloc, &config, &posts)?)
-}
-
 // Whether these are the accusations, told by numbers.
-pub(crate) fn are_these(found: &[Accusation], wanted: &[(u8, u32, u32)]) -> bool {
+fn are_these(found: &[Accusation], wanted: &[(u8, u32, u32)]) -> bool {
     let mut same = found.len() == wanted.len();
     for (accusation, numbers) in found.iter().zip(wanted) {
         let (node, first, second) = *numbers;
@@ -103,4 +90,33 @@ pub(crate) fn are_these(found: &[Accusation], wanted: &[(u8, u32, u32)]) -> bool
                 };
     }
     same
+}
+
+// What a history shows; the number of nodes, and the version of the rules; a word for each post; and for each accused node its
+// number and those of its two posts.
+pub(crate) type History<'a> = (&'a str, u8, u8, &'a [&'a str], &'a [(u8, u32, u32)]);
+
+// Checks whom each of these histories accuses.
+pub(crate) fn check_all(
+    rt: &impl Abort,
+    alloc: Global,
+    histories: &[History<'_>],
+) -> Result<(), Fail> {
+    for (what, nodes, version, posts, wanted) in histories {
+        let config = config_of(*nodes, *version)?;
+        let posts = posts_of(alloc, posts)?;
+        if posts.len() > 1000 {
+            return Err("too many posts".into());
+        }
+        assert!(rt;
+            are_these(&accuse(alloc, &config, &posts)?, wanted),
+            "{what}"
+        );
+        assert_eq!(rt;
+            count_accused(alloc, &config, &posts)?,
+            wanted.len(),
+            "{what}"
+        );
+    }
+    Ok(())
 }

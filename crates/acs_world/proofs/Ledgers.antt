@@ -183,7 +183,7 @@ pub record IsChain {X : Type 0} (A : ℕ → List X) : Type 0 where
   pub at : (e : ℕ) → (A e ≡ []) ⊎ ((x : X) × (A e ≡ x ∷ []))
   pub ends : (e : ℕ) → A e ≡ [] → A (suc e) ≡ []
 
-none_behind : {X : Type 0} (A : ℕ → List X) (s k : ℕ) → IsChain A → A s ≡ [] → flat_map A (range_with_len s k) ≡ []
+pub none_behind : {X : Type 0} (A : ℕ → List X) (s k : ℕ) → IsChain A → A s ≡ [] → flat_map A (range_with_len s k) ≡ []
 none_behind A s zero chain none = refl
 none_behind {X} A s (suc k) chain none =
     let next : suc s ≡ s + 1 = omega arith in

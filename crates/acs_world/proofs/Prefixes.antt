@@ -19,7 +19,7 @@ use Rattle.acs_world.specs.Prefixes.{are_same, same_at, are_alike, may_compare, 
 
 -- ---- what holds at each number below another
 
-all_below : (test : ℕ → Bool) (s k m : ℕ) → list_all test (range_with_len s k) ≡ true → m < k → test (s + m) ≡ true
+pub all_below : (test : ℕ → Bool) (s k m : ℕ) → list_all test (range_with_len s k) ≡ true → m < k → test (s + m) ≡ true
 all_below test s zero m all below = absurd (omega (arith, below))
 all_below test s (suc k) zero all below =
     let e : s ≡ s + 0 = omega arith in

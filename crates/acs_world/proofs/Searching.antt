@@ -239,10 +239,6 @@ epochs_back c i posts (e ∷ epochs) =
 pub ledger_lists : (c : Numbers) (posts : List Post) (i : ℕ) → map (λ (x : Closure). x.1) (closures c posts i) ≡ ledger c posts i
 ledger_lists c posts i = epochs_back c i posts (range_with_len 0 32)
 
-pub closures_count : (c : Numbers) (posts : List Post) (i : ℕ) → length (closures c posts i) ≡ length (ledger c posts i)
-closures_count c posts i =
-    sym (length-map (closures c posts i) (λ (x : Closure). x.1)) ∙ ap (λ (xs : List (List Item)). length xs) (ledger_lists c posts i)
-
 pub closure_listed : (c : Numbers) (posts : List Post) (i place epoch : ℕ) (rest : List ℕ) → IsClosureAt (closures c posts i) place epoch rest
     → IsListAt (ledger c posts i) place rest
 closure_listed c posts i place epoch rest at = record {

@@ -37,7 +37,8 @@ closings_agree c history sound legal premise = record {
 
 -- ---- ledgers
 
-closed_chain : (c : Numbers) (history : List Post) (i : ℕ) → ClosingsAgree c history → ClosingsFollow c history → IsCorrect c i
+-- the lists of a correct node, epoch by epoch
+pub closed_chain : (c : Numbers) (history : List Post) (i : ℕ) → ClosingsAgree c history → ClosingsFollow c history → IsCorrect c i
     → IsChain (λ (e : ℕ). lists_at e (own_in c i c.n history))
 closed_chain c history i agree follow correct = record { at = at; ends = ends }
   where

@@ -5,7 +5,7 @@ ghost use Rattle.hb_wire.specs.declared.vote.Vote.{Vote};
 ghost use Rattle.hb_rules.specs.Hearing.{Hearing, hearing};
 ghost use Rattle.hb_rules.specs.Slots.{IsOwed};
 ghost use Rattle.aba_core.specs.State.{place_of};
-ghost use Rattle.aba_core.specs.Standing.{slots_at, Stands};
+ghost use Rattle.aba_core.specs.Standing.{slots_at, Stands, Hears};
 
 use aba_core::Aba;
 use coin_deal::Deal;
@@ -52,11 +52,12 @@ pub fn hear(aba: &mut Aba, from: u8, vote: &Vote, due: &mut Due) -> Result<(), A
     aba.hear(from, vote, due)
 }
 
-/// Hears a vote with room for all that may become due. It is heard in any case.
+/// Hears a vote with room for all that may become due. It is heard in any case, and what is owed then is due behind the others.
 pub fn is_heard(aba: &mut Aba, from: u8, vote: &Vote, due: &mut Due) -> bool
     requires from { from < (place_of aba.old).config.n }
     requires room { 7 * (place_of aba.old).config.rounds + 1 ≤ due.old.spare }
-    ensures { result ≡ true }
+    ensures always { result ≡ true }
+    ensures heard { Hears aba.old aba.new (hearing from vote.now) due.old.votes due.new.votes }
 {
     aba.hear(from, vote, due).is_ok()
 }

@@ -91,7 +91,7 @@ fn two_votes_of_a_liar(rt: HostRuntime) -> Result<(), Fail> {
 
 #[test]
 fn inputs_that_are_no_scenarios(rt: HostRuntime) -> Result<(), Fail> {
-    for word in ["trace", "accuse"] {
+    for word in ["trace", "observe", "accuse"] {
         let answer = call(rt.alloc(), &Request::new(&[word], "{"))?;
         check_none(&rt, &answer, 3, "refused 2 NotJson\n", word);
     }

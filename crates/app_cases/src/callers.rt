@@ -1,9 +1,12 @@
 //! A caller of the program, as one that runs scenarios of its own. What it promises is proved by the contract of the call alone.
 
-ghost use Rattle.std.specs.Prelude.{◌≡◌, IfOk};
+ghost use Rattle.std.specs.Prelude.{◌≡◌, map, Ok, IfOk};
+ghost use Rattle.net_script.specs.Scenario.{Scenario, told};
+ghost use Rattle.script_reader.specs.Reading.{scenario_of};
 ghost use Rattle.hb_rules.specs.Ledger.{AreComparable};
 ghost use Rattle.hb_rules.specs.Strings.{NoCollision};
 ghost use Rattle.ledger_text.specs.Text.{run_text};
+ghost use Rattle.quiet_world.specs.Spared.{IsSpared};
 ghost use Rattle.hb_app.specs.Answers.{IsRunStatus};
 
 use hb_app::hb_main;
@@ -12,17 +15,24 @@ use hb_rules::Report;
 use liar_cast::Liar;
 use std::alloc::{AllocError, Global};
 
-/// Runs the scenario that the bytes say, with this cast: the status, and what was printed. After 0, 4 and 5 it is the text of the
-/// run that the report tells, whose ledgers are comparable where no two hashed strings share a digest.
+/// Runs the scenario that the bytes say to this cast: the status, and what was printed. After 0, 4 and 5 the report tells a run of
+/// exactly that scenario, whose text was printed, and whose ledgers are comparable where no two hashed strings share a digest. It
+/// is not 4 where nothing of correct nodes was lost. After 3 the bytes say no scenario.
 pub fn run_bytes(
     alloc: Global,
     input: Bytes,
     cast: Vec<Box<dyn Liar>>,
     report: &mut Report,
 ) -> Result<(u8, MemorySink), AllocError>
+    ensures ran { IfOk result (λ answer. IsRunStatus answer.0
+        → scenario_of input (map (λ liar. called liar) cast.items) ≡ Ok (told report.new.script)) }
+    ensures refused { IfOk result (λ answer. answer.0 ≡ 3
+        → (s : Scenario) → scenario_of input (map (λ liar. called liar) cast.items) ≡ Ok s → ⊥) }
     ensures text { IfOk result (λ answer. IsRunStatus answer.0 → answer.1.held ≡ run_text report.new) }
     ensures agree { IfOk result (λ answer. IsRunStatus answer.0
         → NoCollision report.new.config report.new.history.items → AreComparable report.new.config report.new.history.items) }
+    ensures closes { IfOk result (λ answer. answer.0 ≡ 4
+        → NoCollision report.new.config report.new.history.items → IsSpared report.new → ⊥) }
 {
     let mut words = Vec::new(alloc);
     words.push(String::from_str(alloc, "run")?)?;

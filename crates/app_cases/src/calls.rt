@@ -82,13 +82,18 @@ pub(crate) fn call_with(
     })
 }
 
-// Calls the program with the cast of the program.
-pub(crate) fn call(alloc: Global, given: &Request<'_>) -> Result<Answer, AllocError> {
+// The cast of the program.
+pub(crate) fn cast_of(alloc: Global) -> Result<Vec<Box<dyn Liar>>, AllocError> {
     let mut liars: Vec<Box<dyn Liar>> = Vec::new(alloc);
     for kind in cast(alloc)? {
         liars.push(Box::new(alloc, kind)?)?;
     }
-    call_with(alloc, given, liars)
+    Ok(liars)
+}
+
+// Calls the program with the cast of the program.
+pub(crate) fn call(alloc: Global, given: &Request<'_>) -> Result<Answer, AllocError> {
+    call_with(alloc, given, cast_of(alloc)?)
 }
 
 // Runs a scenario.

@@ -29,7 +29,7 @@ const NO_COMMANDS: [&[&str]; 22] = [
     &["walk"],
     &["trace", ""],
     &["audit"],
-    &["observe"],
+    &["observe", "observe"],
     &["accuse", "accuse"],
 ];
 

@@ -21,6 +21,8 @@ mod liars;
 #[cfg(test)]
 mod lies;
 #[cfg(test)]
+mod observing;
+#[cfg(test)]
 mod quiet;
 #[cfg(test)]
 mod refusals;

@@ -84,6 +84,39 @@ fn babble_to_the_end(rt: HostRuntime) -> Result<(), Fail> {
     Ok(())
 }
 
+const SEVEN_VALS: &[u8] = b"\x01\x01\x01\x01\x01\x01\x01";
+
+const BABBLE: &[u8] = b"\xff\x01";
+
+// Two liars among seven nodes: each speaks at its own node, as its kind does, in whichever order the scenario names them. What
+// reaches the one that babbles first is a VAL.
+#[test]
+fn two_liars(rt: HostRuntime) -> Result<(), Fail> {
+    let alloc = rt.alloc();
+    for (liars, fifth, sixth) in [
+        (
+            r#"{"node":5,"name":"equivocate","hears":0},{"node":6,"name":"babble","hears":1}"#,
+            SEVEN_VALS,
+            BABBLE,
+        ),
+        (
+            r#"{"node":6,"name":"equivocate","hears":0},{"node":5,"name":"babble","hears":1}"#,
+            BABBLE,
+            SEVEN_VALS,
+        ),
+    ] {
+        let scenario = format!(in alloc;
+            "{{\"nodes\":7,\"faulty\":2,\"epochs\":1,\"liars\":[{liars}]}}"
+        )?;
+        let answer = run(alloc, scenario.as_str())?;
+        let found = first_bytes(alloc, &answer.report, 5)?;
+        assert_eq!(rt; found.as_slice(), fifth, "{liars}");
+        let found = first_bytes(alloc, &answer.report, 6)?;
+        assert_eq!(rt; found.as_slice(), sixth, "{liars}");
+    }
+    Ok(())
+}
+
 // A liar that says one byte each time it is asked to hear. It shares a value, so that one can count who is left that has it.
 #[derive(Drop)]
 struct Counting {

@@ -1,8 +1,13 @@
 //! Runs without liars and without faults of disks, and their whole texts.
 
-use crate::calls::{check_ran, first_bytes, run};
+use crate::callers::run_bytes;
+use crate::calls::{cast_of, check_ran, first_bytes, run};
 use crate::texts::{ALL, FOUR_FRONT, Node, four, text};
 use acs_world::{batches_ok, common_epochs, comparable};
+use hb_base::Bytes;
+use hb_rules::Report;
+use std::alloc::{AllocError, Global};
+use std::process::Abort;
 use std::test::Fail;
 
 // A scenario, the first line of its run, what is printed of each node, and the status.
@@ -101,12 +106,29 @@ const ROWS: [Row; 6] = [
     },
 ];
 
+// Checks that the caller is answered the same, and prints the same.
+fn check_caller(
+    rt: &impl Abort,
+    alloc: Global,
+    scenario: &str,
+    status: u8,
+    text: &str,
+) -> Result<(), AllocError> {
+    let input = Bytes::copy(alloc, scenario.as_bytes())?;
+    let mut report = Report::empty(alloc);
+    let (found, out) = run_bytes(alloc, input, cast_of(alloc)?, &mut report)?;
+    assert_eq!(rt; found, status, "{scenario}");
+    assert!(rt; out.held() == text.as_bytes(), "{scenario}");
+    Ok(())
+}
+
 #[test]
 fn whole_texts(rt: HostRuntime) -> Result<(), Fail> {
     for row in &ROWS {
         let answer = run(rt.alloc(), row.scenario)?;
         let want = text(rt.alloc(), row.front, row.nodes, row.status)?;
         check_ran(&rt, &answer, row.status, want.as_str(), row.scenario);
+        check_caller(&rt, rt.alloc(), row.scenario, row.status, want.as_str())?;
     }
     Ok(())
 }

@@ -19,6 +19,16 @@ const LINES: [&str; 6] = [
     "end 0\n",
 ];
 
+// The lines of its observer.
+const OBSERVED: [&str; 6] = [
+    "observe nodes 1 faulty 0 version 1 epochs 1\n",
+    "observer 0 epochs 1\n",
+    "epoch 0 batches 1\n",
+    "batch 0 txs 1\n",
+    "tx 6869\n",
+    "end 0\n",
+];
+
 fn joined(alloc: Global, lines: &[&str]) -> Result<String, AllocError> {
     let mut text = String::new(alloc);
     for line in lines {
@@ -70,28 +80,39 @@ fn check_cut(rt: &impl Abort, answer: &Answer, front: &str, told: &str) {
 }
 
 // Where a put fails, the lines before it have been put.
-#[test]
-fn puts_that_fail(rt: HostRuntime) -> Result<(), Fail> {
-    let alloc = rt.alloc();
+fn check_puts(
+    rt: &impl Abort,
+    alloc: Global,
+    word: &str,
+    lines: [&str; 6],
+) -> Result<(), AllocError> {
+    let words = [word];
     let mut put = 0u32;
     let mut front = String::new(alloc);
-    for line in LINES {
+    for line in lines {
         put = put.saturating_add(1);
         for (tell, told) in [(0, "write failed\n"), (1, "")] {
             let given = Request {
                 put,
                 tell,
-                ..Request::new(&["run"], ONE)
+                ..Request::new(&words, ONE)
             };
             let answer = call(alloc, &given)?;
-            check_cut(&rt, &answer, front.as_str(), told);
+            check_cut(rt, &answer, front.as_str(), told);
         }
         front.push_str(line)?;
     }
     let given = Request {
         put: 7,
-        ..Request::new(&["run"], ONE)
+        ..Request::new(&words, ONE)
     };
-    check_ran(&rt, &call(alloc, &given)?, 0, front.as_str(), "seventh put");
+    check_ran(rt, &call(alloc, &given)?, 0, front.as_str(), "seventh put");
+    Ok(())
+}
+
+#[test]
+fn puts_that_fail(rt: HostRuntime) -> Result<(), Fail> {
+    check_puts(&rt, rt.alloc(), "run", LINES)?;
+    check_puts(&rt, rt.alloc(), "observe", OBSERVED)?;
     Ok(())
 }

@@ -19,8 +19,9 @@ use Rattle.hb_app.specs.Input.{most_taken}
 use Rattle.hb_app.specs.Runs.{IsLedgerRun}
 use Rattle.hb_app.specs.Outcomes.{Work, HasFault, HasRun, RunComes, SoakComes}
 use Rattle.hb_app.specs.Answers.{Scene, Tells, IsRunStatus, Answers, NoPutFails, RunAnswers, SoakAnswers}
-use Rattle.hb_app.specs.Lines.{read_line}
-use Rattle.hb_app.specs.Streams.{SourceView, ReadsAll, TakesAtMost, FailsWithin}
+use Rattle.hb_app.specs.Lines.{read_line, memory_line}
+use Rattle.input_reader.specs.Streams.{SourceView, ReadsAll, TakesAtMost}
+use Rattle.hb_app.specs.Streams.{FailsWithin, PutsOrFails}
 use Rattle.hb_app.proofs.Commands.{one_text}
 
 -- ---- the status of a run
@@ -54,6 +55,22 @@ not_run status k is zero four five (inr (inr e)) = five (sym is ∙ e)
 record Keeps (comes : Outcome → Type 0) (before after : Scene) : Type 0 where
   out : (o : Outcome) → comes o → after.work.out.faults ≢ before.work.out.faults → o ≡ WriteFailed
   status : comes Ran → IsEndStatus after.work.report.status
+
+-- where no memory was found, for the run or for its text
+answers_no_memory : (comes : Outcome → Type 0) (before after : Scene) (o : Outcome) (status : ℕ) → Keeps comes before after → comes o → o ≢ WriteFailed
+    → (status ≡ 9) × PutsOrFails before.err after.err memory_line
+    → (comes Memory × PutsOrFails before.err after.err memory_line) ⊎ (comes NoText × PutsOrFails before.err after.err memory_line)
+    → Answers comes before after status
+answers_no_memory comes before after o status keeps came no_put told cause = record {
+  ran = λ ok. absurd (not_run status 9 told.0 (omega arith) (omega arith) (omega arith) ok);
+  refused = λ three. absurd (omega (arith, three, told.0));
+  read_failed = λ six. absurd (omega (arith, six, told.0));
+  write_failed = λ seven. absurd (omega (arith, seven, told.0));
+  memory = λ _. inr cause;
+  no_other = inr (inr (inr (inr told.0)));
+  put_failed = λ rose. absurd (no_put (keeps.out o came rose));
+  tell_failed = λ rose. elim told.1 [ inl put ↦ absurd (rose put.1) | inr failed ↦ inr (told.0, failed) ];
+}
 
 answers_of : (comes : Outcome → Type 0) (before after : Scene) (o : Outcome) (status : ℕ) → Keeps comes before after → comes o
     → Tells o after.work.report.status before.err after.err status → Answers comes before after status
@@ -97,26 +114,10 @@ answers_of comes before after ReadFailed status keeps came (inr (seven, failed))
   put_failed = λ _. seven;
   tell_failed = λ _. inl seven;
 }
-answers_of comes before after Memory status keeps came told = record {
-  ran = λ ok. absurd (not_run status 9 told.0 (omega arith) (omega arith) (omega arith) ok);
-  refused = λ three. absurd (omega (arith, three, told.0));
-  read_failed = λ six. absurd (omega (arith, six, told.0));
-  write_failed = λ seven. absurd (omega (arith, seven, told.0));
-  memory = λ _. inr (inl (came, told.1));
-  no_other = inr (inr (inr (inr told.0)));
-  put_failed = λ rose. absurd (cc (keeps.out Memory came rose));
-  tell_failed = λ rose. elim told.1 [ inl put ↦ absurd (rose put.1) | inr failed ↦ inr (told.0, failed) ];
-}
-answers_of comes before after NoText status keeps came told = record {
-  ran = λ ok. absurd (not_run status 9 told.0 (omega arith) (omega arith) (omega arith) ok);
-  refused = λ three. absurd (omega (arith, three, told.0));
-  read_failed = λ six. absurd (omega (arith, six, told.0));
-  write_failed = λ seven. absurd (omega (arith, seven, told.0));
-  memory = λ _. inr (inr (came, told.1));
-  no_other = inr (inr (inr (inr told.0)));
-  put_failed = λ rose. absurd (cc (keeps.out NoText came rose));
-  tell_failed = λ rose. elim told.1 [ inl put ↦ absurd (rose put.1) | inr failed ↦ inr (told.0, failed) ];
-}
+answers_of comes before after Memory status keeps came told =
+    answers_no_memory comes before after Memory status keeps came (λ e. cc (e)) told (inl (came, told.1))
+answers_of comes before after NoText status keeps came told =
+    answers_no_memory comes before after NoText status keeps came (λ e. cc (e)) told (inr (came, told.1))
 answers_of comes before after WriteFailed status keeps came told = record {
   ran = λ ok. absurd (not_run status 7 told.0 (omega arith) (omega arith) (omega arith) ok);
   refused = λ three. absurd (omega (arith, three, told.0));
@@ -151,7 +152,7 @@ answers_of comes before after Ran status keeps came told =
 -- ---- the scenario on the input
 
 -- what a source has left is what was read, where all was read
-read_whole : (names : List (List ℕ)) (old new : SourceView) (input read : List ℕ) → ReadsAll old new read → old.left ≡ Some input
+pub read_whole : (names : List (List ℕ)) (old new : SourceView) (input read : List ℕ) → ReadsAll old new read → old.left ≡ Some input
     → scenario_of input names ≡ scenario_of read names
 read_whole names old new input read all is = by old.left new.left is all.0 all.1
   where
@@ -168,7 +169,7 @@ no_run : (names : List (List ℕ)) (before after : Work) (input : List ℕ) (fau
 no_run names before after input fault run is says =
     absurd (cc (sym run.1.2 ∙ sym (read_whole names before.source after.source input run.1.0 run.1.1 is) ∙ says))
 
-no_fault : (names : List (List ℕ)) (left : Option (List ℕ)) (input : List ℕ) (s : Scenario) (fault : ScriptFault) → HasFault names left fault → left ≡ Some input
+pub no_fault : (names : List (List ℕ)) (left : Option (List ℕ)) (input : List ℕ) (s : Scenario) (fault : ScriptFault) → HasFault names left fault → left ≡ Some input
     → scenario_of input names ≡ Ok s → ⊥
 no_fault names None input s fault has is says = absurd (cc (is))
 no_fault names (Some xs) input s fault has is says = absurd (cc (sym has ∙ ap (λ (bytes : List ℕ). scenario_of bytes names) (cc (is)) ∙ says))

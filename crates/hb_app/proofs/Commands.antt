@@ -2,7 +2,7 @@
 use Rattle.std.proofs.Common.{◌≡◌, ℕ, List, [], length, slice_index_or, refl, sym, ap, ◌∙◌, arith}
 use Rattle.std.proofs.lemmas.Fmt.{decimal_injective}
 use Rattle.hb_app.specs.declared.command.Text.{Text}
-use Rattle.hb_app.specs.declared.command.Text.TheVariants.{Ledgers, Trace, Accused}
+use Rattle.hb_app.specs.declared.command.Text.TheVariants.{Ledgers, Trace, Observed, Accused}
 use Rattle.hb_app.specs.Commands.{AsksRun, AsksSoak, word_of}
 
 -- words ask for one number
@@ -14,22 +14,31 @@ one_number words n m first second =
 abbrev letters : Text → ℕ
 letters Ledgers = 3
 letters Trace = 5
+letters Observed = 7
 letters Accused = 6
 
 letters_of : (text : Text) → length (word_of text) ≡ letters text
 letters_of Ledgers = refl
 letters_of Trace = refl
+letters_of Observed = refl
 letters_of Accused = refl
 
 same_letters : (one other : Text) → letters one ≡ letters other → one ≡ other
 same_letters Ledgers Ledgers is = refl
 same_letters Ledgers Trace is = absurd (omega (arith, is))
+same_letters Ledgers Observed is = absurd (omega (arith, is))
 same_letters Ledgers Accused is = absurd (omega (arith, is))
 same_letters Trace Ledgers is = absurd (omega (arith, is))
 same_letters Trace Trace is = refl
+same_letters Trace Observed is = absurd (omega (arith, is))
 same_letters Trace Accused is = absurd (omega (arith, is))
+same_letters Observed Ledgers is = absurd (omega (arith, is))
+same_letters Observed Trace is = absurd (omega (arith, is))
+same_letters Observed Observed is = refl
+same_letters Observed Accused is = absurd (omega (arith, is))
 same_letters Accused Ledgers is = absurd (omega (arith, is))
 same_letters Accused Trace is = absurd (omega (arith, is))
+same_letters Accused Observed is = absurd (omega (arith, is))
 same_letters Accused Accused is = refl
 
 -- words ask for one text

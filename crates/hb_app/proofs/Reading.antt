@@ -11,9 +11,10 @@ use Rattle.hb_app.specs.declared.outcome.Outcome.{Outcome}
 use Rattle.hb_app.specs.declared.outcome.Outcome.TheVariants.{Refused, ReadFailed, NoText, WriteFailed, Ran}
 use Rattle.hb_app.specs.declared.command.Text.{Text}
 use Rattle.hb_app.specs.declared.outcome.Outcome.TheVariants as outcomes
-use Rattle.hb_app.specs.Input.{most_taken, ReadsMost}
+use Rattle.input_reader.specs.Input.{ReadsMost}
+use Rattle.hb_app.specs.Input.{most_taken}
 use Rattle.hb_app.specs.Outcomes.{Work, HasFault, Refuses, RunComes, BytesCome}
-use Rattle.hb_app.specs.Streams.{SourceView, ReadsAll}
+use Rattle.input_reader.specs.Streams.{SourceView, ReadsAll}
 
 -- where all was read, what was read is what was left
 pub left_whole : (names : List (List ℕ)) (left left_after : Option (List ℕ)) (input : List ℕ) (fault : ScriptFault) → Consumes left left_after input → IsAtEnd left_after
@@ -40,7 +41,7 @@ taken_long names (Some xs) (Some ys) bytes many taken =
     too_long names xs (omega (arith, many, ap (λ (zs : List ℕ). length zs) taken, length-append bytes ys))
 
 -- input of which the most was taken that ever is has this fault
-pub refuses_long : (names : List (List ℕ)) (old new : SourceView) → ReadsMost old new → Refuses names old new TooLong
+pub refuses_long : (names : List (List ℕ)) (old new : SourceView) → ReadsMost longest_scenario old new → Refuses names old new TooLong
 refuses_long names old new most = record { first = taken_long names old.left new.left most.0 most.1 most.2; reads = inr (most, refl) }
 
 -- what bytes come to that are the whole input

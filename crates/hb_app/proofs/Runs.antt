@@ -16,7 +16,7 @@ use Rattle.quiet_world.specs.Spared.{IsSpared, IsSparedStatus}
 use Rattle.accuse.specs.declared.accusation.Accusation.{Accusation}
 use Rattle.accuse.specs.Accused.{accused}
 use Rattle.ledger_run.specs.Run.{IsRunOf}
-use Rattle.hb_app.specs.Runs.{IsLedgerRun}
+use Rattle.hb_app.specs.Runs.{IsLedgerRun, ObserversFollow}
 
 abbrev pub with_status : Report → ℕ → Report
 with_status made status = record { config = made.config; script = made.script; history = made.history; ends = made.ends; status = status }
@@ -38,12 +38,13 @@ pub ledger_run : (s : Script) (made : Report) (status : ℕ) → IsRunOf s made 
     → (NoCollision made.config made.history.items → AreComparable made.config made.history.items)
     → (NoCollision made.config made.history.items → BatchesAreEnough made.config made.history.items)
     → (NoCollision made.config made.history.items → AreUnaltered made.config made.history.items)
+    → (NoCollision made.config made.history.items → ObserversFollow made.config made.history.items)
     → HasEachCompleted made → ((report : Report) → IsCalm report → EpochsEnd report)
     → ((report : Report) → AreSound report.config → IsLegal report.config report.history.items → NoCollision report.config report.history.items
     → IsQuiet report → StaysWithinPlan report → IsSpared report → report.status ≡ status_of report → IsSparedStatus report.status)
     → ((a : Accusation) → Contains (accused made.config made.history.items) a → is_in made.config.liars a.node ≡ true)
     → IsLedgerRun (told s) (with_status made status)
-ledger_run s made status run is sound comparable enough unaltered complete ends spared accused = record {
+ledger_run s made status run is sound comparable enough unaltered observers complete ends spared accused = record {
   script = ap told run.script;
   config = run.config;
   status = is;
@@ -55,6 +56,7 @@ ledger_run s made status run is sound comparable enough unaltered complete ends 
   comparable = comparable;
   enough = enough;
   unaltered = unaltered;
+  observers = observers;
   complete = complete;
   ends = λ calm. ends (with_status made status) calm;
   spared = λ apart safe. spared (with_status made status) sound run.legal apart (quiet_with made status run.quiet) (plan_with made status run.plan) safe is;

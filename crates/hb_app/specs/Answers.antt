@@ -12,7 +12,8 @@ use Rattle.hb_app.specs.declared.command.Text.{Text}
 use Rattle.hb_app.specs.Input.{most_taken}
 use Rattle.hb_app.specs.Lines.{read_line, write_line, memory_line}
 use Rattle.hb_app.specs.Outcomes.{Work, RunComes, SoakComes}
-use Rattle.hb_app.specs.Streams.{SourceView, SinkView, TakesAtMost, IsUnused, HasPut, FailsWithin, PutsOrFails, PutsOr7}
+use Rattle.input_reader.specs.Streams.{SourceView, TakesAtMost}
+use Rattle.hb_app.specs.Streams.{SinkView, IsUnused, HasPut, FailsWithin, PutsOrFails, PutsOr7}
 
 -- What a call of the program finds or leaves: what a run works on, and where the lines of the other answers go.
 pub record Scene : Type 0 where

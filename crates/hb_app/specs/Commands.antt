@@ -3,12 +3,13 @@ use Rattle.std.specs.Prelude.{◌≡◌, ℕ, ◌<◌, ◌^◌, List, [], ◌∷
 use Rattle.hb_app.specs.declared.command.Command.{Command}
 use Rattle.hb_app.specs.declared.command.Command.TheVariants.{Run, Soak}
 use Rattle.hb_app.specs.declared.command.Text.{Text}
-use Rattle.hb_app.specs.declared.command.Text.TheVariants.{Ledgers, Trace, Accused}
+use Rattle.hb_app.specs.declared.command.Text.TheVariants.{Ledgers, Trace, Observed, Accused}
 
 -- the word that asks for a text of a run
 abbrev pub word_of : Text → List ℕ
 word_of Ledgers = codes "run"
 word_of Trace = codes "trace"
+word_of Observed = codes "observe"
 word_of Accused = codes "accuse"
 
 -- a run of the scenario on the input, and this text of it

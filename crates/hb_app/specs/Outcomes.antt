@@ -11,10 +11,12 @@ use Rattle.ledger_text.specs.Text.{soak_text}
 use Rattle.hb_app.specs.declared.command.Text.{Text}
 use Rattle.hb_app.specs.declared.outcome.Outcome.{Outcome}
 use Rattle.hb_app.specs.declared.outcome.Outcome.TheVariants.{Refused, ReadFailed, Memory, NoText, WriteFailed, Ran}
-use Rattle.hb_app.specs.Input.{ReadsMost}
+use Rattle.hb_base.specs.Limits.{longest_scenario}
+use Rattle.input_reader.specs.Input.{ReadsMost}
 use Rattle.hb_app.specs.Printed.{text_of, WantsMemory}
 use Rattle.hb_app.specs.Runs.{IsLedgerRun}
-use Rattle.hb_app.specs.Streams.{SourceView, SinkView, IsFaultless, ReadsAll, IsUnused, HasPut, FailsWithin}
+use Rattle.input_reader.specs.Streams.{SourceView, IsFaultless, ReadsAll}
+use Rattle.hb_app.specs.Streams.{SinkView, IsUnused, HasPut, FailsWithin}
 
 -- What a run works on: where its input comes from, where its text goes, and the report.
 pub record Work : Type 0 where
@@ -43,7 +45,7 @@ Says names old new read = (input : List ℕ) × ReadsAll old new input × (scena
 -- the input has this first fault: it was read whole, or as far as it ever is and is too long
 pub record Refuses (names : List (List ℕ)) (old new : SourceView) (fault : ScriptFault) : Type 0 where
   pub first : HasFault names old.left fault
-  pub reads : Says names old new (Err fault) ⊎ (ReadsMost old new × (fault ≡ TooLong))
+  pub reads : Says names old new (Err fault) ⊎ (ReadsMost longest_scenario old new × (fault ≡ TooLong))
 
 -- the report is of a run of the scenario that the whole input says
 abbrev pub HasRun : List (List ℕ) → Work → Work → Type 0

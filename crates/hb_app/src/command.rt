@@ -13,6 +13,8 @@ pub enum Text {
     Ledgers,
     /// The history, post by post.
     Trace,
+    /// The ledgers that observers take from the history.
+    Observed,
     /// The nodes whose own posts contradict each other.
     Accused,
 }
@@ -52,6 +54,7 @@ fn text_of(word: &str) -> Option<Text>
     match word {
         "run" => Some(Text::Ledgers),
         "trace" => Some(Text::Trace),
+        "observe" => Some(Text::Observed),
         "accuse" => Some(Text::Accused),
         _ => None,
     }

@@ -2,7 +2,6 @@
 #![tactic(auto)]
 
 mod command;
-mod input;
 mod outcome;
 mod printing;
 mod running;

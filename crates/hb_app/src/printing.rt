@@ -11,6 +11,7 @@ use accuse_text::print_accuse;
 use hb_base::{Failed, Sink};
 use hb_rules::Report;
 use ledger_text::print_run;
+use observer_text::{ObserveFault, print_observe};
 use std::alloc::{AllocError, Global};
 use trace_text::print_trace;
 
@@ -52,6 +53,11 @@ pub fn print<O: Sink>(
     match text {
         Text::Ledgers => Ok(print_run(report, out)?),
         Text::Trace => Ok(print_trace(report, out)?),
+        Text::Observed => match print_observe(alloc, report, out) {
+            Ok(()) => Ok(()),
+            Err(ObserveFault::Sink) => Err(PrintFault::Sink),
+            Err(ObserveFault::Memory) => Err(PrintFault::Memory),
+        },
         Text::Accused => {
             let found = accuse(alloc, &report.config, report.history.as_slice())?;
             Ok(print_accuse(report, found.as_slice(), out)?)

@@ -14,6 +14,7 @@ use hb_rules::Report;
 use ledger_run::{hire, run_script};
 use liar_cast::Liar;
 use net_script::Script;
+use observer::observer_laws;
 use quiet_world::{calm_laws, quiet_laws};
 use run_status::status;
 use std::alloc::{AllocError, Global};
@@ -42,8 +43,10 @@ fn with_status(made: Report) -> Report
     ensures { (s : Script) → IsRunOf s made → IsLedgerRun (told s) result }
 {
     let mut made = made;
-    // what these calls ensure are the laws of ledgers, of quiet and calm runs and of accusations, and that the numbers of the run are sound
+    // what these calls ensure are the laws of ledgers, of observers, of quiet and calm runs and of accusations, and that the numbers
+    // of the run are sound
     ledger_laws();
+    observer_laws();
     quiet_laws();
     calm_laws();
     accuse_laws();

@@ -13,16 +13,18 @@ ghost use Rattle.hb_app.specs.Commands.{AsksRun, AsksSoak, AsksNothing};
 ghost use Rattle.hb_app.specs.Input.{most_taken};
 ghost use Rattle.hb_app.specs.Lines.{usage_line};
 ghost use Rattle.hb_app.specs.Outcomes.{RunComes, BytesCome, ScriptComes, work};
-ghost use Rattle.hb_app.specs.Streams.{SourceView, TakesAtMost, PutsOr7, source_view, sink_view};
+ghost use Rattle.input_reader.specs.Streams.{SourceView, TakesAtMost, source_view};
+ghost use Rattle.hb_app.specs.Streams.{PutsOr7, sink_view};
 
 use crate::command::{Command, Text, command_of};
-use crate::input::{Input, read_input};
 use crate::outcome::Outcome;
 use crate::printing::{PrintFault, print};
 use crate::running::{names_of, run_with};
 use crate::telling::{USAGE, tell, tell_outcome};
+use hb_base::limits::LONGEST_SCENARIO;
 use hb_base::{Gate, Sink, Source};
 use hb_rules::Report;
+use input_reader::{Input, read_input};
 use ledger_text::print_soak;
 use liar_cast::Liar;
 use net_script::Script;
@@ -41,9 +43,9 @@ use std::alloc::Global;
 ///   4 if there was a run that is none of 0, 5 and 9,
 ///   5 if it is not 0, and a lane of a correct node works and has spent its rounds,
 ///   6 if the input can't be read,
-///   7 if the output can't be written, and
+///   7 if the output or the error sink can't be written, and
 ///   9 if memory ran out.
-/// All but 0, 4 and 5 tell a line on `err`. The report is of the run; without one it stays, and nothing is written to `out`. At
+/// All but 0, 4 and 5 tell a line on `err`, where it takes one. The report is of the run; without one it stays, and nothing is written to `out`. At
 /// most 1,048,577 bytes of the input are taken, one more than a scenario may have, and the rest is left.
 ///
 /// A scenario may ask for the liars of the cast, by name; each stands for one node. Where it asks for workers, the run is on one
@@ -99,7 +101,7 @@ fn run_source<S: Source, O: Sink, G: Gate>(
         result }
     ensures taken { TakesAtMost most_taken (source_view S.left S.faults source.old) (source_view S.left S.faults source.new) }
 {
-    match read_input(alloc, source) {
+    match read_input(alloc, source, LONGEST_SCENARIO) {
         Input::Whole(bytes) => run_bytes(alloc, text, bytes.as_slice(), out, cast, gate, report),
         Input::TooLong => Outcome::Refused(ScriptFault::TooLong),
         Input::Failed => Outcome::ReadFailed,

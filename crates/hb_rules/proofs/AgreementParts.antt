@@ -96,6 +96,12 @@ pub same_bit-refl : (b : Bool) → same_bit b b ≡ true
 same_bit-refl true = refl
 same_bit-refl false = refl
 
+pub same_bits : (b d : Bool) → same_bit b d ≡ true → b ≡ d
+same_bits true true h = refl
+same_bits true false h = absurd (cc (h))
+same_bits false true h = absurd (cc (h))
+same_bits false false h = refl
+
 both_same : (e r : ℕ) → ((e == e) && (r == r)) ≡ true
 both_same e r = and_from (e == e) (r == r) (eq-eqb e e refl) (eq-eqb r r refl)
 

@@ -1,9 +1,9 @@
 -- The slots of the desk: what they make, that their votes fill them, and what they ask of own votes.
-use Rattle.std.proofs.Common.{◌≡◌, ℕ, zero, suc, ◌-◌, ◌≤◌, Bool, true, false, not, ◌==◌, nat_lt, nat_le, List, [], ◌++◌, take, Option, None, Some, if◌then◌else◌, refl, sym, ap, ap₂, ◌∙◌, arith}
+use Rattle.std.proofs.Common.{◌≡◌, ℕ, zero, suc, ◌-◌, ◌<◌, ◌≤◌, Bool, true, false, not, ◌==◌, nat_lt, nat_le, List, [], ◌++◌, take, Option, None, Some, if◌then◌else◌, refl, sym, ap, ap₂, ◌∙◌, arith}
 use Rattle.std.proofs.Math.Path.{fun_ext}
 use Rattle.std.specs.List.{AllByRecursion, filter}
 use Rattle.std.specs.Option.{option_map, option_and_then}
-use Rattle.std.proofs.lemmas.Bool.{eq-eqb, lt-leb, ltb-true}
+use Rattle.std.proofs.lemmas.Bool.{eq-eqb, lt-leb, lt-ltb, ltb-true}
 use Rattle.std.proofs.lemmas.Option.{cond_some}
 use Rattle.hb_base.specs.Counting.{count_nodes}
 use Rattle.hb_base.specs.Numbers.{Numbers, AreSound}
@@ -179,6 +179,10 @@ pub desk-forgets : (c : Numbers) → AreSound c → (submitted : List (List ℕ)
 desk-forgets c sound submitted =
     desk_hold (λ e slot. IsForgetful slot) c submitted
     (λ e. proposal_slot-forgets c submitted e) (λ e. no_more_slot-forgets c sound e) (λ e. closing_slot-forgets c sound e)
+
+-- the slots of an actor below n are a lane's
+pub slots_of-lane : (c : Numbers) (submitted : List (List ℕ)) (i j : ℕ) → j < c.n → slots_of c submitted i j ≡ lane_slots c i j
+slots_of-lane c submitted i j lane = let inside : nat_lt j c.n ≡ true = lt-ltb j c.n lane in rw inside refl
 
 -- the slots of actor n are the desk's
 pub slots_of-desk : (c : Numbers) (submitted : List (List ℕ)) (i : ℕ) → slots_of c submitted i c.n ≡ desk_slots c submitted

@@ -8,23 +8,18 @@ use Rattle.hb_wire.specs.declared.items.Item.{Item}
 use Rattle.hb_wire.specs.declared.vote.Vote.{Vote}
 use Rattle.hb_wire.specs.declared.vote.Vote.TheVariants.{Delivered, Decided, Closed}
 use Rattle.hb_wire.specs.declared.post.Post.{Post}
-use Rattle.hb_rules.specs.Claims.{same_bit, is_bit, is_decision, is_any_decision, is_any_delivery, is_any_closing, closed_with}
+use Rattle.hb_rules.specs.Claims.{is_bit, is_decision, is_any_decision, is_any_delivery, is_any_closing, closed_with}
 use Rattle.hb_rules.specs.Desk.{is_open}
 use Rattle.hb_rules.specs.Hearing.{Hearing, hearing, heeds, name_at, heard_in, own_in}
 use Rattle.hb_rules.specs.History.{IsLegal}
 use Rattle.hb_rules.specs.Rules.{MayCast}
+use Rattle.hb_rules.proofs.AgreementParts.{same_bits}
 use Rattle.hb_rules.proofs.Among.{any_stands}
 use Rattle.hb_rules.proofs.Cast.{heard_from, cast_stands, was_allowed, said_later}
 use Rattle.hb_rules.proofs.Lists.{list_any-from}
 use Rattle.hb_rules.proofs.Once.{IsOnce}
 
 -- ---- the votes that pass tests
-
-same_bits : (b d : Bool) → same_bit b d ≡ true → b ≡ d
-same_bits true true h = refl
-same_bits true false h = absurd (cc (h))
-same_bits false true h = absurd (cc (h))
-same_bits false false h = refl
 
 pub decision-is : (e : ℕ) (b : Bool) (vote : Vote) → is_decision e b vote ≡ true → vote ≡ Decided e b
 decision-is e b (Decided d bit) h = by (d == e) refl h

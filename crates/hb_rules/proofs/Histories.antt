@@ -22,13 +22,6 @@ IsLegal-push c history post legal room may = record {
   each = AreLegalAfter-push c [] history post legal.each may;
 }
 
--- a book may keep no posts
-pub AreKept-none : (c : Numbers) → AreKept (record { config = c; posts = [] })
-AreKept-none c = record {
-  legal = record { short = omega arith; each = tt };
-  actors = λ k d inside. absurd (omega (arith, inside));
-}
-
 -- the posts of a book with room, and one more that may follow
 pub AreKept-push : (book : BookView) (post : Post) → AreKept book → length book.posts < most_posts → MayFollow book.config book.posts post
     → post.actor < 256 → AreKept (record { config = book.config; posts = book.posts ++ post ∷ [] })

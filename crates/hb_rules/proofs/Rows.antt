@@ -18,11 +18,6 @@ of_epoch-append {V} {H} e (row ∷ rows) more =
     ap (λ (slots : List (Slot V H)). row e ++ slots) (of_epoch-append e rows more)
     ∙ sym (append_assoc (row e) (of_epoch e rows) (of_epoch e more))
 
-pub of_epoch-all : {V H : Type 0} (P : Slot V H → Type 0) (e : ℕ) (rows : List (ℕ → List (Slot V H)))
-    → AllByRecursion (λ row. AllByRecursion P (row e)) rows → AllByRecursion P (of_epoch e rows)
-of_epoch-all P e [] all = tt
-of_epoch-all P e (row ∷ rows) all = AllByRecursion-append P (row e) (of_epoch e rows) all.0 (of_epoch-all P e rows all.1)
-
 pub by_rows-all : {V H : Type 0} (P : Slot V H → Type 0) (n : ℕ) (rows : List (ℕ → List (Slot V H)))
     → AllByRecursion (λ row. (k : ℕ) → k < n → AllByRecursion P (row k)) rows → AllByRecursion P (by_rows n rows)
 by_rows-all P n [] all = tt

@@ -1,9 +1,9 @@
 -- What a seat may post is allowed while others post, and what calls on it do to its book.
-use Rattle.std.proofs.Common.{◌≡◌, ℕ, ◌+◌, ◌-◌, ◌<◌, ◌≤◌, true, false, ◌||◌, ◌==◌, inl, inr, List, [], ◌∷◌, ◌++◌, None, Result, Ok, Err, length, take, drop, refl, sym, ap, ◌∙◌, subst, arith, append-nil, append_assoc, length-take-le}
+use Rattle.std.proofs.Common.{◌≡◌, ℕ, ◌+◌, ◌-◌, ◌<◌, ◌≤◌, true, false, ◌||◌, ◌==◌, inl, inr, List, [], ◌∷◌, ◌++◌, None, Result, Ok, Err, length, take, refl, sym, ap, ◌∙◌, subst, arith, append-nil, append_assoc, length-take-le}
 use Rattle.std.specs.Prelude.{IsOkAnd, IfOk, OnOk}
 use Rattle.std.specs.List.{filter_map}
 use Rattle.std.proofs.lemmas.Bool.{and_parts, and_from, or_right, false_from_ne_true}
-use Rattle.std.proofs.lemmas.List.{append_cancel_left, take-append-drop}
+use Rattle.std.proofs.lemmas.List.{append_cancel_left}
 use Rattle.std.proofs.lemmas.List.Elements.{filter_map-append}
 use Rattle.std.proofs.Math.Seq.{take-append-add}
 use Rattle.hb_base.specs.Limits.{most_posts}
@@ -105,9 +105,6 @@ begins_more front whole history count most is within prefix more =
           ∙ ap (λ (m : ℕ). take m (front ++ prefix.rest)) parts
           ∙ take-append-add front prefix.rest (most - count);
     }
-
-pub begins_all : (count : ℕ) (history : List Post) → IsPrefix (take count history) history
-begins_all count history = record { rest = drop count history; is = sym (take-append-drop count history) }
 
 both_none : (xs ys : List Post) → xs ++ ys ≡ [] → (xs ≡ []) × (ys ≡ [])
 both_none [] ys none = (refl, none)

@@ -103,14 +103,6 @@ pass-same reads hears makes slots parts own other heard now cast hearings =
     pass-alike (HaveSame reads) (HaveSame-kept reads) heard now slots
     (parts_alike reads hears makes heard now hearings slots parts) own other (record { same = cast })
 
-pub passes-same : {V H : Type 0} (reads : V → Bool) (hears : H → Bool) (makes : V → Bool) (slots : List (Slot V H))
-    → AllByRecursion (IsPart reads hears makes) slots
-    → (k : ℕ) (own other : List V) (heard now : List H) → filter reads own ≡ filter reads other → filter hears heard ≡ filter hears now
-    → passes k slots own heard ≡ passes k slots other now
-passes-same reads hears makes slots parts k own other heard now cast hearings =
-    passes-alike (HaveSame reads) (HaveSame-kept reads) heard now slots
-    (parts_alike reads hears makes heard now hearings slots parts) k own other (record { same = cast })
-
 pub IsOwed-same : {V H : Type 0} (reads : V → Bool) (hears : H → Bool) (makes : V → Bool) (slots : List (Slot V H))
     → AllByRecursion (IsPart reads hears makes) slots
     → (own other : List V) (heard now : List H) (votes : List V) → filter reads own ≡ filter reads other → filter hears heard ≡ filter hears now

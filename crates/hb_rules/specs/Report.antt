@@ -113,8 +113,8 @@ has_closed_all report =
     list_any (is_running report) (range_with_len 0 report.config.n)
     && list_all (λ i. not (is_running report i) || has_closed_last report i) (range_with_len 0 report.config.n)
 
--- The status of a run: 9 where an actor of a correct node found no memory; else 0 where all is closed; else 5 where a lane
--- has spent its rounds; else 4.
+-- The status of a run: 9 where an actor of a correct node found no memory; else 0 where some correct node runs and each
+-- that runs has closed the last epoch; else 5 where a lane of a correct node works and has spent its rounds; else 4.
 abbrev pub status_of : Report → ℕ
 status_of report =
     if list_any (λ end. not (is_in report.config.liars end.node) && is_memory_fate end.fate) report.ends.items then 9

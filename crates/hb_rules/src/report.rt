@@ -79,8 +79,8 @@ pub fn running(report: &Report, node: u8) -> bool
     all_there(ends, node, n) && none_ended(ends, node)
 }
 
-// Whether the end of an actor is there, with the fate Running.
-fn works(ends: &[End], node: u8, actor: u8) -> bool
+/// Whether the end of an actor is there, with the fate Running. It takes no memory.
+pub fn works(ends: &[End], node: u8, actor: u8) -> bool
     ensures { result ≡ works ends.now node actor }
 {
     ends.iter().any(|end| end.node == node && end.actor == actor && end.fate == Fate::Running)

@@ -1,16 +1,15 @@
 -- What a lane owes, by its terms: lane j of node i.
-use Rattle.std.proofs.Common.{◌≡◌, ◌⊎◌, ℕ, ◌<◌, Bool, true, false, nat_lt, ◌==◌, inl, inr, List, [], ◌∷◌, ◌++◌, refl, sym, ap, subst, ◌∙◌, if◌then◌else◌, append-nil}
-use Rattle.std.proofs.lemmas.Bool.{lt-ltb}
+use Rattle.std.proofs.Common.{◌≡◌, ◌⊎◌, ◌<◌, inl, inr, List, [], ◌∷◌, ◌++◌, sym, ap, subst, ◌∙◌, append-nil}
 use Rattle.hb_base.specs.Numbers.{Numbers}
 use Rattle.hb_wire.specs.declared.vote.Vote.{Vote}
 use Rattle.hb_wire.specs.declared.vote.Vote.TheVariants.{Echo, Propose}
 use Rattle.hb_wire.specs.declared.post.Post.{Post}
 use Rattle.hb_rules.specs.Hearing.{Hearing}
 use Rattle.hb_rules.specs.History.{HasSpelling}
-use Rattle.hb_rules.specs.Owing.{lane_slots, desk_slots, slots_of}
 use Rattle.hb_rules.specs.Slots.{Slot, IsIdle, IsOwed, owed}
 use Rattle.hb_rules.specs.Terms.{AreVotes}
 use Rattle.hb_rules.proofs.Passing.{IsOwed-unique, owed_idle, idle_owed}
+use Rattle.hb_rules.proofs.DeskParts.{slots_of-lane}
 use Rattle.hb_rules.proofs.LaneSlots.{lane-guarded, lane-owed}
 use Rattle.rbc_core.specs.Broadcast.{IsShort}
 use Rattle.lane_core.specs.Lane.{LaneView, slots_at, lane_terms, IsSameLane, Stands, Hears}
@@ -21,14 +20,6 @@ pub short_by : (c : Numbers) (vote : Vote) → HasSpelling c vote → IsShort vo
 short_by c (Propose e value) fits = fits.fields.0.1
 short_by c (Echo e root shard branch) fits = fits.fields.1.0.1
 short_by c vote fits = tt
-
--- the slots of an actor below n are a lane's
-slots_of-lane : (c : Numbers) (submitted : List (List ℕ)) (i j : ℕ) → j < c.n → slots_of c submitted i j ≡ lane_slots c i j
-slots_of-lane c submitted i j below = by (nat_lt j c.n) (lt-ltb j c.n below)
-  where
-    by : (lane : Bool) → lane ≡ true → (if lane then lane_slots c i j else (if j == c.n then desk_slots c submitted else [])) ≡ lane_slots c i j
-    by true is = refl
-    by false is = absurd (cc (is))
 
 -- by its terms a lane owes what its slots make owed
 owed-lane : (l : LaneView) (own : List Vote) (heard : List Hearing) → l.lane < l.config.n → (lane_terms l).owed own heard ≡ owed (slots_at l) own heard

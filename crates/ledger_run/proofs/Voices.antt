@@ -107,12 +107,14 @@ head_none i l liars n none = none.each 0 l (omega arith) refl
 head_here : (i : ℕ) (l : LiarAt) (liars : List LiarAt) (liar : LiarAt) → IsAt i (l ∷ liars) 0 liar → l ≡ liar
 head_here i l liars liar is = let at = is.stands in cc
 
+head_named : (i : ℕ) (l : LiarAt) (liars : List LiarAt) (liar : LiarAt) → IsAt i (l ∷ liars) 0 liar → (l.node == i) ≡ true
+head_named i l liars liar is = subst (λ (o : LiarAt). (o.node == i) ≡ true) (sym (head_here i l liars liar is)) is.here
+
 pub hears_at-is : (i : ℕ) (liars : List LiarAt) (place : ℕ) (liar : LiarAt) → IsAt i liars place liar → hears_at i liars ≡ liar.hears
 hears_at-is i [] place liar is = absurd (cc (is.stands))
 hears_at-is i (l ∷ liars) zero liar is =
-    let same : l ≡ liar = head_here i l liars liar is in
-    let here : (l.node == i) ≡ true = subst (λ (o : LiarAt). (o.node == i) ≡ true) (sym same) is.here in
-    rw here (ap (λ (o : LiarAt). o.hears) same)
+    let here : (l.node == i) ≡ true = head_named i l liars liar is in
+    rw here (ap (λ (o : LiarAt). o.hears) (head_here i l liars liar is))
 hears_at-is i (l ∷ liars) (suc place) liar is =
     let other : (l.node == i) ≡ false = head_none i l liars place is.none_before in
     rw other (hears_at-is i liars place liar (tail_at i l liars place liar is))
@@ -122,7 +124,7 @@ pub voice_at-is : {L : Type 0} (i : ℕ) (liars : List LiarAt) (voices : List (O
 voice_at-is i [] voices place liar is = absurd (cc (is.stands))
 voice_at-is i (l ∷ liars) [] place liar is = refl
 voice_at-is i (l ∷ liars) (voice ∷ voices) zero liar is =
-    let here : (l.node == i) ≡ true = subst (λ (o : LiarAt). (o.node == i) ≡ true) (sym (head_here i l liars liar is)) is.here in
+    let here : (l.node == i) ≡ true = head_named i l liars liar is in
     rw here refl
 voice_at-is i (l ∷ liars) (voice ∷ voices) (suc place) liar is =
     let other : (l.node == i) ≡ false = head_none i l liars place is.none_before in
@@ -133,7 +135,7 @@ pub without_voice-is : {L : Type 0} (i : ℕ) (liars : List LiarAt) (voices : Li
 without_voice-is i [] voices place liar is = absurd (cc (is.stands))
 without_voice-is i (l ∷ liars) [] place liar is = refl
 without_voice-is i (l ∷ liars) (voice ∷ voices) zero liar is =
-    let here : (l.node == i) ≡ true = subst (λ (o : LiarAt). (o.node == i) ≡ true) (sym (head_here i l liars liar is)) is.here in
+    let here : (l.node == i) ≡ true = head_named i l liars liar is in
     rw here refl
 without_voice-is {L} i (l ∷ liars) (voice ∷ voices) (suc place) liar is =
     let other : (l.node == i) ≡ false = head_none i l liars place is.none_before in

@@ -50,9 +50,13 @@ list_text before closure =
 abbrev pub closed_transactions : Closure → List (List ℕ)
 closed_transactions closure = transactions_in closure.1
 
+-- a ledger, by its lists
+abbrev pub lists_text : List Closure → List ℕ
+lists_text lists = in_order list_text closed_transactions [] lists
+
 -- the ledger of node i
 abbrev pub ledger_text : Numbers → List Post → ℕ → List ℕ
-ledger_text c posts i = in_order list_text closed_transactions [] (closures c posts i)
+ledger_text c posts i = lists_text (closures c posts i)
 
 -- ---- a run
 

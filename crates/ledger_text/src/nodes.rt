@@ -7,6 +7,7 @@ ghost use Rattle.ledger_text.specs.Text.{end_text, state_text, node_text};
 
 use crate::ledger::put_ledger;
 use crate::lines::{put_actor, put_node};
+use crate::lists::NodeLedger;
 use acs_world::LedgerFinder;
 use hb_base::{Failed, Sink};
 use hb_rules::{End, Fate, Report, running};
@@ -38,7 +39,7 @@ fn put_whole_node<O: Sink>(
         return put_node(node, "liar", out);
     }
     put_state(report, node, out)?;
-    put_ledger(ledgers, node, out)
+    put_ledger(&NodeLedger { ledgers, node }, out)
 }
 
 // Prints whether a node runs, and if not, which of its actors have ended.

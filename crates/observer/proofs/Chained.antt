@@ -3,7 +3,7 @@ use Rattle.std.proofs.Common.{◌≡◌, ℕ, zero, suc, ◌+◌, ◌<◌, ◌�
 use Rattle.std.specs.List.{flat_map, range_with_len}
 use Rattle.hb_wire.specs.declared.items.Item.{Item}
 use Rattle.hb_rules.proofs.Lists.{Contains-cases}
-use Rattle.acs_world.proofs.Ledgers.{IsChain}
+use Rattle.acs_world.proofs.Ledgers.{IsChain, none_behind}
 use Rattle.observer.specs.Agreeing.{AreTwoOfOne}
 use Rattle.observer.specs.Observed.{with_list, lists_from}
 
@@ -16,13 +16,6 @@ Lists = ℕ → Option (List Item)
 one_more : (x : List Item) (xs ys : List (List Item)) → AreTwoOfOne xs ys → AreTwoOfOne (x ∷ xs) (x ∷ ys)
 one_more x xs ys (inl one) = inl (record { rest = one.rest; is = ap (λ (zs : List (List Item)). x ∷ zs) one.is })
 one_more x xs ys (inr one) = inr (record { rest = one.rest; is = ap (λ (zs : List (List Item)). x ∷ zs) one.is })
-
-none_behind : {X : Type 0} (A : ℕ → List X) (s k : ℕ) → IsChain A → A s ≡ [] → flat_map A (range_with_len s k) ≡ []
-none_behind A s zero chain none = refl
-none_behind {X} A s (suc k) chain none =
-    let next : suc s ≡ s + 1 = omega arith in
-    let also : A (s + 1) ≡ [] = subst (λ (d : ℕ). A d ≡ []) next (chain.ends s none) in
-    rw none (none_behind A (s + 1) k chain also)
 
 -- where they are alike as far as both go, one of two begins with the other
 pub two_observed : (at bt : Lists) (s k : ℕ) → ((e : ℕ) (x y : List Item) → at e ≡ Some x → bt e ≡ Some y → x ≡ y)

@@ -15,7 +15,7 @@ use Rattle.hb_rules.proofs.LaneVotes.{correct_is, correct_from}
 use Rattle.hb_rules.proofs.Lists.{contains_at, at_contains}
 use Rattle.acs_world.specs.Prefixes.{are_alike}
 use Rattle.acs_world.proofs.Exact.{each_passes, all_pass}
-use Rattle.acs_world.proofs.Prefixes.{alike_begins, begins_alike}
+use Rattle.acs_world.proofs.Prefixes.{all_below, alike_begins, begins_alike}
 use Rattle.observer.specs.Agreeing.{AreTwoOfOne, AreOf, HasClosers, closer_count}
 use Rattle.observer.specs.Observed.{observed}
 use Rattle.observer.specs.Standing.{ObserverView, ledger_of}
@@ -25,15 +25,6 @@ use Rattle.observer.proofs.Taken.{heard_ledger}
 use Rattle.observer.proofs.Theorems.{agrees_with_nodes, observers_alike, observed_complete}
 
 -- ---- numbers below another
-
-all_below : (test : ℕ → Bool) (s k m : ℕ) → list_all test (range_with_len s k) ≡ true → m < k → test (s + m) ≡ true
-all_below test s zero m all below = absurd (omega (arith, below))
-all_below test s (suc k) zero all below =
-    let e : s ≡ s + 0 = omega arith in
-    ap test (sym e) ∙ (and_parts (test s) (list_all test (range_with_len (s + 1) k)) all).0
-all_below test s (suc k) (suc m) all below =
-    let e : s + 1 + m ≡ s + suc m = omega arith in
-    ap test (sym e) ∙ all_below test (s + 1) k m (and_parts (test s) (list_all test (range_with_len (s + 1) k)) all).1 (omega (arith, below))
 
 below_all : (test : ℕ → Bool) (s k : ℕ) → ((m : ℕ) → m < k → test (s + m) ≡ true) → list_all test (range_with_len s k) ≡ true
 below_all test s zero each = refl
@@ -126,7 +117,8 @@ complete_by report i count each =
 
 -- ---- all observers
 
-beside_ledger : (report : Report) (i : ℕ) (o : ObserverView) → IsBeside report i o → ledger_of o ≡ observed_beside report i
+-- what the observer beside a node has taken
+pub beside_ledger : (report : Report) (i : ℕ) (o : ObserverView) → IsBeside report i o → ledger_of o ≡ observed_beside report i
 beside_ledger report i o beside =
     heard_ledger o (heard_beside report i) beside.heard ∙ ap (λ (c : Numbers). observed c (heard_beside report i)) beside.config
 

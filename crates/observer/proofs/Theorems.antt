@@ -25,7 +25,7 @@ use Rattle.hb_rules.proofs.Said.{correct_said}
 use Rattle.hb_rules.proofs.Lists.{Contains-first}
 use Rattle.acs_world.specs.Agreed.{ClosingsAgree, ClosingsFollow}
 use Rattle.acs_world.proofs.Ledgers.{lists_at, list_from, list_has, one_list_at, ledger_has, IsChain}
-use Rattle.acs_world.proofs.Theorems.{closings_agree, closings_follow, batches_enough}
+use Rattle.acs_world.proofs.Theorems.{closings_agree, closings_follow, closed_chain, batches_enough}
 use Rattle.observer.specs.Agreeing.{AreTwoOfOne, AreOf, AgreesWithNodes, HasClosers}
 use Rattle.observer.specs.Observed.{has_claimed, claim_count, reached, first_reached, observed_list, observed}
 use Rattle.observer.proofs.Chained.{two_observed, observed_chain, list_of_epoch, long_enough}
@@ -80,28 +80,6 @@ observed_closed c history heard e list sound of some = first_closed c history e 
 
 -- ---- ledgers
 
-no_member : {X : Type 0} (xs : List X) → ((x : X) → Contains xs x → ⊥) → xs ≡ []
-no_member [] none = refl
-no_member (x ∷ xs) none = absurd (none x (Contains-first x xs))
-
--- the lists of a correct node, epoch by epoch
-epochs_chain : (c : Numbers) (history : List Post) (i : ℕ) → ClosingsAgree c history → ClosingsFollow c history → IsCorrect c i
-    → IsChain (λ (e : ℕ). lists_at e (own_in c i c.n history))
-epochs_chain c history i agree follow correct = record {
-  at = λ e. elim (one_list_at e own (λ list other first second. agree.one e i i list other correct correct first second)) [
-    | inl none ↦ inl none
-    | inr one ↦ inr (one.0, one.2)
-  ];
-  ends = λ e none. no_member (lists_at (suc e) own) (λ list stands.
-      let before = follow.before e i list correct (list_from (suc e) own list stands) in
-      let nothing : Contains [] before.0 =
-      subst (λ (lists : List (List Item)). Contains lists before.0) none (list_has e own before.0 before.1) in
-      omega (arith, nothing.1));
-}
-  where
-    own : List Vote
-    own = own_in c i c.n history
-
 pub agrees_with_nodes : (c : Numbers) (history heard : List Post) → AreSound c → IsLegal c history → NoCollision c history → AreOf history heard
     → AgreesWithNodes c history (observed c heard)
 agrees_with_nodes c history heard sound legal premise of = record { nodes = nodes; enough = enough }
@@ -119,7 +97,7 @@ agrees_with_nodes c history heard sound legal premise of = record { nodes = node
     nodes : (i : ℕ) → IsCorrect c i → AreTwoOfOne (observed c heard) (ledger c history i)
     nodes i correct =
         observed_chain (observed_list c heard) (λ (e : ℕ). lists_at e (own_in c i c.n history)) 0 c.epochs 32
-        (epochs_chain c history i agree (closings_follow c history legal) correct) (alike i correct)
+        (closed_chain c history i agree (closings_follow c history legal) correct) (alike i correct)
 
     enough : (list : List Item) → Contains (observed c heard) list → c.n - c.f ≤ length list
     enough list stands =

@@ -65,6 +65,13 @@ impl Observer {
         })
     }
 
+    /// The numbers of the run.
+    pub fn config(&self) -> &Config
+        ensures { result.now ≡ self.now.config }
+    {
+        &self.config
+    }
+
     /// Hears a post. After an error the observer is as before.
     pub fn hear(&mut self, post: &Post) -> Result<Heard, AllocError>
         ensures config { self.new.config ≡ self.old.config }

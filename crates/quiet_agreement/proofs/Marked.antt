@@ -1,6 +1,7 @@
 -- The votes that bear marks and make claims of a round.
-use Rattle.std.proofs.Common.{◌≡◌, ℕ, ◌⊎◌, ◌&&◌, ◌==◌, not, Bool, true, false, inl, inr, List, Contains, refl}
-use Rattle.std.proofs.lemmas.Bool.{eqb-true, eq-eqb, and_parts, and_from}
+use Rattle.std.proofs.Common.{◌≡◌, ℕ, ◌⊎◌, ◌&&◌, ◌==◌, not, Bool, true, false, inl, inr, List, Contains, refl, subst}
+use Rattle.std.specs.List.{list_any}
+use Rattle.std.proofs.lemmas.Bool.{eq-eqb, and_parts, and_from}
 use Rattle.merkle_branch.specs.declared.Branch.{Branch}
 use Rattle.hb_wire.specs.declared.vote.Vals.{Vals}
 use Rattle.hb_wire.specs.declared.vote.Vals.TheVariants.{Zero, One, Both}
@@ -11,6 +12,7 @@ use Rattle.hb_rules.specs.Marks.{single, has_bit, same_vals, is_est, is_any_est,
 use Rattle.hb_rules.proofs.Among.{any_stands}
 use Rattle.hb_rules.proofs.AgreementParts.{same_bit-refl}
 use Rattle.hb_rules.proofs.Lists.{list_any-from}
+use Rattle.aba_world.proofs.Votes.{named, alike, of_round}
 
 -- ---- sets of bits
 
@@ -37,38 +39,30 @@ only_bit true One each = refl
 only_bit false Both each = absurd (cc (each true refl))
 only_bit true Both each = absurd (cc (each false refl))
 
+-- ---- votes of one form
+
+-- among the votes is one of this form
+pub record HasVote {A : Type 0} (make : A → Vote) (votes : List Vote) : Type 0 where
+  pub what : A
+  pub stands : Contains votes (make what)
+
+-- where one passes a test that only votes of this form pass
+pub has_vote : {A : Type 0} (test : Vote → Bool) (make : A → Vote) (votes : List Vote)
+    → ((vote : Vote) → test vote ≡ true → (x : A) × (vote ≡ make x)) → list_any test votes ≡ true → HasVote make votes
+has_vote test make votes is h =
+    let found = any_stands test votes h in
+    let form = is found.0 found.2 in
+    record { what = form.0; stands = subst (λ (vote : Vote). Contains votes vote) form.1 found.1 }
+
 -- ---- votes of an epoch and a round
-
-same_bits : (b d : Bool) → same_bit b d ≡ true → b ≡ d
-same_bits true true h = refl
-same_bits true false h = absurd (cc (h))
-same_bits false true h = absurd (cc (h))
-same_bits false false h = refl
-
-same_sets : (v w : Vals) → same_vals v w ≡ true → v ≡ w
-same_sets Zero Zero h = refl
-same_sets One One h = refl
-same_sets Both Both h = refl
-same_sets v w h = absurd (cc (h))
 
 same_set-refl : (v : Vals) → same_vals v v ≡ true
 same_set-refl Zero = refl
 same_set-refl One = refl
 same_set-refl Both = refl
 
-record IsOf (d e s r : ℕ) (rest : Bool) : Type 0 where
-  epoch : d ≡ e
-  round : s ≡ r
-  passes : rest ≡ true
-
-is_of : (d e s r : ℕ) (rest : Bool) → ((d == e) && ((s == r) && rest)) ≡ true → IsOf d e s r rest
-is_of d e s r rest h =
-    let outer = and_parts (d == e) ((s == r) && rest) h in
-    let inner = and_parts (s == r) rest outer.1 in
-    record { epoch = eqb-true d e outer.0; round = eqb-true s r inner.0; passes = inner.1 }
-
-of_round : (e r : ℕ) (rest : Bool) → rest ≡ true → ((e == e) && ((r == r) && rest)) ≡ true
-of_round e r rest h = and_from (e == e) ((r == r) && rest) (eq-eqb e e refl) (and_from (r == r) rest (eq-eqb r r refl) h)
+round_passes : (e r : ℕ) (rest : Bool) → rest ≡ true → ((e == e) && ((r == r) && rest)) ≡ true
+round_passes e r rest h = and_from (e == e) ((r == r) && rest) (eq-eqb e e refl) (and_from (r == r) rest (eq-eqb r r refl) h)
 
 -- an estimate of a round is of one of the bits
 pub est_bit : (e r : ℕ) (own : List Vote) → has e (any_est r) own ≡ true → (b : Bool) × (has e (est r b) own ≡ true)
@@ -83,37 +77,15 @@ est_bit e r own h = let found = any_stands (is_any_est e r) own h in by found.0 
         )
     by vote stands marked = absurd (cc (marked))
 
-pub aux-is : (e r : ℕ) (b : Bool) (vote : Vote) → is_aux e r b vote ≡ true → vote ≡ Aux e r b
-aux-is e r b (Aux d s bit) h =
-    let is = is_of d e s r (same_bit bit b) h in
-    let epoch : d ≡ e = is.epoch in
-    let round : s ≡ r = is.round in
-    let bits : bit ≡ b = same_bits bit b is.passes in
-    cc (epoch, round, bits)
-aux-is e r b vote h = absurd (cc (h))
-
 pub aux-marked : (e r : ℕ) (b : Bool) → is_aux e r b (Aux e r b) ≡ true
-aux-marked e r b = of_round e r (same_bit b b) (same_bit-refl b)
+aux-marked e r b = round_passes e r (same_bit b b) (same_bit-refl b)
 
 pub any_aux-is : (e r : ℕ) (vote : Vote) → is_any_aux e r vote ≡ true → (b : Bool) × (vote ≡ Aux e r b)
-any_aux-is e r (Aux d s bit) h =
-    let parts = and_parts (d == e) (s == r) h in
-    let epoch : d ≡ e = eqb-true d e parts.0 in
-    let round : s ≡ r = eqb-true s r parts.1 in
-    (bit, cc (epoch, round))
+any_aux-is e r (Aux d s bit) h = (bit, of_round Aux d e s r bit h)
 any_aux-is e r vote h = absurd (cc (h))
 
-pub conf-is : (e r : ℕ) (vals : Vals) (vote : Vote) → is_conf e r vals vote ≡ true → vote ≡ Conf e r vals
-conf-is e r vals (Conf d s set) h =
-    let is = is_of d e s r (same_vals set vals) h in
-    let epoch : d ≡ e = is.epoch in
-    let round : s ≡ r = is.round in
-    let sets : set ≡ vals = same_sets set vals is.passes in
-    cc (epoch, round, sets)
-conf-is e r vals vote h = absurd (cc (h))
-
 pub conf-marked : (e r : ℕ) (vals : Vals) → is_conf e r vals (Conf e r vals) ≡ true
-conf-marked e r vals = of_round e r (same_vals vals vals) (same_set-refl vals)
+conf-marked e r vals = round_passes e r (same_vals vals vals) (same_set-refl vals)
 
 -- a Conf of a round whose set has the bit
 pub record IsConfWith (e r : ℕ) (b : Bool) (vote : Vote) : Type 0 where
@@ -123,35 +95,25 @@ pub record IsConfWith (e r : ℕ) (b : Bool) (vote : Vote) : Type 0 where
 
 pub conf_with-is : (e r : ℕ) (b : Bool) (vote : Vote) → is_conf_with e r b vote ≡ true → IsConfWith e r b vote
 conf_with-is e r b (Conf d s set) h =
-    let is = is_of d e s r (has_bit b set) h in
-    let epoch : d ≡ e = is.epoch in
-    let round : s ≡ r = is.round in
-    record { vals = set; is = cc (epoch, round); among = is.passes }
+    let is = named d e s r (has_bit b set) h in
+    record { vals = set; is = alike Conf d e s r set set (is.0, is.1, refl); among = is.2 }
 conf_with-is e r b vote h = absurd (cc (h))
 
 pub conf_with-marked : (e r : ℕ) (b : Bool) (vals : Vals) → has_bit b vals ≡ true → is_conf_with e r b (Conf e r vals) ≡ true
-conf_with-marked e r b vals among = of_round e r (has_bit b vals) among
+conf_with-marked e r b vals among = round_passes e r (has_bit b vals) among
 
 pub any_conf-is : (e r : ℕ) (vote : Vote) → is_any_conf e r vote ≡ true → (vals : Vals) × (vote ≡ Conf e r vals)
-any_conf-is e r (Conf d s vals) h =
-    let parts = and_parts (d == e) (s == r) h in
-    let epoch : d ≡ e = eqb-true d e parts.0 in
-    let round : s ≡ r = eqb-true s r parts.1 in
-    (vals, cc (epoch, round))
+any_conf-is e r (Conf d s vals) h = (vals, of_round Conf d e s r vals h)
 any_conf-is e r vote h = absurd (cc (h))
 
 pub any_pick-is : (e r : ℕ) (vote : Vote) → is_any_pick e r vote ≡ true → (vals : Vals) × (vote ≡ Pick e r vals)
-any_pick-is e r (Pick d s vals) h =
-    let parts = and_parts (d == e) (s == r) h in
-    let epoch : d ≡ e = eqb-true d e parts.0 in
-    let round : s ≡ r = eqb-true s r parts.1 in
-    (vals, cc (epoch, round))
+any_pick-is e r (Pick d s vals) h = (vals, of_round Pick d e s r vals h)
 any_pick-is e r vote h = absurd (cc (h))
 
 -- a picked set is marked by itself
 pub pick-cast : (e r : ℕ) (vals : Vals) (own : List Vote) → Contains own (Pick e r vals) → has e (pick r vals) own ≡ true
 pick-cast e r vals own stands =
-    list_any-from (λ vote. is_pick e r vals vote) own (Pick e r vals) stands (of_round e r (same_vals vals vals) (same_set-refl vals))
+    list_any-from (λ vote. is_pick e r vals vote) own (Pick e r vals) stands (round_passes e r (same_vals vals vals) (same_set-refl vals))
 
 -- the vote with a share of the coin of a round
 pub record IsShare (e r : ℕ) (vote : Vote) : Type 0 where
@@ -162,8 +124,5 @@ pub record IsShare (e r : ℕ) (vote : Vote) : Type 0 where
 
 pub any_coin-is : (e r : ℕ) (vote : Vote) → is_any_coin e r vote ≡ true → IsShare e r vote
 any_coin-is e r (Coin d s share salt branch) h =
-    let parts = and_parts (d == e) (s == r) h in
-    let epoch : d ≡ e = eqb-true d e parts.0 in
-    let round : s ≡ r = eqb-true s r parts.1 in
-    record { share = share; salt = salt; branch = branch; is = cc (epoch, round) }
+    record { share = share; salt = salt; branch = branch; is = of_round (λ a b (x : ℕ). Coin a b x salt branch) d e s r share h }
 any_coin-is e r vote h = absurd (cc (h))

@@ -16,7 +16,8 @@ use Rattle.aba_world.specs.Backing.{supporters}
 use Rattle.aba_world.proofs.Stood.{single-has, aux_supported, conf_supported}
 use Rattle.quiet_agreement.proofs.Running.{QuietAgreement, own, view, cast, EachCast, said, support_at, speakers, round_in, speakers_heard, speakers_run, each_heard, one_heard, correct_claim, each_or}
 use Rattle.quiet_agreement.proofs.Filled.{supports_own, supports_others, accepts, confirms_one, confirms_both, picks_one, picks_both}
-use Rattle.quiet_agreement.proofs.Marked.{has_or_other, bit_or_other, est_bit, aux-is, aux-marked, any_aux-is, conf-is, conf-marked, conf_with-is, conf_with-marked, any_conf-is}
+use Rattle.aba_world.proofs.Votes.{aux-is, conf-is}
+use Rattle.quiet_agreement.proofs.Marked.{has_or_other, bit_or_other, has_vote, est_bit, aux-marked, any_aux-is, conf-marked, conf_with-is, conf_with-marked, any_conf-is}
 
 -- ---- supported bits
 
@@ -161,16 +162,6 @@ left_in_phase q i r alone any among phase round entered runs =
 
 -- ---- the phase of Aux, and that of Conf
 
-record HasAux (q : QuietAgreement) (a r : ℕ) : Type 0 where
-  bit : Bool
-  stands : Contains (own q a) (Aux q.e r bit)
-
-has_aux : (q : QuietAgreement) (a r : ℕ) → cast q (any_aux r) a ≡ true → HasAux q a r
-has_aux q a r h =
-    let found = any_stands (makes q.e (any_auxes r)) (own q a) h in
-    let is = any_aux-is q.e r found.0 found.2 in
-    record { bit = is.0; stands = subst (λ (vote : Vote). Contains (own q a) vote) is.1 found.1 }
-
 aux_said : (q : QuietAgreement) (a r : ℕ) (b : Bool) → Contains (own q a) (Aux q.e r b) → said q (auxes r b) a ≡ true
 aux_said q a r b stands = list_any-from (makes q.e (auxes r b)) (own q a) (Aux q.e r b) stands (aux-marked q.e r b)
 
@@ -181,8 +172,8 @@ aux_phase q r round accepted = record {
   among_known = λ b. round;
   each = accepted;
   either = λ a b runs.
-      let has = has_aux q a r (accepted a runs) in
-      elim (bit_or_other b has.bit) [
+      let has = has_vote (makes q.e (any_auxes r)) (Aux q.e r) (own q a) (any_aux-is q.e r) (accepted a runs) in
+      elim (bit_or_other b has.what) [
         | inl same ↦ inl (aux_said q a r b (subst (λ (d : Bool). Contains (own q a) (Aux q.e r d)) same has.stands))
         | inr other ↦ inr (aux_said q a r (not b) (subst (λ (d : Bool). Contains (own q a) (Aux q.e r d)) other has.stands))
       ];
@@ -196,16 +187,6 @@ aux_phase q r round accepted = record {
         aux_supported q.c q.j q.e r a b q.history q.lane.legal correct.honest
         (subst (λ (vote : Vote). Contains (own q a) vote) (aux-is q.e r b found.0 found.2) found.1)
 
-record HasConf (q : QuietAgreement) (a r : ℕ) : Type 0 where
-  vals : Vals
-  stands : Contains (own q a) (Conf q.e r vals)
-
-has_conf : (q : QuietAgreement) (a r : ℕ) → cast q (any_conf r) a ≡ true → HasConf q a r
-has_conf q a r h =
-    let found = any_stands (makes q.e (any_confs r)) (own q a) h in
-    let is = any_conf-is q.e r found.0 found.2 in
-    record { vals = is.0; stands = subst (λ (vote : Vote). Contains (own q a) vote) is.1 found.1 }
-
 conf_phase : (q : QuietAgreement) (r : ℕ) → r < q.c.rounds → EachCast q (any_conf r) → IsPhase q r (confs r) (any_confs r) (confs_with r)
 conf_phase q r round confirmed = record {
   alone_known = λ b. round;
@@ -213,9 +194,9 @@ conf_phase q r round confirmed = record {
   among_known = λ b. round;
   each = confirmed;
   either = λ a b runs.
-      let has = has_conf q a r (confirmed a runs) in
-      elim (has_or_other b has.vals) [
-        | inl among ↦ inl (list_any-from (makes q.e (confs_with r b)) (own q a) (Conf q.e r has.vals) has.stands (conf_with-marked q.e r b has.vals among))
+      let has = has_vote (makes q.e (any_confs r)) (Conf q.e r) (own q a) (any_conf-is q.e r) (confirmed a runs) in
+      elim (has_or_other b has.what) [
+        | inl among ↦ inl (list_any-from (makes q.e (confs_with r b)) (own q a) (Conf q.e r has.what) has.stands (conf_with-marked q.e r b has.what among))
         | inr other ↦
             inr (list_any-from (makes q.e (confs r (not b))) (own q a) (Conf q.e r (single (not b)))
             (subst (λ (vals : Vals). Contains (own q a) (Conf q.e r vals)) other has.stands) (conf-marked q.e r (single (not b))))

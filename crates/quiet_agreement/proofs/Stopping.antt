@@ -6,7 +6,6 @@ use Rattle.std.proofs.lemmas.List.FromFn.{length-range_with_len, get_or-range_wi
 use Rattle.coin_deal.specs.Deal.{dealt_coin}
 use Rattle.hb_wire.specs.declared.vote.Vals.{Vals}
 use Rattle.hb_wire.specs.declared.vote.Vals.TheVariants.{Zero, One, Both}
-use Rattle.hb_wire.specs.declared.vote.Vote.{Vote}
 use Rattle.hb_wire.specs.declared.vote.Vote.TheVariants.{Pick}
 use Rattle.hb_rules.specs.AgreementRows.{View, was_settled, next_bit, stops}
 use Rattle.hb_rules.specs.Claims.{is_bit}
@@ -18,21 +17,14 @@ use Rattle.aba_world.proofs.Stood.{pick_supported}
 use Rattle.aba_world.proofs.Rounds.{IsLocked, locked_from, locked_later, supported_estimate}
 use Rattle.quiet_agreement.proofs.Running.{QuietAgreement, own, view, cast, EachCast, each_or}
 use Rattle.quiet_agreement.proofs.Filled.{shows_share, goes_on, decides}
-use Rattle.quiet_agreement.proofs.Marked.{only_bit, any_pick-is, pick-cast}
+use Rattle.quiet_agreement.proofs.Marked.{only_bit, HasVote, has_vote, any_pick-is, pick-cast}
 use Rattle.quiet_agreement.proofs.Rounds.{all_pick}
 use Rattle.quiet_agreement.proofs.Coins.{coin_is, coin_known}
 
 -- ---- what is picked
 
-record HasPick (q : QuietAgreement) (i r : ℕ) : Type 0 where
-  vals : Vals
-  stands : Contains (own q i) (Pick q.e r vals)
-
-has_pick : (q : QuietAgreement) (i r : ℕ) → cast q (any_pick r) i ≡ true → HasPick q i r
-has_pick q i r h =
-    let found = any_stands (bears q.e (any_pick r)) (own q i) h in
-    let is = any_pick-is q.e r found.0 found.2 in
-    record { vals = is.0; stands = subst (λ (vote : Vote). Contains (own q i) vote) is.1 found.1 }
+has_pick : (q : QuietAgreement) (i r : ℕ) → cast q (any_pick r) i ≡ true → HasVote (Pick q.e r) (own q i)
+has_pick q i r h = has_vote (bears q.e (any_pick r)) (Pick q.e r) (own q i) (any_pick-is q.e r) h
 
 -- with what is picked there is a bit to go on with
 next_known : (v : View) (r : ℕ) (coin : Bool) (vals : Vals) → v.cast (pick r vals) ≡ true → (b : Bool) × (next_bit v r coin ≡ Some b)
@@ -69,10 +61,10 @@ picks_settled q r k b was correct h =
     let locked : IsLocked q.c q.history q.j q.e r b =
     locked_later q.c q.j q.e (suc was.round) r b q.history q.lane.sound q.lane.legal (omega (arith, was.before))
     (locked_from q.c q.j q.e was.round was.node b q.history q.lane.sound q.lane.legal q.lane.apart was.correct.honest was.picked was.coin) in
-    let alone : has.vals ≡ single b =
-    only_bit b has.vals (λ d among.
+    let alone : has.what ≡ single b =
+    only_bit b has.what (λ d among.
     locked.one d (supported_estimate q.c q.j q.e r d q.history q.lane.sound q.lane.legal
-    (omega (arith, pick_supported q.c q.j q.e r k has.vals d q.history q.lane.legal correct.honest has.stands among)))) in
+    (omega (arith, pick_supported q.c q.j q.e r k has.what d q.history q.lane.legal correct.honest has.stands among)))) in
     pick-cast q.e r (single b) (own q k) (subst (λ (vals : Vals). Contains (own q k) (Pick q.e r vals)) alone has.stands)
 
 below_range : (r s : ℕ) → Contains (range_with_len 0 r) s → s < r
@@ -116,7 +108,7 @@ next_or q r i later entered runs = elim (cases_Bool (stops (view q i) r (dealt_c
       (picks_settled q r k (dealt_coin q.c q.e q.j r) (settled_before q i r (dealt_coin q.c q.e q.j r) runs stopped) (q.lane.correct k speaks) (picked k speaks)))
   | inr stays ↦ inl (
       let has = has_pick q i r (picked i runs) in
-      let next = next_known (view q i) r (dealt_coin q.c q.e q.j r) has.vals (pick-cast q.e r has.vals (own q i) has.stands) in
+      let next = next_known (view q i) r (dealt_coin q.c q.e q.j r) has.what (pick-cast q.e r has.what (own q i) has.stands) in
       goes_on q i r (dealt_coin q.c q.e q.j r) next.0 runs later (known i runs) stays next.1
       )
 ]

@@ -1,39 +1,33 @@
 -- The shards of valid Echoes that a lane has heard: where they are enough, and the root is that of a codeword, they rebuild to it.
-use Rattle.std.proofs.Common.{◌≡◌, ℕ, zero, suc, ◌+◌, ◌<◌, ◌≤◌, not, ◌&&◌, ◌==◌, Bool, true, false, inl, inr, List, [], ◌∷◌, ◌++◌, Contains, None, Some, length, take, get_or, slice_get, if◌then◌else◌, refl, sym, ap, ◌∙◌, subst, arith}
+use Rattle.std.proofs.Common.{◌≡◌, ℕ, zero, suc, ◌+◌, ◌≤◌, not, ◌&&◌, ◌==◌, Bool, true, false, inl, inr, List, [], ◌∷◌, ◌++◌, Contains, None, Some, length, take, if◌then◌else◌, refl, sym, ap, ◌∙◌, arith}
 use Rattle.std.specs.List.{list_any, fold, filter_map}
 use Rattle.std.specs.Option.{option_and_then, is_some}
 use Rattle.std.specs.Str.{bytes_eq}
-use Rattle.std.proofs.lemmas.Bool.{both_ways, and_parts, and_from, or_left, or_right, or_cases, eqb-true, eq-eqb, ltb-true, not-true}
+use Rattle.std.proofs.lemmas.Bool.{both_ways, and_parts, and_from, or_left, or_right, or_cases, eqb-true, eq-eqb, not-true}
 use Rattle.std.proofs.lemmas.List.{take_all, length-take-le}
 use Rattle.std.proofs.lemmas.List.Elements.{All-take, All-weaker}
 use Rattle.std.proofs.lemmas.List.Folds.{list_any-append}
-use Rattle.std.proofs.lemmas.Option.{slice_get-get_or}
 use Rattle.std.proofs.lemmas.Slice.Eq.{bytes_eq-Decides}
 use Rattle.hb_base.specs.Counting.{count_nodes}
 use Rattle.hb_base.specs.Numbers.{Numbers, AreSound}
 use Rattle.hb_wire.specs.declared.post.Post.{Post}
-use Rattle.hb_wire.specs.declared.vote.Vote.{Vote}
-use Rattle.merkle_branch.specs.Branches.{IsBranch}
-use Rattle.merkle_branch.specs.Digests.{tree_root, tree_strings}
-use Rattle.merkle_branch.proofs.Strings.{leaf_binds}
-use Rattle.rs_shards.specs.Codeword.{IsCodeword}
+use Rattle.merkle_branch.specs.Digests.{tree_root}
 use Rattle.rs_shards.specs.Completing.{are_even, completed}
 use Rattle.rs_shards.specs.Frame.{framed_value}
 use Rattle.rs_shards.specs.Rebuilding.{AreShards, IsRebuilt}
-use Rattle.rs_shards.proofs.Completions.{are_even-is, AreShards-take, rebuilt-given, rebuilt-even, completed-only}
+use Rattle.rs_shards.proofs.Completions.{are_even-is, AreShards-take, rebuilt-even, completed-only}
 use Rattle.hb_rules.specs.BroadcastRows.{shard_of, shards_of, value_of}
 use Rattle.hb_rules.specs.Claims.{is_echo, is_shard_echo}
-use Rattle.hb_rules.specs.Code.{data_count, AreEchoes, echo_count}
+use Rattle.hb_rules.specs.Code.{data_count, echo_count}
 use Rattle.hb_rules.specs.FirstShown.{has_node, with_first}
-use Rattle.hb_rules.specs.Hearing.{Hearing, heard_by, own_in, said_in}
-use Rattle.hb_rules.specs.Strings.{IsHashed, NoCollision}
+use Rattle.hb_rules.specs.Hearing.{Hearing, heard_by, said_in}
+use Rattle.hb_rules.specs.Strings.{NoCollision}
 use Rattle.hb_rules.proofs.Among.{Grows, AreEchoes-grows}
 use Rattle.hb_rules.proofs.BroadcastParts.{some_where}
 use Rattle.hb_rules.proofs.Counts.{count_nodes-mono, count_nodes-none, count_nodes-less}
 use Rattle.hb_rules.proofs.FirstShards.{IsShown, shards_of-shown, shards_of-shards, data_count-some, few_nodes}
 use Rattle.hb_rules.proofs.Lists.{Contains-cases, Contains-filter_map}
-use Rattle.rbc_world.proofs.Binding.{AreHashed}
-use Rattle.rbc_world.proofs.Shown.{shard_echo_said}
+use Rattle.rbc_world.proofs.Binding.{IsBoundTo, on_bound}
 use Rattle.quiet_broadcast.proofs.Marks.{echo_heard}
 
 -- ---- a shard of each node that has shown a valid Echo
@@ -111,41 +105,8 @@ shards_enough n e root heard =
 
 -- ---- the codeword of a root
 
--- a codeword with this root, the strings of whose tree count as hashed
-pub record IsBoundTo (c : Numbers) (history : List Post) (root : List ℕ) : Type 0 where
-  pub shards : List (List ℕ)
-  pub codeword : IsCodeword c.n (data_count c) shards
-  pub root_is : tree_root shards ≡ root
-  pub hashed : AreHashed c history (tree_strings shards)
-
 module _ (c : Numbers) (j e : ℕ) (root : List ℕ) (history : List Post) (sound : AreSound c) (premise : NoCollision c history)
     (bound : IsBoundTo c history root) where
-  -- the shard of a valid Echo stands at its sender's place, since its branch leads to the root too
-  echo_lies : (x : ℕ × List ℕ) → said_in c j history x.0 (is_shard_echo c.n e root x.0 x.1) ≡ true → slice_get bound.shards x.0 ≡ Some x.1
-  echo_lies x shown =
-      let said = shard_echo_said c j e x.0 root x.1 history shown in
-      let echo = said.2 in
-      let count : length bound.shards ≡ c.n = bound.codeword.count in
-      let node : x.0 < c.n = ltb-true x.0 c.n echo.known in
-      let inside : x.0 < length bound.shards = omega (arith, count, node) in
-      let few : length bound.shards ≤ 16 = omega (arith, count, sound.nodes.1) in
-      let valid : IsBranch (tree_root bound.shards) (length bound.shards) x.0 x.1 echo.branch = rw (bound.root_is, count) echo.valid in
-      let leaf : get_or bound.shards x.0 [] ≡ x.1 = elim (leaf_binds bound.shards x.0 x.1 echo.branch few inside valid) [
-        | inl same ↦ same
-        | inr collision ↦ absurd (collision.differ (premise.apart collision.one collision.other
-            (bound.hashed.each collision.one collision.one_in)
-            (IsHashed.echoed x.0 j e root x.1 echo.branch
-            (subst (λ (vote : Vote). Contains (own_in c x.0 j history) vote) echo.is said.1) collision.other_in) collision.same_digest))
-      ] in
-      slice_get-get_or bound.shards x.0 [] inside ∙ ap (λ (shard : List ℕ). Some shard) leaf
-
-  echoes_rebuild : (got : List (ℕ × List ℕ)) → AreEchoes c.n (data_count c) e root (said_in c j history) got
-      → IsRebuilt c.n (data_count c) got bound.shards
-  echoes_rebuild got echoes =
-      rebuilt-given c.n (data_count c) got bound.shards (omega (arith, echoes.enough)) bound.codeword
-      (All-weaker (λ (x : ℕ × List ℕ). said_in c j history x.0 (is_shard_echo c.n e root x.0 x.1) ≡ true)
-      (λ (x : ℕ × List ℕ). slice_get bound.shards x.0 ≡ Some x.1) echo_lies got echoes.each)
-
   -- the shards that came first give the value, whoever sent them
   pub value_there : (heard : List Hearing) → Grows (heard_by heard) (said_in c j history)
       → data_count c ≤ echo_count c.n e root (heard_by heard) → is_some (value_of c e heard root) ≡ true
@@ -175,7 +136,7 @@ module _ (c : Numbers) (j e : ℕ) (root : List ℕ) (history : List Post) (soun
 
       rebuilt : IsRebuilt c.n (data_count c) (take (data_count c) (shards_of c.n e root heard)) bound.shards
       rebuilt =
-          echoes_rebuild got (AreEchoes-grows c.n k e root (heard_by heard) (said_in c j history) got said (record {
+          on_bound c j e root history sound premise bound got (AreEchoes-grows c.n k e root (heard_by heard) (said_in c j history) got said (record {
             enough = length_is;
             shards = are;
             each =

@@ -36,7 +36,8 @@ use Rattle.quiet_lanes.specs.Lanes.{IsQuietLane}
 use Rattle.quiet_lanes.proofs.Hearings.{cast_heard, all_heard, heard_said}
 use Rattle.quiet_broadcast.proofs.Marks.{IsVal, echo_named}
 use Rattle.quiet_broadcast.proofs.Settled.{val_cast, echo_cast}
-use Rattle.quiet_broadcast.proofs.Codewords.{IsBoundTo, value_there}
+use Rattle.rbc_world.proofs.Binding.{IsBoundTo}
+use Rattle.quiet_broadcast.proofs.Codewords.{value_there}
 use Rattle.quiet_broadcast.proofs.Totality.{echo_vote, becomes_ready, all_deliver}
 
 -- what a correct desk proposes is of an epoch of the run

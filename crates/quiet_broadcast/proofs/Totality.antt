@@ -19,13 +19,13 @@ use Rattle.hb_rules.proofs.Cast.{was_allowed, heard_from}
 use Rattle.hb_rules.proofs.Counts.{member_from_count}
 use Rattle.hb_rules.proofs.Lists.{list_any-from}
 use Rattle.rbc_world.specs.Backing.{IsBacked}
-use Rattle.rbc_world.proofs.Binding.{echoed-hashed}
+use Rattle.rbc_world.proofs.Binding.{echoed-hashed, IsBoundTo}
 use Rattle.rbc_world.proofs.Theorems.{deliveries_agree, ready_quorum, is_backed}
 use Rattle.quiet_lanes.specs.Lanes.{IsQuietLane}
 use Rattle.quiet_lanes.proofs.Hearings.{IsForLanes, AreForLanes, many_heard, all_heard, heard_said}
 use Rattle.quiet_broadcast.proofs.Marks.{IsNamed, ready-is, ready-marked, ready_named, echo-is}
 use Rattle.quiet_broadcast.proofs.Settled.{ready_cast, delivery_cast}
-use Rattle.quiet_broadcast.proofs.Codewords.{IsBoundTo, value_there}
+use Rattle.quiet_broadcast.proofs.Codewords.{value_there}
 
 -- ---- votes that all lanes of a number hear
 

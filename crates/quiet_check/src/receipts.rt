@@ -4,7 +4,7 @@ ghost use Rattle.net_script.specs.Delivery.{fits, is_any_or, shape_of};
 ghost use Rattle.hb_rules.specs.Report.{is_drop, comes_to, works, IsReceived};
 ghost use Rattle.quiet_check.specs.Receipts.{AreReceived, HasReceived, is_sent, IsMarkedAt, AreMarked};
 
-use hb_rules::{End, Fate, Report};
+use hb_rules::{End, Report, works};
 use hb_wire::{Post, reaches};
 use net_script::{Link, Script, Shape};
 use std::alloc::{AllocError, Global};
@@ -96,13 +96,6 @@ fn is_sent(report: &Report, post: &Post) -> bool
     ensures { result ≡ is_sent report.now post.now }
 {
     report.config.liars().has(post.from) || works(report.ends.as_slice(), post.from, post.actor)
-}
-
-// Whether the end of an actor is there, with the fate Running.
-fn works(ends: &[End], node: u8, actor: u8) -> bool
-    ensures { result ≡ works ends.now node actor }
-{
-    ends.iter().any(|end| end.node == node && end.actor == actor && end.fate == Fate::Running)
 }
 
 // Whether an actor has received all that it has to: each post that comes to it, and whose sender lies or works.

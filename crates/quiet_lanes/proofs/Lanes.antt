@@ -1,7 +1,7 @@
 -- The theorem on lanes in calm runs.
-use Rattle.std.proofs.Common.{◌≡◌, ℕ, ◌<◌, ◌≤◌, ◌&&◌, ◌==◌, not, nat_lt, true, false, inl, inr, List, [], Contains, Some, refl, sym, ap, ◌∙◌, subst, arith, slice_get}
+use Rattle.std.proofs.Common.{◌≡◌, ℕ, ◌<◌, ◌≤◌, ◌&&◌, ◌==◌, not, nat_lt, true, false, inl, inr, List, [], Contains, Some, sym, ap, ◌∙◌, subst, arith, slice_get}
 use Rattle.std.specs.List.{filter_map}
-use Rattle.std.proofs.lemmas.Bool.{and_parts, and_from, or_right, or_cases, eqb-true, ltb-true, lt-ltb, false_from_ne_true, not_from_false}
+use Rattle.std.proofs.lemmas.Bool.{and_parts, and_from, or_right, or_cases, eqb-true, ltb-true, false_from_ne_true, not_from_false}
 use Rattle.hb_base.specs.NodeSet.{is_in}
 use Rattle.hb_base.specs.Numbers.{Numbers}
 use Rattle.hb_wire.specs.Addresses.{goes_to, is_at_home, reaches}
@@ -17,6 +17,7 @@ use Rattle.hb_rules.specs.Report.{submitted_at, is_drop, works, is_running, cast
 use Rattle.hb_rules.specs.Slots.{Slot, IsIdle}
 use Rattle.hb_rules.specs.Terms.{terms_of}
 use Rattle.hb_rules.proofs.Cast.{IsHeard, heard_is}
+use Rattle.hb_rules.proofs.DeskParts.{slots_of-lane}
 use Rattle.hb_rules.proofs.Lists.{IsSource, contains_at, source_of, Contains-filter_map}
 use Rattle.hb_rules.proofs.Received.{got_heard}
 use Rattle.hb_rules.proofs.Reports.{running_correct, running_works}
@@ -98,9 +99,6 @@ hears_there report j i h calm lane here there stands =
     received = received_there report i j at.0 source.element h calm lane here (ap (is_running report) from ∙ there) at.1 heard
 
 -- ---- nothing is owed
-
-slots_of-lane : (c : Numbers) (submitted : List (List ℕ)) (i j : ℕ) → j < c.n → slots_of c submitted i j ≡ lane_slots c i j
-slots_of-lane c submitted i j lane = let inside : nat_lt j c.n ≡ true = lt-ltb j c.n lane in rw inside refl
 
 -- what is owed at an end is owed by the actor that it names
 pub owed_at_end : (report : Report) (got : List ℕ) (a y i x : ℕ) → a ≡ i → y ≡ x

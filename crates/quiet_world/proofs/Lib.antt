@@ -1,5 +1,6 @@
 pub mod Hearings
 pub mod Closings
+pub mod Within
 pub mod Rests
 pub mod Knowing
 pub mod Theorems

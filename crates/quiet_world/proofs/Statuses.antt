@@ -1,4 +1,4 @@
--- The theorem on the status of a run that does nothing to correct nodes.
+-- The theorem on the status of a run in which nothing of correct nodes is lost.
 use Rattle.std.proofs.Common.{◌≡◌, ℕ, zero, suc, ◌-◌, ◌≤◌, ◌⊎◌, ◌&&◌, ◌||◌, ◌==◌, ◌%◌, not, nat_lt, Bool, true, false, inl, inr, List, [], ◌∷◌, Contains, Option, Some, if◌then◌else◌, refl, sym, ap, ◌∙◌, subst, arith}
 use Rattle.std.specs.List.{list_any, list_all, range_with_len}
 use Rattle.std.proofs.lemmas.Bool.{and_from, and_parts, eqb-true, eq-eqb, not_from_false}

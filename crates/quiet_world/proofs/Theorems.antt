@@ -14,9 +14,11 @@ use Rattle.hb_rules.proofs.Among.{any_stands}
 use Rattle.hb_rules.proofs.DeskVotes.{any_closing-is, closing-gives}
 use Rattle.hb_rules.proofs.Firsts.{firsts_have}
 use Rattle.hb_rules.proofs.Lists.{Contains-filter_map}
+use Rattle.hb_rules.proofs.Reports.{running_correct}
 use Rattle.quiet_world.specs.Completed.{HasEachCompleted}
 use Rattle.quiet_world.proofs.Closings.{each_closed}
 use Rattle.quiet_world.proofs.Knowing.{knows}
+use Rattle.quiet_world.proofs.Within.{decided_within}
 use Rattle.quiet_world.proofs.Rests.{desk_of, heard_at_desk, desk_idle}
 
 -- ---- each epoch is closed
@@ -55,8 +57,11 @@ has_list e own closed =
     omega (arith, list.1)
 
 pub each_completed : (report : Report) → AreSound report.config → IsLegal report.config report.history.items → IsQuiet report → HasEachCompleted report
-each_completed report sound legal quiet i e runs below complete =
+each_completed report sound legal quiet i e runs complete =
     let own : List Vote = cast_by report i report.config.n in
+    let correct = running_correct report i runs in
+    let below : e < report.config.epochs =
+    decided_within report.config i 0 e report.history.items legal correct.honest (omega (arith, correct.known)) (complete e 0 (omega arith) (omega (arith, correct.known))).decided in
     let lists : suc e ≤ length (ledger report.config report.history.items i) =
     count_lists (λ (d : ℕ). filter_map (closed_with d) (firsts own)) 0 32 (suc e) (omega (arith, sound.epochs.1)) (λ d inside.
     let at : 0 + d ≡ d = omega arith in

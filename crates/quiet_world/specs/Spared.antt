@@ -1,4 +1,4 @@
--- Runs that do nothing to correct nodes, and the statuses that they can have. The letters: i is a node, x its actor.
+-- Runs in which nothing of correct nodes is lost, and the statuses that they can have. The letters: i is a node, x its actor.
 use Rattle.std.specs.Prelude.{◌≡◌, ◌⊎◌, ℕ, true, [], Contains, Some}
 use Rattle.hb_base.specs.NodeSet.{is_in}
 use Rattle.net_script.specs.declared.script.Link.{Link}
@@ -27,7 +27,8 @@ NoFaultIsPlanned report = (i x : ℕ) → IsCorrect report.config i → faults_o
 abbrev pub NoneEndsFull : Report → Type 0
 NoneEndsFull report = (end : End) → Contains report.ends.items end → end.fate ≡ Full → ⊥
 
--- a run that does nothing to correct nodes
+-- A run in which nothing of correct nodes is lost: none of their posts is dropped, none of their disks fails, and there was room
+-- for what they posted. Stops, and posts that come twice or late, may be.
 pub record IsSpared (report : Report) : Type 0 where
   pub drops : DropsAreOfLiars report
   pub faults : NoFaultIsPlanned report

@@ -1,10 +1,9 @@
 -- What one root binds where no two strings that were hashed share a digest: trees of one root have equal leaves, and a valid
 -- branch of a tree's root proves the tree's leaf.
-use Rattle.std.proofs.Common.{◌≡◌, ℕ, ◌<◌, ◌≤◌, true, inl, inr, List, [], Contains, Some, take, length, slice_get, sym, ap, ◌∙◌, subst, arith}
+use Rattle.std.proofs.Common.{◌≡◌, ℕ, ◌<◌, ◌≤◌, true, inl, inr, List, [], Contains, Some, length, slice_get, sym, ap, ◌∙◌, subst, arith}
 use Rattle.std.specs.Prelude.{slice_index_or}
 use Rattle.std.proofs.lemmas.Bool.{ltb-true}
 use Rattle.std.proofs.lemmas.Option.{slice_get-get_or}
-use Rattle.std.proofs.lemmas.List.{take_all}
 use Rattle.std.proofs.lemmas.List.Elements.{All-weaker}
 use Rattle.hb_base.specs.Numbers.{Numbers, AreSound}
 use Rattle.merkle_branch.specs.declared.Branch.{Branch}
@@ -12,8 +11,9 @@ use Rattle.merkle_branch.specs.Digests.{tree_root, tree_strings}
 use Rattle.merkle_branch.specs.Branches.{IsBranch, folded_strings}
 use Rattle.merkle_branch.proofs.TreeBinding.{trees_bind}
 use Rattle.merkle_branch.proofs.Strings.{leaf_binds}
+use Rattle.rs_shards.specs.Codeword.{IsCodeword}
 use Rattle.rs_shards.specs.Rebuilding.{IsRebuilt}
-use Rattle.rs_shards.proofs.Completions.{completed-only}
+use Rattle.rs_shards.proofs.Completions.{completed-only, rebuilt-given}
 use Rattle.hb_wire.specs.declared.vote.Vote.{Vote}
 use Rattle.hb_wire.specs.declared.post.Post.{Post}
 use Rattle.hb_rules.specs.Claims.{is_shard_echo}
@@ -53,20 +53,26 @@ echoed-hashed c j e root history shards lane echoed = record {
   each = λ string stands. IsHashed.rebuilt j e root echoed.got shards lane echoed.echoes echoed.rebuilt stands;
 }
 
--- a shard that was echoed for the root stands on the codeword that has the root
-echo_on_codeword : (c : Numbers) (j e : ℕ) (root : List ℕ) (history : List Post) (shards : List (List ℕ)) → AreSound c → NoCollision c history → j < c.n
-    → AreEchoed c.n (data_count c) e root (said_in c j history) shards
-    → (x : ℕ × List ℕ) → said_in c j history x.0 (is_shard_echo c.n e root x.0 x.1) ≡ true → slice_get shards x.0 ≡ Some x.1
-echo_on_codeword c j e root history shards sound premise lane echoed x shown =
-    slice_get-get_or shards x.0 [] inside ∙ ap (λ (shard : List ℕ). Some shard) leaf
+-- a codeword with this root, the strings of whose tree count as hashed
+pub record IsBoundTo (c : Numbers) (history : List Post) (root : List ℕ) : Type 0 where
+  pub shards : List (List ℕ)
+  pub codeword : IsCodeword c.n (data_count c) shards
+  pub root_is : tree_root shards ≡ root
+  pub hashed : AreHashed c history (tree_strings shards)
+
+-- the shard of a valid Echo of the root stands at its sender's place, since its branch leads to the root too
+echo_on_bound : (c : Numbers) (j e : ℕ) (root : List ℕ) (history : List Post) → AreSound c → NoCollision c history → (bound : IsBoundTo c history root)
+    → (x : ℕ × List ℕ) → said_in c j history x.0 (is_shard_echo c.n e root x.0 x.1) ≡ true → slice_get bound.shards x.0 ≡ Some x.1
+echo_on_bound c j e root history sound premise bound x shown =
+    slice_get-get_or bound.shards x.0 [] inside ∙ ap (λ (shard : List ℕ). Some shard) leaf
   where
     said : (vote : Vote) × Contains (own_in c x.0 j history) vote × IsShardEcho c.n e root x.0 x.1 vote
     said = shard_echo_said c j e x.0 root x.1 history shown
 
-    count : length shards ≡ c.n
-    count = echoed.rebuilt.codeword.count
+    count : length bound.shards ≡ c.n
+    count = bound.codeword.count
 
-    inside : x.0 < length shards
+    inside : x.0 < length bound.shards
     inside = let below : x.0 < c.n = ltb-true x.0 c.n said.2.known in omega (arith, count)
 
     folded : AreHashed c history (folded_strings x.0 x.1 said.2.branch)
@@ -76,25 +82,33 @@ echo_on_codeword c j e root history shards sound premise lane echoed x shown =
           (subst (λ (vote : Vote). Contains (own_in c x.0 j history) vote) said.2.is said.1) stands;
     }
 
-    valid : IsBranch (tree_root shards) (length shards) x.0 x.1 said.2.branch
-    valid = rw (echoed.root_is, count) said.2.valid
+    valid : IsBranch (tree_root bound.shards) (length bound.shards) x.0 x.1 said.2.branch
+    valid = rw (bound.root_is, count) said.2.valid
 
-    leaf : slice_index_or shards x.0 [] ≡ x.1
+    leaf : slice_index_or bound.shards x.0 [] ≡ x.1
     leaf =
-        one_leaf c history shards x.0 x.1 said.2.branch premise (omega (arith, count, sound.nodes.1)) inside
-        (echoed-hashed c j e root history shards lane echoed) folded valid
+        one_leaf c history bound.shards x.0 x.1 said.2.branch premise (omega (arith, count, sound.nodes.1)) inside
+        bound.hashed folded valid
 
--- k valid Echoes for a root to which some k rebuild go on its codeword
+-- k valid Echoes of the root go on the codeword
+pub on_bound : (c : Numbers) (j e : ℕ) (root : List ℕ) (history : List Post) → AreSound c → NoCollision c history → (bound : IsBoundTo c history root)
+    → (got : List (ℕ × List ℕ)) → AreEchoes c.n (data_count c) e root (said_in c j history) got → IsRebuilt c.n (data_count c) got bound.shards
+on_bound c j e root history sound premise bound got echoes =
+    rebuilt-given c.n (data_count c) got bound.shards (omega (arith, echoes.enough)) bound.codeword
+    (All-weaker (λ (x : ℕ × List ℕ). said_in c j history x.0 (is_shard_echo c.n e root x.0 x.1) ≡ true)
+    (λ (x : ℕ × List ℕ). slice_get bound.shards x.0 ≡ Some x.1) (echo_on_bound c j e root history sound premise bound) got echoes.each)
+
+-- so it is for a root to which some k valid Echoes rebuild
 on_codeword : (c : Numbers) (j e : ℕ) (root : List ℕ) (history : List Post) (shards : List (List ℕ)) → AreSound c → NoCollision c history → j < c.n
     → AreEchoed c.n (data_count c) e root (said_in c j history) shards
     → (got : List (ℕ × List ℕ)) → AreEchoes c.n (data_count c) e root (said_in c j history) got → IsRebuilt c.n (data_count c) got shards
-on_codeword c j e root history shards sound premise lane echoed got echoes = record {
-  codeword = echoed.rebuilt.codeword;
-  given =
-      let all : take (data_count c) got ≡ got = take_all (data_count c) got (omega (arith, echoes.enough)) in
-      rw all (All-weaker (λ (x : ℕ × List ℕ). said_in c j history x.0 (is_shard_echo c.n e root x.0 x.1) ≡ true)
-      (λ (x : ℕ × List ℕ). slice_get shards x.0 ≡ Some x.1) (echo_on_codeword c j e root history shards sound premise lane echoed) got echoes.each);
-}
+on_codeword c j e root history shards sound premise lane echoed =
+    on_bound c j e root history sound premise (record {
+      shards = shards;
+      codeword = echoed.rebuilt.codeword;
+      root_is = echoed.root_is;
+      hashed = echoed-hashed c j e root history shards lane echoed;
+    })
 
 -- the codeword of a root to which some k valid Echoes rebuild
 pub one_codeword : (c : Numbers) (j e : ℕ) (root : List ℕ) (history : List Post) (shards : List (List ℕ)) → AreSound c → NoCollision c history → j < c.n

@@ -10,7 +10,7 @@ ghost use Rattle.run_status.specs.Spent.{is_stuck_by, has_spent_by};
 use crate::closings::closers;
 use crate::spent::{is_stuck, marked};
 use hb_base::NodeSet;
-use hb_rules::{End, Fate, Report, running};
+use hb_rules::{Fate, Report, running, works};
 
 /// The status of a run:
 ///   9 where an actor of a correct node found no memory; else
@@ -101,11 +101,4 @@ fn is_spent(report: &Report, table: &[bool], node: u8, lane: u8) -> bool
     ensures { result ≡ (works report.now.ends.items node lane && is_stuck_by table.now node lane) }
 {
     works(report.ends.as_slice(), node, lane) && is_stuck(table, node, lane)
-}
-
-// Whether the end of an actor is there, with the fate Running.
-fn works(ends: &[End], node: u8, actor: u8) -> bool
-    ensures { result ≡ works ends.now node actor }
-{
-    ends.iter().any(|end| end.node == node && end.actor == actor && end.fate == Fate::Running)
 }

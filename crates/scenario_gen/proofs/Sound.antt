@@ -17,7 +17,7 @@ use Rattle.scenario_gen.specs.Generated.{nodes, faulty, first_liar, nodes_from, 
 -- ---- what is made of each number
 
 module _ {X : Type 0} (f : ℕ → X) where
-  all_made : (P : X → Type 0) (a n : ℕ) → ((j : ℕ) → a ≤ j → j < a + n → P (f j)) → All P (map f (range_with_len a n))
+  pub all_made : (P : X → Type 0) (a n : ℕ) → ((j : ℕ) → a ≤ j → j < a + n → P (f j)) → All P (map f (range_with_len a n))
   all_made P a zero each = All-nil P
   all_made P a (suc n) each =
       All-cons P (f a) (map f (range_with_len (a + 1) n)) (each a (omega arith) (omega arith))

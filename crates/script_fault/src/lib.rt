@@ -9,4 +9,4 @@ mod write;
 pub use fault::ScriptFault;
 pub use line::Line;
 pub use place::{KeyName, ListName, Place, Spot};
-pub use write::write_fault;
+pub use write::{put_hex, write_fault};

@@ -51,8 +51,8 @@ fn put_end<O: Sink>(out: &mut O) -> Result<(), Failed>
     out.put(b"\n")
 }
 
-// Puts bytes in lower-case hex, 256 at a time.
-fn put_hex<O: Sink>(bytes: &[u8], out: &mut O) -> Result<(), Failed>
+/// Puts bytes in lower-case hex, 256 of them at a time. It takes no memory. After an error a beginning was put.
+pub fn put_hex<O: Sink>(bytes: &[u8], out: &mut O) -> Result<(), Failed>
     ensures { Writes (O.held out.old) (O.held out.new) (O.faults out.old) (O.faults out.new) result (encode_lower bytes.now) }
 {
     let mut rest = bytes;

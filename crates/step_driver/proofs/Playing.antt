@@ -251,7 +251,7 @@ abbrev pub with_fate : PlayerView → Fate → PlayerView
 with_fate p fate = record p { fate = fate }
 
 -- what was sound is sound with another fate
-IsSound-fate : (c : Numbers) (s : Script) (p : PlayerView) (fate : Fate) → IsSound c s p → IsSound c s (with_fate p fate)
+pub IsSound-fate : (c : Numbers) (s : Script) (p : PlayerView) (fate : Fate) → IsSound c s p → IsSound c s (with_fate p fate)
 IsSound-fate c s p fate sound = record {
   honest = sound.honest;
   owes = sound.owes;
@@ -266,7 +266,7 @@ met_of : (v : ActorView) → v.supply.off ≡ false → IsNamed v.supply → Has
 met_of v on (inl off) = absurd (cc (on, off))
 met_of v on (inr named) = record { call = named.0; planned = named.1; met = named.2 }
 
-HasFate-fault : (fault : ActorFault) (p : PlayerView) → may_restart fault p.view.supply.off ≡ false → Explains fault p.seat p.view → HasFate true (fate_of fault) p.seat p.view
+pub HasFate-fault : (fault : ActorFault) (p : PlayerView) → may_restart fault p.view.supply.off ≡ false → Explains fault p.seat p.view → HasFate true (fate_of fault) p.seat p.view
 HasFate-fault faults.Journal p not cause = met_of p.view not cause
 HasFate-fault faults.Full p not cause = cause
 HasFate-fault faults.Memory p not cause = tt

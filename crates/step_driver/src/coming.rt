@@ -23,8 +23,8 @@ pub(crate) fn comes_to(
     reaches(config.n(), post, node, actor) && !is_drop(shape(script, post.from, node, k))
 }
 
-// Whether a post that was looked for stands, and comes to this actor of this node.
-pub(crate) fn comes_found(
+/// Whether a post that was looked for stands, reaches this actor of this node, and is not dropped on its way.
+pub fn comes_found(
     config: &Config,
     script: &Script,
     found: &Option<Post>,

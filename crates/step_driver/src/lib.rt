@@ -16,9 +16,10 @@ mod sending;
 #[cfg(test)]
 mod tests;
 
+pub use coming::comes_found;
 pub use envelope::Envelope;
 pub use hired::{Boxed, Hired, Mouth};
 pub use line::Line;
 pub use place::Place;
-pub use player::Player;
+pub use player::{Player, fate_of, is_running, may_restart};
 pub use run::{Done, run_steps};

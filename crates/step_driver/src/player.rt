@@ -23,8 +23,8 @@ pub struct Player<A> {
     pub fate: Fate,
 }
 
-// Whether it is Running.
-pub(crate) fn is_running(fate: Fate) -> bool
+/// Whether an actor with this fate still works.
+pub fn is_running(fate: Fate) -> bool
     ensures { result ≡ is_running_fate fate }
 {
     match fate {
@@ -33,8 +33,8 @@ pub(crate) fn is_running(fate: Fate) -> bool
     }
 }
 
-// The fate of an actor that ends with this fault.
-fn fate_of(fault: ActorFault) -> Fate
+/// The fate of an actor that ends with this fault.
+pub fn fate_of(fault: ActorFault) -> Fate
     ensures { result ≡ fate_of fault }
 {
     match fault {
@@ -44,8 +44,8 @@ fn fate_of(fault: ActorFault) -> Fate
     }
 }
 
-// Whether an actor is restarted after a fault: a stop has left its disk without power.
-fn may_restart(fault: ActorFault, is_off: bool) -> bool
+/// Whether an actor is restarted after a fault: a stop has left its disk without power.
+pub fn may_restart(fault: ActorFault, is_off: bool) -> bool
     ensures { result ≡ may_restart fault is_off }
 {
     match fault {

@@ -9,6 +9,8 @@ mod full;
 #[cfg(test)]
 mod observers;
 #[cfg(test)]
+mod observing;
+#[cfg(test)]
 mod reports;
 #[cfg(test)]
 mod runs;

@@ -11,7 +11,7 @@ use std::test::Fail;
 
 // A run among four nodes, of which node 3 lies, with this history. What each rule says of posts: from a node to a node, of so
 // many posts the one with this number is dropped.
-fn run_of(
+pub(crate) fn run_of(
     alloc: Global,
     history: &'static str,
     drops: &[(Option<u8>, Option<u8>, u32, u32)],
@@ -37,7 +37,7 @@ fn run_of(
     Ok(report)
 }
 
-const EVERY_TO_TWO: &[(Option<u8>, Option<u8>, u32, u32)] = &[(None, Some(2), 1, 0)];
+pub(crate) const EVERY_TO_TWO: &[(Option<u8>, Option<u8>, u32, u32)] = &[(None, Some(2), 1, 0)];
 
 // What each post of a history does, by a letter: n for nothing, c for a node that is counted; and how many epochs there are then.
 const HEARD: [(&str, &str, u32); 16] = [

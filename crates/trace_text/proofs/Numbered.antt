@@ -4,7 +4,7 @@ use Rattle.std.proofs.lemmas.List.{take-append-drop, take_more, length-take-le}
 use Rattle.hb_wire.specs.declared.post.Post.{Post}
 use Rattle.trace_text.specs.Text.{post_line, posts_text}
 
-posts_append : (k : ℕ) (xs ys : List Post) → posts_text k (xs ++ ys) ≡ posts_text k xs ++ posts_text (k + length xs) ys
+pub posts_append : (k : ℕ) (xs ys : List Post) → posts_text k (xs ++ ys) ≡ posts_text k xs ++ posts_text (k + length xs) ys
 posts_append k [] ys =
     let same : k ≡ k + 0 = omega arith in
     ap (λ (m : ℕ). posts_text m ys) same

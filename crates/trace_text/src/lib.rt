@@ -1,7 +1,6 @@
 //! The text of a history: each post, in order, as it can be read again.
 #![tactic(auto)]
 
-mod hex_pieces;
 mod lines;
 mod text;
 

@@ -6,12 +6,11 @@ ghost use Rattle.hb_base.specs.NodeSet.{is_in};
 ghost use Rattle.script_fault.specs.Line.{Writes};
 ghost use Rattle.trace_text.specs.Text.{nodes_number, trace_line, address_text, bytes_text, post_words, post_line};
 
-use crate::hex_pieces::put_hex;
 use hb_base::limits::MOST_NODES;
 use hb_base::{Config, Failed, NodeSet, Sink};
 use hb_wire::{Post, To};
 use ledger_text::add_count;
-use script_fault::Line;
+use script_fault::{Line, put_hex};
 
 /// Puts the first line, with the numbers of the run.
 #[tactic(auto, unfolding(crate::specs::Text::trace_line))]

@@ -1,8 +1,19 @@
-use Rattle.std.proofs.Common.{rules, ◌≡◌, ℕ, List, ◌∷◌, [], ◌++◌, codes, map, string_bytes, ap, ◌∙◌}
-use Rattle.hb_base.specs.Memory.{Shelf}
+use Rattle.std.proofs.Common.{rules, ◌≡◌, ◌∷◌, [], ◌++◌, codes, map, string_bytes, Some, ap, ◌∙◌}
+use Rattle.hb_base.specs.Memory.{Shelf, Tape}
 use Rattle.hb_app.specs.declared.command.Text.TheVariants.{Ledgers}
 use Rattle.ledger_text.specs.Text.{run_text}
+use Rattle.app_cases.proofs.Running.{is_run_of, says_none, closes}
 use Rattle.app_cases.proofs.callers.run_bytes.Goals as goal
+
+pub returns-clause-ran : goal.returns-clause-ran
+returns-clause-ran g c ran =
+    let asks : map string_bytes c.as_slice.result.now ≡ codes "run" ∷ [] = search rules in
+    is_run_of c.args.input (c.hb_main-status.ensures.run Ledgers asks) (ap (λ (t : Tape). Some t.left) c.new-source.ensures) ran
+
+pub returns-clause-refused : goal.returns-clause-refused
+returns-clause-refused g c three s says =
+    let asks : map string_bytes c.as_slice.result.now ≡ codes "run" ∷ [] = search rules in
+    says_none c.args.input (c.hb_main-status.ensures.run Ledgers asks) (ap (λ (t : Tape). Some t.left) c.new-source.ensures) three s says
 
 pub returns-clause-text : goal.returns-clause-text
 returns-clause-text g c ran =
@@ -14,3 +25,8 @@ pub returns-clause-agree : goal.returns-clause-agree
 returns-clause-agree g c ran apart =
     let asks : map string_bytes c.as_slice.result.now ≡ codes "run" ∷ [] = search rules in
     ((c.hb_main-status.ensures.run Ledgers asks).answers.ran ran).0.0.2.comparable apart
+
+pub returns-clause-closes : goal.returns-clause-closes
+returns-clause-closes g c four apart safe =
+    let asks : map string_bytes c.as_slice.result.now ≡ codes "run" ∷ [] = search rules in
+    closes (c.hb_main-status.ensures.run Ledgers asks) four apart safe

@@ -10,6 +10,11 @@ returns c s run =
     (c.ledger_laws.ensures.comparable made.config posts sound run.legal)
     (c.ledger_laws.ensures.batches made.config posts sound run.legal)
     (c.ledger_laws.ensures.unaltered made.config posts sound run.legal)
+    (λ apart. record {
+      nodes = λ heard of. c.observer_laws.ensures.nodes made.config posts heard sound run.legal apart of;
+      observers = λ heard others of other_of. c.observer_laws.ensures.observers made.config posts heard others sound run.legal apart of other_of;
+      complete = λ heard e of below closers. c.observer_laws.ensures.complete made.config posts heard e sound run.legal apart of below closers;
+    })
     (c.quiet_laws.ensures.completed made sound run.legal run.quiet)
     c.calm_laws.ensures.epochs c.calm_laws.ensures.status
     (c.accuse_laws.ensures made.config posts sound run.legal)

@@ -2,7 +2,8 @@ use Rattle.std.proofs.Common.{ℕ, Some, map, string_bytes, refl, subst}
 use Rattle.hb_app.specs.declared.command.Command.{Command}
 use Rattle.hb_app.specs.Commands.{Asks}
 use Rattle.hb_app.specs.Answers.{Scene, SoakAnswers, scene}
-use Rattle.hb_app.specs.Streams.{source_view, sink_view}
+use Rattle.input_reader.specs.Streams.{source_view}
+use Rattle.hb_app.specs.Streams.{sink_view}
 use Rattle.hb_app.proofs.Answering.{run_asked, soak_answers}
 use Rattle.hb_app.proofs.Commands.{one_number}
 use Rattle.hb_app.proofs.top.hb_main.Goals as goal

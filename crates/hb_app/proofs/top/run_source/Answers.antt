@@ -1,6 +1,7 @@
 use Rattle.std.proofs.Common.{rules, ℕ, List, subst, sym}
 use Rattle.hb_app.specs.Outcomes.{work}
-use Rattle.hb_app.specs.Streams.{ReadsAll, source_view, sink_view}
+use Rattle.input_reader.specs.Streams.{ReadsAll, source_view}
+use Rattle.hb_app.specs.Streams.{sink_view}
 use Rattle.hb_app.proofs.Reading.{run_comes, refuses_long}
 use Rattle.hb_app.proofs.top.run_source.Goals as goal
 

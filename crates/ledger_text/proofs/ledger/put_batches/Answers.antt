@@ -25,7 +25,7 @@ returns-in_err-put_value-clause-text g c =
     let x : Item = item_of c.item-lane.result.0 c.item-lane.result.1.now in
     let inside : index < length list = omega (arith, count, c.loop-index-test.true) in
     let is : x ≡ get_or list index x = sym (c.item-lane.ensures list c.requires.spot.list x) in
-    let before : List (List ℕ) = in_lists c.args.ledgers.now c.args.spot.node c.args.spot.place in
+    let before : List (List ℕ) = in_lists (g.L.Ledger.lists c.args.ledger.now) c.args.spot.place in
     rw p.1 (writes_stop _ (order_split item_text transactions_of before list index x x inside is) c.loop-index.invariant.text c.in_err-put_value.ensures.text)
 
 pub loop-index-preserved : goal.loop-index-preserved
@@ -36,7 +36,7 @@ loop-index-preserved g c =
     let x : Item = item_of c.item-lane.result.0 c.item-lane.result.1.now in
     let inside : index < length list = omega (arith, count, c.loop-index-test.true) in
     let is : x ≡ get_or list index x = sym (c.item-lane.ensures list c.requires.spot.list x) in
-    let before : List (List ℕ) = in_lists c.args.ledgers.now c.args.spot.node c.args.spot.place in
+    let before : List (List ℕ) = in_lists (g.L.Ledger.lists c.args.ledger.now) c.args.spot.place in
     let so_far : List (List ℕ) = in_batches c.args.spot.rest.now index in
     let more : in_batches c.args.spot.rest.now (index + 1) ≡ so_far ++ transactions_of x = each_step transactions_of list index x x inside is in
     record {
@@ -47,7 +47,7 @@ loop-index-preserved g c =
 
 pub loop-index-init : goal.loop-index-init
 loop-index-init g c =
-    let before : List (List ℕ) = in_lists c.args.ledgers.now c.args.spot.node c.args.spot.place in
+    let before : List (List ℕ) = in_lists (g.L.Ledger.lists c.args.ledger.now) c.args.spot.place in
     record {
       text = writes_nothing _ _ tt;
       seen = subst (λ (txs : List (List ℕ)). Remembers c.args.seen.now txs) (sym (append-nil before)) c.requires.seen;
@@ -58,7 +58,7 @@ returns-clause-text g c =
     let list : List Item = listed c.args.spot.rest.now in
     let count = c.count_of-index-end.ensures list c.requires.spot.list in
     let all : c.loop-index.index ≡ length list = omega (arith, count, c.loop-index-test.false, c.loop-index.auto.index-end) in
-    let before : List (List ℕ) = in_lists c.args.ledgers.now c.args.spot.node c.args.spot.place in
+    let before : List (List ℕ) = in_lists (g.L.Ledger.lists c.args.ledger.now) c.args.spot.place in
     writes_as (ap (in_order item_text transactions_of before) (sym (take_all list c.loop-index.index all))) c.loop-index.invariant.text
 
 pub returns-clause-seen : goal.returns-clause-seen
@@ -66,6 +66,6 @@ returns-clause-seen g c =
     let list : List Item = listed c.args.spot.rest.now in
     let count = c.count_of-index-end.ensures list c.requires.spot.list in
     let all : c.loop-index.index ≡ length list = omega (arith, count, c.loop-index-test.false, c.loop-index.auto.index-end) in
-    let before : List (List ℕ) = in_lists c.args.ledgers.now c.args.spot.node c.args.spot.place in
+    let before : List (List ℕ) = in_lists (g.L.Ledger.lists c.args.ledger.now) c.args.spot.place in
     subst (λ (items : List Item). Remembers c.loop-index.seen (before ++ flat_map transactions_of items)) (take_all list c.loop-index.index all)
     c.loop-index.invariant.seen

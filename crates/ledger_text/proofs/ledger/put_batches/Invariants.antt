@@ -10,6 +10,6 @@ use Rattle.ledger_text.proofs.ledger.put_batches.Given as goal
 abbrev pub invariant-loop-index : goal.invariant-loop-index
 invariant-loop-index g l = record {
   text : Writes {T = Unit {0}} {E = Failed} (g.O.Sink.held l.fn.out) (g.O.Sink.held l.out) (g.O.Sink.faults l.fn.out) (g.O.Sink.faults l.out) (Ok tt)
-      (in_order item_text transactions_of (in_lists l.ledgers l.spot.node l.spot.place) (take l.index (listed l.spot.rest.now)));
-  seen : Remembers l.seen (in_lists l.ledgers l.spot.node l.spot.place ++ in_batches l.spot.rest.now l.index);
+      (in_order item_text transactions_of (in_lists (g.L.Ledger.lists l.ledger) l.spot.place) (take l.index (listed l.spot.rest.now)));
+  seen : Remembers l.seen (in_lists (g.L.Ledger.lists l.ledger) l.spot.place ++ in_batches l.spot.rest.now l.index);
 }

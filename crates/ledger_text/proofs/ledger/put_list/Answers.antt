@@ -3,7 +3,7 @@ use Rattle.std.proofs.lemmas.Option.{slice_get_within}
 use Rattle.std.proofs.lemmas.Result.{err_from_is_err_and}
 use Rattle.hb_wire.specs.Lists.{listed}
 use Rattle.script_fault.proofs.Writing.{writes_then, writes_front}
-use Rattle.acs_world.specs.Closures.{closures, closure_of}
+use Rattle.acs_world.specs.Closures.{closure_of}
 use Rattle.ledger_text.specs.Lines.{epoch_line}
 use Rattle.ledger_text.specs.Text.{list_text}
 use Rattle.ledger_text.proofs.Order.{writes_as}
@@ -11,7 +11,7 @@ use Rattle.ledger_text.proofs.ledger.put_list.Goals as goal
 
 pub put_batches-requires-clause-spot : goal.put_batches-requires-clause-spot
 put_batches-requires-clause-spot g c =
-    let lists = closures c.args.ledgers.now.config c.args.ledgers.now.posts c.args.node in
+    let lists = g.L.Ledger.lists c.args.ledger.now in
     let within = slice_get_within lists c.args.place (closure_of c.args.closing.epoch (listed c.args.closing.rest.now)) c.requires.list.there in
     record { place = omega (arith, within); list = c.requires.list.shown; index = omega arith }
 

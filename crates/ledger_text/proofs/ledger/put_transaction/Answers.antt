@@ -15,27 +15,27 @@ put_tx-requires g c =
 
 pub returns-then-is_known-clause-text : goal.returns-then-is_known-clause-text
 returns-then-is_known-clause-text g c =
-    let before : List (List ℕ) = before_batch c.args.ledgers.now c.args.spot ++ take c.args.t (batch_of c.args.value.now) in
+    let before : List (List ℕ) = before_batch (g.L.Ledger.lists c.args.ledger.now) c.args.spot ++ take c.args.t (batch_of c.args.value.now) in
     let known : is_among before c.batch_at-tx.result.now ≡ true = sym c.is_known.ensures ∙ c.if-is_known.true in
     writes_as (ap (tx_text before) (c.batch_at-tx.ensures []) ∙ text_known before c.batch_at-tx.result.now known)
     (writes_nothing _ _ tt)
 
 pub returns-then-is_known-clause-seen : goal.returns-then-is_known-clause-seen
 returns-then-is_known-clause-seen g c =
-    let before : List (List ℕ) = before_batch c.args.ledgers.now c.args.spot ++ take c.args.t (batch_of c.args.value.now) in
+    let before : List (List ℕ) = before_batch (g.L.Ledger.lists c.args.ledger.now) c.args.spot ++ take c.args.t (batch_of c.args.value.now) in
     let known : is_among before c.batch_at-tx.result.now ≡ true = sym c.is_known.ensures ∙ c.if-is_known.true in
     subst (λ (tx : List ℕ). Remembers c.args.seen.now (before ++ tx ∷ [])) (sym (c.batch_at-tx.ensures []))
     (remembers_known c.args.seen.now before c.batch_at-tx.result.now c.requires.seen known)
 
 pub returns-clause-text : goal.returns-clause-text
 returns-clause-text g c =
-    let before : List (List ℕ) = before_batch c.args.ledgers.now c.args.spot ++ take c.args.t (batch_of c.args.value.now) in
+    let before : List (List ℕ) = before_batch (g.L.Ledger.lists c.args.ledger.now) c.args.spot ++ take c.args.t (batch_of c.args.value.now) in
     let new : is_among before c.batch_at-tx.result.now ≡ false = sym c.is_known.ensures ∙ c.if-is_known.false in
     writes_as (ap (tx_text before) (c.batch_at-tx.ensures []) ∙ text_new before c.batch_at-tx.result.now new) c.put_tx.ensures
 
 pub returns-clause-seen : goal.returns-clause-seen
 returns-clause-seen g c =
-    let before : List (List ℕ) = before_batch c.args.ledgers.now c.args.spot ++ take c.args.t (batch_of c.args.value.now) in
+    let before : List (List ℕ) = before_batch (g.L.Ledger.lists c.args.ledger.now) c.args.spot ++ take c.args.t (batch_of c.args.value.now) in
     on_ok c.put_tx.result _
     (subst (λ (tx : List ℕ). Remembers c.add.new.self (before ++ tx ∷ [])) (sym (c.batch_at-tx.ensures []))
     (remembers_new c.args.seen.now c.add.new.self before c.batch_at-tx.result.now c.requires.seen c.add.ensures.chained c.add.ensures.txs))

@@ -17,7 +17,7 @@ pub returns-in_err-put_transaction-clause-text : goal.returns-in_err-put_transac
 returns-in_err-put_transaction-clause-text g c =
     let p = err_from_is_err_and c.from_residual.result c.from_residual.ensures.1 in
     let batch : List (List ℕ) = batch_of c.args.value.now in
-    let before : List (List ℕ) = before_batch c.args.ledgers.now c.args.spot in
+    let before : List (List ℕ) = before_batch (g.L.Ledger.lists c.args.ledger.now) c.args.spot in
     let t : ℕ = c.loop-t.t in
     let x : List ℕ = get_or batch t [] in
     let inside : t < length batch = omega (arith, c.batch_len-t-end.ensures.exact, c.loop-t-test.true) in
@@ -27,7 +27,7 @@ returns-in_err-put_transaction-clause-text g c =
 pub loop-t-preserved : goal.loop-t-preserved
 loop-t-preserved g c =
     let batch : List (List ℕ) = batch_of c.args.value.now in
-    let before : List (List ℕ) = before_batch c.args.ledgers.now c.args.spot in
+    let before : List (List ℕ) = before_batch (g.L.Ledger.lists c.args.ledger.now) c.args.spot in
     let t : ℕ = c.loop-t.t in
     let x : List ℕ = get_or batch t [] in
     let inside : t < length batch = omega (arith, c.batch_len-t-end.ensures.exact, c.loop-t-test.true) in
@@ -41,7 +41,7 @@ loop-t-preserved g c =
 
 pub loop-t-init : goal.loop-t-init
 loop-t-init g c =
-    let before : List (List ℕ) = before_batch c.args.ledgers.now c.args.spot in
+    let before : List (List ℕ) = before_batch (g.L.Ledger.lists c.args.ledger.now) c.args.spot in
     record {
       text = writes_nothing _ _ tt;
       seen = subst (λ (txs : List (List ℕ)). Remembers c.args.seen.now txs) (sym (append-nil before)) c.requires.seen;
@@ -50,13 +50,13 @@ loop-t-init g c =
 pub returns-clause-text : goal.returns-clause-text
 returns-clause-text g c =
     let batch : List (List ℕ) = batch_of c.args.value.now in
-    let before : List (List ℕ) = before_batch c.args.ledgers.now c.args.spot in
+    let before : List (List ℕ) = before_batch (g.L.Ledger.lists c.args.ledger.now) c.args.spot in
     let all : c.loop-t.t ≡ length batch = omega (arith, c.batch_len-t-end.ensures.exact, c.loop-t-test.false, c.loop-t.auto.t-end) in
     writes_as (ap (in_order tx_text alone before) (sym (take_all batch c.loop-t.t all))) c.loop-t.invariant.text
 
 pub returns-clause-seen : goal.returns-clause-seen
 returns-clause-seen g c =
     let batch : List (List ℕ) = batch_of c.args.value.now in
-    let before : List (List ℕ) = before_batch c.args.ledgers.now c.args.spot in
+    let before : List (List ℕ) = before_batch (g.L.Ledger.lists c.args.ledger.now) c.args.spot in
     let all : c.loop-t.t ≡ length batch = omega (arith, c.batch_len-t-end.ensures.exact, c.loop-t-test.false, c.loop-t.auto.t-end) in
     subst (λ (txs : List (List ℕ)). Remembers c.loop-t.seen (before ++ txs)) (take_all batch c.loop-t.t all) c.loop-t.invariant.seen

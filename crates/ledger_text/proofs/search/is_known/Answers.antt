@@ -10,18 +10,18 @@ use Rattle.ledger_text.proofs.Chains.{room_left}
 use Rattle.ledger_text.proofs.search.is_known.Goals as goal
 
 pub returns-then-has : goal.returns-then-has
-returns-then-has c = sym (c.requires.seen.has.stands c.args.tx.now (sym c.has.ensures ∙ c.if-has.true))
+returns-then-has g c = sym (c.requires.seen.has.stands c.args.tx.now (sym c.has.ensures ∙ c.if-has.true))
 
 pub returns-then-not-is_full : goal.returns-then-not-is_full
-returns-then-not-is_full c =
+returns-then-not-is_full g c =
     let txs : List (List ℕ) = txs_of c.args.seen.now in
-    let before : List (List ℕ) = before_batch c.args.ledgers.now c.args.spot ++ take c.args.t (batch_of c.args.value.now) in
+    let before : List (List ℕ) = before_batch (g.L.Ledger.lists c.args.ledger.now) c.args.spot ++ take c.args.t (batch_of c.args.value.now) in
     let room : length txs < most_seen = room_left txs c.requires.seen.sound.chained.few (sym c.is_full.ensures ∙ c.if-not-is_full.true) in
     sym (false_from_ne_true (is_among before c.args.tx.now) (λ among.
     both_ways (is_among txs c.args.tx.now) (sym c.has.ensures ∙ c.if-has.false) (c.requires.seen.has.all room c.args.tx.now among)))
 
 pub returns : goal.returns
-returns c =
+returns g c =
     c.stands_before.ensures
-    ∙ sym (among_parts (in_lists c.args.ledgers.now c.args.spot.node c.args.spot.place) (in_batches c.args.spot.rest.now c.args.spot.index)
+    ∙ sym (among_parts (in_lists (g.L.Ledger.lists c.args.ledger.now) c.args.spot.place) (in_batches c.args.spot.rest.now c.args.spot.index)
     (take c.args.t (batch_of c.args.value.now)) c.args.tx.now)

@@ -4,15 +4,15 @@ use Rattle.std.proofs.lemmas.Option.{get_or_from_slice_get}
 use Rattle.tx_pool.specs.Pool.{is_among}
 use Rattle.hb_wire.specs.Lists.{listed}
 use Rattle.acs_world.specs.Closed.{Closure}
-use Rattle.acs_world.specs.Closures.{closures, closure_of}
+use Rattle.acs_world.specs.Closures.{closure_of}
 use Rattle.ledger_text.specs.Places.{in_batches}
 use Rattle.ledger_text.specs.Text.{transactions_of, closed_transactions}
 use Rattle.ledger_text.proofs.Among.{among_none, among_one, take_all}
 use Rattle.ledger_text.proofs.search.stands_in_lists.Goals as goal
 
 pub returns-then-stands_in_batches : goal.returns-then-stands_in_batches
-returns-then-stands_in_batches c =
-    let lists : List Closure = closures c.args.ledgers.now.config c.args.ledgers.now.posts c.args.node in
+returns-then-stands_in_batches g c =
+    let lists : List Closure = g.L.Ledger.lists c.args.ledger.now in
     let place : ℕ = c.loop-place.place in
     let rest : List ℕ = c.in-Some.closing.rest.now in
     let x : Closure = closure_of c.in-Some.closing.epoch (listed rest) in
@@ -25,8 +25,8 @@ returns-then-stands_in_batches c =
     sym (among_one closed_transactions lists c.args.tx.now place c.args.count x x low c.requires is here)
 
 pub loop-place-preserved : goal.loop-place-preserved
-loop-place-preserved c =
-    let lists : List Closure = closures c.args.ledgers.now.config c.args.ledgers.now.posts c.args.node in
+loop-place-preserved g c =
+    let lists : List Closure = g.L.Ledger.lists c.args.ledger.now in
     let place : ℕ = c.loop-place.place in
     let rest : List ℕ = c.in-Some.closing.rest.now in
     let x : Closure = closure_of c.in-Some.closing.epoch (listed rest) in

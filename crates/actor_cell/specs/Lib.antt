@@ -1,0 +1,4 @@
+pub mod Marks
+pub mod Boxes
+pub mod Passes
+pub mod Making

@@ -1,0 +1,9 @@
+pub mod Fields
+pub mod Numbers
+pub mod Decoding
+pub mod Hex
+pub mod Nodes
+pub mod Heads
+pub mod PostLines
+pub mod Traces
+pub mod Whole
