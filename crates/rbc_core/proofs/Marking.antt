@@ -1,5 +1,5 @@
 -- The state of a lane that has cast some votes, and has heard nothing since.
-use Rattle.std.proofs.Common.{◌≡◌, ℕ, ◌<◌, Bool, true, false, ◌||◌, ◌==◌, List, [], ◌∷◌, ◌++◌, take, Option, None, Some, if◌then◌else◌, is_some, unwrap_or, length, get_or, add-one, ◌+◌, refl, sym, ap, ◌∙◌, arith}
+use Rattle.std.proofs.Common.{◌≡◌, ℕ, ◌<◌, ◌≤◌, Bool, true, false, ◌||◌, ◌==◌, List, [], ◌∷◌, ◌++◌, take, Option, None, Some, if◌then◌else◌, is_some, unwrap_or, length, get_or, add-one, ◌+◌, refl, sym, ap, ◌∙◌, arith}
 use Rattle.std.specs.List.{list_any, filter}
 use Rattle.std.specs.Option.{option_map, option_or}
 use Rattle.std.proofs.Math.Bool.{or-false}
@@ -22,7 +22,7 @@ use Rattle.rbc_core.specs.Broadcast.{Place, RbcView, place_of, slots_at, Stands,
 use Rattle.rbc_core.specs.RootViews.{RootView, unheard}
 use Rattle.rbc_core.specs.Roots.{RootsView, found, view_at}
 use Rattle.rbc_core.proofs.Firsts.{first_of-append, option_or-none}
-use Rattle.rbc_core.proofs.RootStates.{none_marked}
+use Rattle.rbc_core.proofs.RootStates.{none_marked, IsRootView-unheard}
 use Rattle.rbc_core.proofs.Choices.{vals_at, echo_at, ready_at, delivery_at}
 
 -- the marks are of what was cast, and no root was heard of
@@ -78,8 +78,8 @@ nothing_heard p own =
     no_val m true = refl
     no_val m false = refl
 
-pub stands_marked : (r : RbcView) (p : Place) (own : List Vote) → AreMarked r p own → Stands r own []
-stands_marked r p own are =
+pub stands_marked : (r : RbcView) (p : Place) (own : List Vote) → 1 ≤ data_count r.roots.config → AreMarked r p own → Stands r own []
+stands_marked r p own some are =
     let epoch : r.epoch ≡ p.epoch = ap (λ (p : Place). p.epoch) are.place in
     let here : (root : List ℕ) → view_at r.roots root ≡ unheard = λ root. ap (λ (o : Option RootView). unwrap_or o unheard) (are.none root) in
     record {
@@ -94,6 +94,8 @@ stands_marked r p own are =
           echoes = λ a. ap (λ (v : RootView). is_in v.echoes a) (here root) ∙ none_marked a;
           readies = λ a. ap (λ (v : RootView). is_in v.readies a) (here root) ∙ none_marked a;
           shards = ap (λ (v : RootView). v.shards) (here root) ∙ sym (take_all (data_count r.roots.config) [] (omega arith));
+          value =
+              rw (here root) (IsRootView-unheard r.roots.config root some).value;
         };
       };
       nodes = λ a above. refl;

@@ -178,6 +178,7 @@ shows-echo c e heard root shard h v shows is below new holds =
           ∙ take_again (data_count c) (shards_of c.n e root heard) (h.from, shard)
           ∙ ap (take (data_count c)) (sym (shards_of-some c.n e root heard h (h.from, shard) some
           ∙ ap (λ (b : Bool). if b then shards_of c.n e root heard else shards_of c.n e root heard ++ (h.from, shard) ∷ []) absent));
+      value = refl;
     }
   where
     no_more : (b : Bool) → (b && false) ≡ false
@@ -204,6 +205,7 @@ shows-echo_again c e heard root shard h v shows old holds =
           holds.shards
           ∙ ap (take (data_count c)) (sym (shards_of-some c.n e root heard h (h.from, shard) some
           ∙ ap (λ (b : Bool). if b then shards_of c.n e root heard else shards_of c.n e root heard ++ (h.from, shard) ∷ []) has));
+      value = holds.value;
     }
   where
     no_more : (b : Bool) → (b && false) ≡ false
@@ -247,6 +249,7 @@ shows-ready c e heard root h v shows is below holds =
           ∙ ap (λ (b : Bool). b || ((h.from == a) && is_ready e root h.vote)) (holds.readies a)
           ∙ sym (heard_by-push heard h a (is_ready e root));
       shards = holds.shards ∙ ap (take (data_count c)) (sym (no_shard_more c e heard root h silent));
+      value = holds.value;
     }
 
 -- a second Ready for the root shows nothing new
@@ -258,6 +261,7 @@ shows-ready_again c e heard root h v shows old holds =
       echoes = λ a. holds.echoes a ∙ sym (no_echo_more c e heard root h silent a);
       readies = λ a. holds.readies a ∙ sym (again a);
       shards = holds.shards ∙ ap (take (data_count c)) (sym (no_shard_more c e heard root h silent));
+      value = holds.value;
     }
   where
     again : (a : ℕ) → heard_by (heard ++ h ∷ []) a (is_ready e root) ≡ heard_by heard a (is_ready e root)
@@ -278,6 +282,7 @@ shows-silent c e heard root h v silent holds = record {
   echoes = λ a. holds.echoes a ∙ sym (echo-silent c.n e root heard h silent a);
   readies = λ a. holds.readies a ∙ sym (ready-silent c.n e root heard h silent a);
   shards = holds.shards ∙ ap (take (data_count c)) (sym (shards-silent c.n e root heard h silent));
+  value = holds.value;
 }
 
 -- ---- all roots

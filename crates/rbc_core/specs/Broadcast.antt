@@ -12,7 +12,7 @@ use Rattle.hb_rules.specs.Claims.{delivered, are_these, is_echo, is_ready, is_va
 use Rattle.hb_rules.specs.Hearing.{Hearing, heard_by}
 use Rattle.hb_rules.specs.Code.{data_count}
 use Rattle.hb_rules.specs.Slots.{Slot, pass, IsIdle, IsOwed, first_of}
-use Rattle.hb_rules.specs.BroadcastRows.{shards_of, named}
+use Rattle.hb_rules.specs.BroadcastRows.{shards_of, value_through, named}
 use Rattle.hb_rules.specs.Owing.{broadcast_slots}
 use Rattle.rbc_core.specs.Due.{is_delivery_by}
 use Rattle.rbc_core.specs.RootViews.{RootView}
@@ -54,11 +54,13 @@ IsShort _ = Unit {0}
 abbrev pub names : ℕ → ℕ → List ℕ → Hearing → Bool
 names n e root h = are_these root (named n e h)
 
--- What was heard of a root: who echoed validly, who is ready, and the shards of the first k who echoed, in order of receipt.
+-- What was heard of a root: who echoed validly, who is ready, the shards of the first k who echoed, in order of receipt, and
+-- the value to which they rebuild.
 pub record ShowsHeard (c : Numbers) (e : ℕ) (heard : List Hearing) (root : List ℕ) (v : RootView) : Type 0 where
   pub echoes : (a : ℕ) → is_in v.echoes a ≡ heard_by heard a (is_echo c.n e root a)
   pub readies : (a : ℕ) → is_in v.readies a ≡ heard_by heard a (is_ready e root)
   pub shards : v.shards ≡ take (data_count c) (shards_of c.n e root heard)
+  pub value : v.value ≡ value_through c root v.shards
 
 -- The state has this of the root. A root that was named is known.
 pub record IsHeard (r : RootsView) (e : ℕ) (heard : List Hearing) (root : List ℕ) : Type 0 where

@@ -92,6 +92,8 @@ impl Rbc {
     {
         let n = config.n();
         prove!(node < n);
+        let k = config.k();
+        prove!(k >= 1);
         let mut rbc = Rbc {
             node,
             lane,

@@ -1,8 +1,9 @@
-use Rattle.std.proofs.Common.{◌≡◌, ◌∷◌, [], ◌++◌, Contains, take, refl, sym, ap, ◌∙◌, subst, arith}
+use Rattle.std.proofs.Common.{◌≡◌, ◌≤◌, ◌∷◌, [], ◌++◌, Contains, take, refl, sym, ap, ◌∙◌, subst, arith}
 use Rattle.std.proofs.lemmas.List.{take_all}
 use Rattle.std.proofs.lemmas.List.Elements.{Contains-get_or}
 use Rattle.hb_base.specs.Numbers.{Numbers}
 use Rattle.hb_wire.specs.declared.vote.Vote.{Vote}
+use Rattle.hb_rules.specs.Code.{data_count}
 use Rattle.hb_rules.specs.History.{HasSpelling}
 use Rattle.hb_rules.proofs.Lists.{AllByRecursion-contains}
 use Rattle.rbc_core.specs.Broadcast.{Place}
@@ -44,8 +45,11 @@ returns c =
     let p : Place = record { config = c.args.config.now; node = c.args.node; lane = c.args.lane; epoch = c.args.epoch } in
     let are : AreMarked c.loop-vote.rbc p c.args.own.now =
     subst (AreMarked c.loop-vote.rbc p) (take_all c.loop-vote.vote-index c.args.own.now (omega arith)) c.loop-vote.invariant in
+    let config : c.loop-vote.rbc.roots.config ≡ c.args.config.now = ap (λ (p : Place). p.config) are.place in
+    let some : 1 ≤ data_count c.loop-vote.rbc.roots.config =
+    rw config (omega (arith, c.k-k.ensures.value, c.k-k.ensures.bounds)) in
     record {
       place = are.place;
-      stands = stands_marked c.loop-vote.rbc p c.args.own.now are;
-      part = stands_marked c.loop-vote.rbc p _ (AreMarked-part c.loop-vote.rbc p c.args.own.now are);
+      stands = stands_marked c.loop-vote.rbc p c.args.own.now some are;
+      part = stands_marked c.loop-vote.rbc p _ some (AreMarked-part c.loop-vote.rbc p c.args.own.now are);
     }

@@ -5,7 +5,7 @@ use Rattle.std.specs.Option.{option_map}
 use Rattle.std.specs.Ordering.{nat_cmp}
 use Rattle.std.proofs.lemmas.Bool.{both_ways}
 use Rattle.rbc_core.specs.declared.root_state.RootState.{RootState}
-use Rattle.rbc_core.specs.RootViews.{RootView, root_view}
+use Rattle.rbc_core.specs.RootViews.{root_view}
 use Rattle.rbc_core.specs.Roots.{RootsView, found}
 use Rattle.rbc_core.proofs.Tables.{found-shown, view-some, view-none, Puts, Puts-inserted}
 use Rattle.rbc_core.proofs.Adding.{Finds-ready, AreRootViews-ready}
