@@ -1,5 +1,5 @@
 -- The theorems on observers.
-use Rattle.std.proofs.Common.{◌≡◌, ℕ, suc, ◌+◌, ◌-◌, ◌<◌, ◌≤◌, ◌&&◌, Bool, true, inl, inr, is_some, List, [], ◌∷◌, ◌++◌, length, Contains, Option, None, Some, refl, sym, ap, ◌∙◌, subst, arith, append_assoc}
+use Rattle.std.proofs.Common.{◌≡◌, ℕ, ◌+◌, ◌-◌, ◌<◌, ◌≤◌, ◌&&◌, Bool, true, is_some, List, [], ◌∷◌, ◌++◌, length, Contains, Option, None, Some, refl, sym, ap, ◌∙◌, subst, arith, append_assoc}
 use Rattle.std.specs.Option.{option_or}
 use Rattle.std.proofs.lemmas.Bool.{and_parts}
 use Rattle.std.proofs.lemmas.List.Elements.{Contains-append_left}
@@ -23,12 +23,14 @@ use Rattle.hb_rules.proofs.DeskVotes.{any_closing-is}
 use Rattle.hb_rules.proofs.LaneVotes.{correct_is}
 use Rattle.hb_rules.proofs.Said.{correct_said}
 use Rattle.hb_rules.proofs.Lists.{Contains-first}
-use Rattle.acs_world.specs.Agreed.{ClosingsAgree, ClosingsFollow}
-use Rattle.acs_world.proofs.Ledgers.{lists_at, list_from, list_has, one_list_at, ledger_has, IsChain}
+use Rattle.acs_world.specs.Agreed.{ClosingsAgree}
+use Rattle.acs_world.proofs.Ledgers.{lists_at, list_from, ledger_has}
 use Rattle.acs_world.proofs.Theorems.{closings_agree, closings_follow, closed_chain, batches_enough}
 use Rattle.observer.specs.Agreeing.{AreTwoOfOne, AreOf, AgreesWithNodes, HasClosers}
 use Rattle.observer.specs.Observed.{has_claimed, claim_count, reached, first_reached, observed_list, observed}
+use Rattle.observer.specs.Standing.{ObserverView, HasHeard, ledger_of}
 use Rattle.observer.proofs.Chained.{two_observed, observed_chain, list_of_epoch, long_enough}
+use Rattle.observer.proofs.Taken.{heard_ledger}
 use Rattle.observer.proofs.Claimed.{claimed_cast, cast_claimed, reached_many, never_many}
 
 -- ---- a correct node stands behind each list
@@ -104,6 +106,14 @@ agrees_with_nodes c history heard sound legal premise of = record { nodes = node
         let epoch = list_of_epoch (observed_list c heard) 0 c.epochs list stands in
         let closed = observed_closed c history heard epoch.0 list sound of epoch.2 in
         batches_enough c history sound legal premise closed.node list closed.correct (ledger_has c history closed.node epoch.0 list closed.cast)
+
+-- an observer that has heard all this, as one with the same numbers before it knows
+pub state_agrees : (old new : ObserverView) (heard history : List Post) → AreSound old.config → new.config ≡ old.config → HasHeard new heard
+    → AreOf history heard → IsLegal old.config history → NoCollision old.config history → AgreesWithNodes old.config history (ledger_of new)
+state_agrees old new heard history sound same has of legal premise =
+    subst (AgreesWithNodes old.config history)
+    (sym (heard_ledger new heard has ∙ ap (λ (c : Numbers). observed c heard) same))
+    (agrees_with_nodes old.config history heard sound legal premise of)
 
 pub observers_alike : (c : Numbers) (history heard others : List Post) → AreSound c → IsLegal c history → NoCollision c history
     → AreOf history heard → AreOf history others → AreTwoOfOne (observed c heard) (observed c others)

@@ -8,6 +8,9 @@ ghost use Rattle.hb_wire.specs.Glances.{IsClosedRest};
 ghost use Rattle.hb_wire.specs.Lists.{listed};
 ghost use Rattle.hb_wire.specs.Reading.{vote_at};
 ghost use Rattle.acs_world.specs.Closed.{closing};
+ghost use Rattle.hb_rules.specs.History.{IsLegal};
+ghost use Rattle.hb_rules.specs.Strings.{NoCollision};
+ghost use Rattle.observer.specs.Agreeing.{AreOf, AgreesWithNodes};
 ghost use Rattle.observer.specs.Observed.{in_run, claim_of, adds_node, observed};
 ghost use Rattle.observer.specs.Claims.{Sets};
 ghost use Rattle.observer.specs.Standing.{HasHeard, list_at, ledger_of, closes_one, takes, taken_with};
@@ -72,13 +75,17 @@ impl Observer {
         &self.config
     }
 
-    /// Hears a post. After an error the observer is as before.
+    /// Hears a post. As long as all that it hears stands in one legal history in which no two hashed strings share a digest, of
+    /// its ledger and that of any correct node one begins with the other, and each list has the batches of n - f nodes at least
+    /// (CCS 2016, section 4). After an error the observer is as before.
     pub fn hear(&mut self, post: &Post) -> Result<Heard, AllocError>
         ensures config { self.new.config ≡ self.old.config }
         ensures heard { OnOk result ((heard : List Post) → HasHeard self.old heard → HasHeard self.new (heard ++ post.now ∷ [])) }
         ensures exact { IfOk result (λ answer. (heard : List Post) → HasHeard self.old heard
             → answer ≡ (if adds_node self.old.config heard post.now then Heard.Counted else Heard.Nothing)) }
         ensures err { OnErr result (self.new ≡ self.old) }
+        ensures agrees { OnOk result ((heard history : List Post) → HasHeard self.old heard → AreOf history (heard ++ post.now ∷ [])
+            → IsLegal self.old.config history → NoCollision self.old.config history → AgreesWithNodes self.old.config history (ledger_of self.new)) }
     {
         // what this call ensures says that the numbers of the run are sound
         let _sound = self.config.liars();

@@ -1,3 +1,4 @@
+use Rattle.observer.proofs.Taken.{heard_ledger}
 use Rattle.observer.proofs.Theorems.{agrees_with_nodes, observers_alike, observed_complete}
 use Rattle.observer.proofs.laws.observer_laws.Goals as goal
 
@@ -9,3 +10,6 @@ returns-clause-observers c = observers_alike
 
 pub returns-clause-complete : goal.returns-clause-complete
 returns-clause-complete c = observed_complete
+
+pub returns-clause-ledger : goal.returns-clause-ledger
+returns-clause-ledger c = heard_ledger

@@ -1,4 +1,5 @@
-use Rattle.std.proofs.Common.{◌≡◌, ◌≤◌, ◌||◌, ◌==◌, Bool, true, false, List, Some, if◌then◌else◌, sym, ap, ◌∙◌, subst}
+use Rattle.std.proofs.Common.{◌≡◌, ◌≤◌, ◌||◌, ◌==◌, ◌++◌, ◌∷◌, Bool, true, false, List, [], Some, if◌then◌else◌, refl, sym, ap, ◌∙◌, subst}
+use Rattle.hb_base.specs.Numbers.{AreSound}
 use Rattle.hb_base.specs.Limits.{most_nodes}
 use Rattle.hb_base.specs.NodeSet.{is_in}
 use Rattle.hb_wire.specs.declared.post.Post.{Post}
@@ -8,6 +9,7 @@ use Rattle.observer.specs.Observed.{claim_of}
 use Rattle.observer.specs.Standing.{ObserverView, IsSoundView}
 use Rattle.observer.specs.declared.observer.Heard.TheVariants.{Nothing, Counted}
 use Rattle.observer.proofs.Taken.{heard_nothing, node_known, node_new, no_claim, counted_self}
+use Rattle.observer.proofs.Theorems.{state_agrees}
 use Rattle.observer.proofs.observer.Observer.hear.Goals as goal
 
 pub returns-in_default-clause-heard : goal.returns-in_default-clause-heard
@@ -57,3 +59,25 @@ returns-clause-exact c =
     ap (λ (set : List Bool). is_in set c.args.post.now.from) (sym c.nodes-nodes.ensures) ∙ sym c.has.ensures ∙ c.if-has.false in
     rw (← c.self.view_is) (λ heard has.
     ap (λ (b : Bool). if b then Counted else Nothing) (sym (node_new _ heard c.args.post.now claim has c.in-Some.ensures.some.1 missing)))
+
+pub returns-in_default-clause-agrees : goal.returns-in_default-clause-agrees
+returns-in_default-clause-agrees c =
+    let o : ObserverView = c.args.self.now in
+    λ heard history has.
+    state_agrees o o (heard ++ c.args.post.now ∷ []) history (subst (λ (x : ObserverView). AreSound x.config) c.self.view_is c.liars-sound.ensures.sound)
+    refl (returns-in_default-clause-heard c heard has)
+
+pub returns-then-has-clause-agrees : goal.returns-then-has-clause-agrees
+returns-then-has-clause-agrees c =
+    let o : ObserverView = c.args.self.now in
+    λ heard history has.
+    state_agrees o o (heard ++ c.args.post.now ∷ []) history (subst (λ (x : ObserverView). AreSound x.config) c.self.view_is c.liars-sound.ensures.sound)
+    refl (returns-then-has-clause-heard c heard has)
+
+pub returns-clause-agrees : goal.returns-clause-agrees
+returns-clause-agrees c =
+    let o : ObserverView = c.args.self.now in
+    λ heard history has.
+    state_agrees o c.count.new.self (heard ++ c.args.post.now ∷ []) history
+    (subst (λ (x : ObserverView). AreSound x.config) c.self.view_is c.liars-sound.ensures.sound)
+    c.in_ok-count.ensures.config (returns-clause-heard c heard has)
