@@ -22,7 +22,7 @@ use Rattle.aba_core.specs.Rounds.{IsNew, blank}
 use Rattle.aba_core.specs.State.{Place, AbaView, place_of, mark_round, claim_round, mark_at, IsAba, AreNew}
 use Rattle.aba_core.specs.Standing.{slots_at, Shows, Stands}
 use Rattle.aba_core.specs.Passing.{Casts}
-use Rattle.aba_core.proofs.Names.{calm_idle}
+use Rattle.aba_core.proofs.Names.{all_resting_idle}
 use Rattle.aba_core.proofs.Passes.{casts_shown}
 use Rattle.aba_core.proofs.Resting.{choice_shown}
 
@@ -119,7 +119,7 @@ Stands-idle a own shows idle = record { idle = idle; shows = shows }
 pub Stands-none : (a : AbaView) → 1 ≤ a.config.rounds → Shows a [] [] → Stands a [] []
 Stands-none a some shows =
     Stands-idle a [] shows
-    (calm_idle a [] [] shows some (λ name known below. inr (choice_shown a [] [] shows name below ∙ choice_none a.config a.node a.lane a.epoch name)))
+    (all_resting_idle a [] [] shows some (λ name known below. inr (choice_shown a [] [] shows name below ∙ choice_none a.config a.node a.lane a.epoch name)))
 
 -- ---- only votes that the agreement reads are marked
 

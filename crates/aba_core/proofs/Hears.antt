@@ -9,9 +9,9 @@ use Rattle.hb_rules.specs.Slots.{pass, IsIdle, IsOwed}
 use Rattle.hb_rules.proofs.Passing.{IsOwed-nil, IsOwed-unique}
 use Rattle.aba_core.specs.State.{Place, AbaView, place_of, IsAba}
 use Rattle.aba_core.specs.Standing.{slots_at, Shows, Stands, Hears}
-use Rattle.aba_core.specs.Rows.{IsCalm}
+use Rattle.aba_core.specs.Rows.{RestsBelow}
 use Rattle.aba_core.specs.Passing.{Notes, Settled}
-use Rattle.aba_core.proofs.Names.{idle_calm, calm_idle}
+use Rattle.aba_core.proofs.Names.{idle_resting, all_resting_idle}
 
 -- nothing becomes due
 pub Hears-quiet : (old new : AbaView) (h : Hearing) (before after : List Vote) → IsAba old → Notes old new h None → after ≡ before
@@ -31,9 +31,9 @@ Hears-quiet old new h before after sound notes same = record {
 
     idle : (own : List Vote) (heard : List Hearing) → Stands old own heard → IsIdle (slots_at (place_of new)) own (heard ++ h ∷ [])
     idle own heard stands =
-        calm_idle new own (heard ++ h ∷ []) (notes.shows own heard stands.shows)
+        all_resting_idle new own (heard ++ h ∷ []) (notes.shows own heard stands.shows)
         (omega (arith, sound.sound.rounds.0, ap (λ (c : Numbers). c.rounds) config))
-        (subst (IsCalm new) (ap (λ (c : Numbers). c.rounds) (sym config)) (notes.calm (idle_calm old own heard stands.shows stands.idle old.config.rounds)))
+        (subst (RestsBelow new) (ap (λ (c : Numbers). c.rounds) (sym config)) (notes.resting (idle_resting old own heard stands.shows stands.idle old.config.rounds)))
 
 -- all that is owed becomes due
 pub Hears-settled : (old mid new : AbaView) (h : Hearing) (r : ℕ) (before after : DueView) (votes : List Vote) → Notes old mid h (Some r) → Settled r mid new before after
@@ -44,9 +44,9 @@ Hears-settled old mid new h r before after votes notes settled same = record {
   due = settled.due ∙ ap (λ (vs : List Vote). vs ++ settled.votes) same;
   owed = λ own heard stands.
       subst (λ (p : Place). IsOwed (slots_at p) own (heard ++ h ∷ []) settled.votes) notes.place
-      (settled.owed (notes.calm (idle_calm old own heard stands.shows stands.idle r)) own (heard ++ h ∷ []) (notes.shows own heard stands.shows));
+      (settled.owed (notes.resting (idle_resting old own heard stands.shows stands.idle r)) own (heard ++ h ∷ []) (notes.shows own heard stands.shows));
   stands = λ own heard stands.
-      settled.stands (notes.calm (idle_calm old own heard stands.shows stands.idle r)) own (heard ++ h ∷ []) (notes.shows own heard stands.shows);
+      settled.stands (notes.resting (idle_resting old own heard stands.shows stands.idle r)) own (heard ++ h ∷ []) (notes.shows own heard stands.shows);
 }
 
 -- ---- asked once

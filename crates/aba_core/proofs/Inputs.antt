@@ -15,12 +15,12 @@ use Rattle.hb_rules.specs.Slots.{IsIdle, IsOwed}
 use Rattle.hb_rules.proofs.Passing.{IsOwed-nil}
 use Rattle.aba_core.specs.State.{Place, AbaView, place_of, mark_round, mark_at, IsAba}
 use Rattle.aba_core.specs.Standing.{slots_at, Shows, Stands, Takes}
-use Rattle.aba_core.specs.Rows.{IsCalm}
+use Rattle.aba_core.specs.Rows.{RestsBelow}
 use Rattle.aba_core.specs.Passing.{Settled, Notes}
 use Rattle.aba_core.specs.Inputs.{with_input}
 use Rattle.aba_core.proofs.Hearing.{heard_by-push, heard_by-none, nodes_now, shares_none}
-use Rattle.aba_core.proofs.Names.{idle_calm, calm_idle}
-use Rattle.aba_core.proofs.Resting.{Spares, spares_calm}
+use Rattle.aba_core.proofs.Names.{idle_resting, all_resting_idle}
+use Rattle.aba_core.proofs.Resting.{Spares, spares_resting}
 
 -- ---- deliveries bear one mark
 
@@ -141,25 +141,25 @@ input_spares false a k begun = record {
     grows any_decision was = was
     grows mark was = was
 
-pub calm_at_0 : (a : AbaView) → IsCalm a 0
-calm_at_0 a name known below = absurd (omega (arith, below))
+pub resting_at_0 : (a : AbaView) → RestsBelow a 0
+resting_at_0 a name known below = absurd (omega (arith, below))
 
 -- ---- inputs
 
 idle_after : (old new : AbaView) → place_of new ≡ place_of old → 1 ≤ old.config.rounds → (own : List Vote) (heard : List Hearing) → Shows new own heard
-    → IsCalm new new.config.rounds → IsIdle (slots_at (place_of old)) own heard
-idle_after old new place some own heard shows calm =
+    → RestsBelow new new.config.rounds → IsIdle (slots_at (place_of old)) own heard
+idle_after old new place some own heard shows resting =
     subst (λ (p : Place). IsIdle (slots_at p) own heard) place
-    (calm_idle new own heard shows (omega (arith, some, ap (λ (p : Place). p.config.rounds) place)) calm)
+    (all_resting_idle new own heard shows (omega (arith, some, ap (λ (p : Place). p.config.rounds) place)) resting)
 
 -- what stands where nothing is owed
 record StandsStill (a : AbaView) (own : List Vote) (heard : List Hearing) : Type 0 where
   owed : IsOwed (slots_at (place_of a)) own heard []
   stands : Stands a (own ++ []) heard
 
-still : (a : AbaView) → 1 ≤ a.config.rounds → (own : List Vote) (heard : List Hearing) → Shows a own heard → IsCalm a a.config.rounds → StandsStill a own heard
-still a some own heard shows calm =
-    let idle : IsIdle (slots_at (place_of a)) own heard = calm_idle a own heard shows some calm in
+still : (a : AbaView) → 1 ≤ a.config.rounds → (own : List Vote) (heard : List Hearing) → Shows a own heard → RestsBelow a a.config.rounds → StandsStill a own heard
+still a some own heard shows resting =
+    let idle : IsIdle (slots_at (place_of a)) own heard = all_resting_idle a own heard shows some resting in
     record {
       owed = IsOwed-nil (slots_at (place_of a)) own heard idle;
       stands = subst (λ (votes : List Vote). Stands a votes heard) (sym (append-nil own)) (record { idle = idle; shows = shows });
@@ -174,7 +174,7 @@ Takes-begun true a before after sound begun same = record {
   one = λ is own more heard stands all some.
       let end : StandsStill (with_input true a) (own ++ more) heard =
       still (with_input true a) sound.sound.rounds.0 (own ++ more) heard (one_shown a own more heard stands.shows all some)
-      (spares_calm a.config.rounds a (with_input true a) (input_spares true a a.config.rounds begun) (idle_calm a own heard stands.shows stands.idle a.config.rounds)) in
+      (spares_resting a.config.rounds a (with_input true a) (input_spares true a a.config.rounds begun) (idle_resting a own heard stands.shows stands.idle a.config.rounds)) in
       (end.owed, end.stands);
   zero = λ is own heard h stands from vote. absurd (cc (is));
   begun = λ h. refl;
@@ -187,7 +187,7 @@ Takes-begun false a before after sound begun same = record {
   zero = λ is own heard h stands from vote.
       let end : StandsStill (with_input false a) own (heard ++ h ∷ []) =
       still (with_input false a) sound.sound.rounds.0 own (heard ++ h ∷ []) (zero_shown a sound.node own heard h stands.shows from vote)
-      (spares_calm a.config.rounds a (with_input false a) (input_spares false a a.config.rounds begun) (idle_calm a own heard stands.shows stands.idle a.config.rounds)) in
+      (spares_resting a.config.rounds a (with_input false a) (input_spares false a a.config.rounds begun) (idle_resting a own heard stands.shows stands.idle a.config.rounds)) in
       (end.owed, end.stands);
   begun = λ h. refl;
 }
@@ -200,7 +200,7 @@ Takes-settled true a new before after votes sound empty settled same = record {
   due = settled.due ∙ ap (λ (vs : List Vote). vs ++ settled.votes) same;
   one = λ is own more heard stands all some.
       let shows : Shows (with_input true a) (own ++ more) heard = one_shown a own more heard stands.shows all some in
-      (settled.owed (calm_at_0 (with_input true a)) (own ++ more) heard shows, settled.stands (calm_at_0 (with_input true a)) (own ++ more) heard shows);
+      (settled.owed (resting_at_0 (with_input true a)) (own ++ more) heard shows, settled.stands (resting_at_0 (with_input true a)) (own ++ more) heard shows);
   zero = λ is own heard h stands from vote. absurd (cc (is));
   begun = λ h. absurd (cc (empty, h));
 }
@@ -211,7 +211,7 @@ Takes-settled false a new before after votes sound empty settled same = record {
   one = λ is own more heard stands all some. absurd (cc (is));
   zero = λ is own heard h stands from vote.
       let shows : Shows (with_input false a) own (heard ++ h ∷ []) = zero_shown a sound.node own heard h stands.shows from vote in
-      (settled.owed (calm_at_0 (with_input false a)) own (heard ++ h ∷ []) shows, settled.stands (calm_at_0 (with_input false a)) own (heard ++ h ∷ []) shows);
+      (settled.owed (resting_at_0 (with_input false a)) own (heard ++ h ∷ []) shows, settled.stands (resting_at_0 (with_input false a)) own (heard ++ h ∷ []) shows);
   begun = λ h. absurd (cc (empty, h));
 }
 
@@ -227,7 +227,7 @@ Notes-no_more a from sound is = record {
   place = refl;
   known = omega (arith, sound.sound.rounds.0);
   shows = no_more_shown a from sound is;
-  calm = λ calm. calm_at_0 (with_input false a);
+  resting = λ resting. resting_at_0 (with_input false a);
 }
 
 pub Notes-no_more_begun : (a : AbaView) (from : ℕ) → IsAba a → from ≡ a.node → mark_at a (any_est 0) ≡ true
@@ -236,7 +236,7 @@ Notes-no_more_begun a from sound is begun = record {
   place = refl;
   known = tt;
   shows = no_more_shown a from sound is;
-  calm = spares_calm a.config.rounds a (with_input false a) (input_spares false a a.config.rounds begun);
+  resting = spares_resting a.config.rounds a (with_input false a) (input_spares false a a.config.rounds begun);
 }
 
 -- an input casts nothing

@@ -18,7 +18,7 @@ use Rattle.aba_core.specs.declared.passing.Row.{Row}
 use Rattle.aba_core.specs.declared.passing.Row.TheVariants.{Support, Accept, ConfirmOne, ConfirmBoth, PickOne, PickBoth, ShowShare, GoOn, Decide}
 use Rattle.aba_core.specs.State.{Place, AbaView, place_of}
 use Rattle.aba_core.specs.Standing.{slots_at, Shows}
-use Rattle.aba_core.specs.Rows.{row_at, row_of, needs_confirm, confirm_slots, begin_slots, names_of, IsKnown, slots_for, Rests, IsCalm}
+use Rattle.aba_core.specs.Rows.{row_at, row_of, needs_confirm, confirm_slots, begin_slots, names_of, IsKnown, slots_for, Rests, RestsBelow}
 use Rattle.aba_core.proofs.Resting.{rests_settled, settled_rests}
 
 -- ---- rows put together
@@ -218,15 +218,15 @@ resting_idle a own heard shows names rest =
     (AllByRecursion-weaker (λ name. IsKnown a.config name × Rests a name) (λ name. IsSettledAt (agreement_slot a.config a.node a.lane a.epoch name) own heard) names
     (λ name h. rests_settled a own heard shows name h.0 h.1) rest))
 
-pub calm_idle : (a : AbaView) (own : List Vote) (heard : List Hearing) → Shows a own heard → 1 ≤ a.config.rounds → IsCalm a a.config.rounds
+pub all_resting_idle : (a : AbaView) (own : List Vote) (heard : List Hearing) → Shows a own heard → 1 ≤ a.config.rounds → RestsBelow a a.config.rounds
     → IsIdle (slots_at (place_of a)) own heard
-calm_idle a own heard shows some calm =
+all_resting_idle a own heard shows some resting =
     subst (λ (slots : List (Slot Vote Hearing)). IsIdle slots own heard) (sym (slots_are (place_of a))) (resting_idle a own heard shows (names_of a.config)
     (AllByRecursion-weaker (IsKnown a.config) (λ name. IsKnown a.config name × Rests a name) (names_of a.config)
-    (λ name known. (known, calm name known known.round)) (names_known a.config some)))
+    (λ name known. (known, resting name known known.round)) (names_known a.config some)))
 
-pub idle_calm : (a : AbaView) (own : List Vote) (heard : List Hearing) → Shows a own heard → IsIdle (slots_at (place_of a)) own heard → (k : ℕ) → IsCalm a k
-idle_calm a own heard shows idle k name known below =
+pub idle_resting : (a : AbaView) (own : List Vote) (heard : List Hearing) → Shows a own heard → IsIdle (slots_at (place_of a)) own heard → (k : ℕ) → RestsBelow a k
+idle_resting a own heard shows idle k name known below =
     let all : AllByRecursion (λ (name : AgreementSlot). IsSettledAt (agreement_slot a.config a.node a.lane a.epoch name) own heard) (names_of a.config) =
     all_unmapped (λ slot. IsSettledAt slot own heard) (agreement_slot a.config a.node a.lane a.epoch) (names_of a.config)
     (settled_idle (slots_for (place_of a) (names_of a.config)) own heard (subst (λ (slots : List (Slot Vote Hearing)). IsIdle slots own heard) (slots_are (place_of a)) idle)) in

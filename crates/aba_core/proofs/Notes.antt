@@ -25,7 +25,7 @@ use Rattle.aba_core.specs.State.{AbaView, round_in, mark_round, claim_round, mar
 use Rattle.aba_core.specs.Tables.{voters_in, count_in, claims}
 use Rattle.aba_core.proofs.Hearing.{heard_by-push, heard_by-none, nodes_now, makes_claims, makes_other, claim_shows_none, claim_no_more, shares_none, shares_one, coin_kept, share_here, share_away}
 use Rattle.aba_core.proofs.Replacing.{round-same, round-other}
-use Rattle.aba_core.proofs.Resting.{Spares, spares_calm, begin_rests}
+use Rattle.aba_core.proofs.Resting.{Spares, spares_resting, begin_rests}
 
 -- ---- nothing
 
@@ -57,7 +57,7 @@ Notes-none a h unheard = record {
     nodes = nodes_now a.config.n heard h unheard.from shows.nodes;
     few = shows.few;
   };
-  calm = λ calm. calm;
+  resting = λ resting. resting;
 }
 
 -- ---- one round
@@ -178,7 +178,7 @@ Notes-claim a r from vote x inside epoch is has = record {
   place = refl;
   known = has.heard.inside;
   shows = claim_shown a r from vote x inside epoch is has;
-  calm = spares_calm r a (with_round a r x) (spared a r r x has.heard (λ low. absurd (omega (arith, low))) (λ low. absurd (omega (arith, low))));
+  resting = spares_resting r a (with_round a r x) (spared a r r x has.heard (λ low. absurd (omega (arith, low))) (λ low. absurd (omega (arith, low))));
 }
 
 pub Notes-claim_less : (a : AbaView) (r from : ℕ) (vote : Vote) (x : Round) → from < a.config.n → epoch_of vote ≡ a.epoch → IsClaim r vote → HasClaim a r from vote x
@@ -188,8 +188,8 @@ Notes-claim_less a r from vote x inside epoch is has levels = record {
   place = refl;
   known = tt;
   shows = claim_shown a r from vote x inside epoch is has;
-  calm =
-      spares_calm a.config.rounds a (with_round a r x)
+  resting =
+      spares_resting a.config.rounds a (with_round a r x)
       (spared a r a.config.rounds x has.heard (λ low. levels) (λ low. ap (λ (y : Round). y.coin) has.rest));
 }
 
@@ -306,7 +306,7 @@ Notes-share a r from share salt branch x inside has = record {
   place = refl;
   known = has.heard.inside;
   shows = share_shown a r from share salt branch x inside has;
-  calm = spares_calm r a (with_round a r x) (spared a r r x has.heard (λ low. absurd (omega (arith, low))) (λ low. absurd (omega (arith, low))));
+  resting = spares_resting r a (with_round a r x) (spared a r r x has.heard (λ low. absurd (omega (arith, low))) (λ low. absurd (omega (arith, low))));
 }
 
 pub Notes-share_less : (a : AbaView) (r from share : ℕ) (salt : List ℕ) (branch : Branch) (x : Round) → from < a.config.n → HasShare a r (heard_share from share salt branch) x
@@ -316,8 +316,8 @@ Notes-share_less a r from share salt branch x inside has coin = record {
   place = refl;
   known = tt;
   shows = share_shown a r from share salt branch x inside has;
-  calm =
-      spares_calm a.config.rounds a (with_round a r x)
+  resting =
+      spares_resting a.config.rounds a (with_round a r x)
       (spared a r a.config.rounds x has.heard
       (λ low. ap (λ t. levels_of a.config (count_in t) 0) (ap (λ (y : Round). y.tables) has.after ∙ after_tables (round_in a r) (heard_share from share salt branch)))
       (λ low. coin));

@@ -28,11 +28,11 @@ use Rattle.aba_core.specs.Tables.{voters_in, count_in}
 use Rattle.aba_core.specs.Levels.{levels_of}
 use Rattle.aba_core.specs.State.{Place, AbaView, place_of, round_in, mark_round, claim_round, mark_at, view_at, choice_at, slot_round, IsAba}
 use Rattle.aba_core.specs.Standing.{slots_at, Shows}
-use Rattle.aba_core.specs.Rows.{row_at, row_of, needs_confirm, names_of, IsKnown, slots_for, Rests, IsCalm, limits_of, room_of}
+use Rattle.aba_core.specs.Rows.{row_at, row_of, needs_confirm, names_of, IsKnown, slots_for, Rests, RestsBelow, limits_of, room_of}
 use Rattle.aba_core.specs.Passing.{Casts, Adds, Passed, PassedTimes, Settled}
 use Rattle.aba_core.proofs.Casting.{Fills, choice_fills, has-push}
 use Rattle.aba_core.proofs.Names.{slots_are, row_known, resting_idle}
-use Rattle.aba_core.proofs.Resting.{Spares, spares_calm, begin_rests, filled_shown, made_shown, slot_named}
+use Rattle.aba_core.proofs.Resting.{Spares, spares_resting, begin_rests, filled_shown, made_shown, slot_named}
 use Rattle.aba_core.proofs.Rooms.{free-less, limits_inside, limit_known}
 
 -- ---- a vote that is cast
@@ -92,8 +92,8 @@ casts_spare old new name vote casts fills inside = record {
   grows = grown old new vote casts;
 }
 
-less_calm : (a : AbaView) (k m : ℕ) → k ≤ m → IsCalm a m → IsCalm a k
-less_calm a k m le calm name known below = calm name known (omega arith)
+less_resting : (a : AbaView) (k m : ℕ) → k ≤ m → RestsBelow a m → RestsBelow a k
+less_resting a k m le resting name known below = resting name known (omega arith)
 
 fewer_spared : (old new : AbaView) (k m : ℕ) → k ≤ m → Spares m old new → Spares k old new
 fewer_spared old new k m le spares = record {
@@ -143,36 +143,36 @@ pub Passed-append : (from : ℕ) (old mid new : AbaView) (names more : List Agre
 Passed-append from old mid new names more before between after one two = record {
   votes = one.votes ++ two.votes;
   adds = Adds-append old mid new before between after one.votes two.votes one.adds two.adds;
-  calm = λ calm. two.calm (one.calm calm);
-  owed = λ calm own heard shows.
+  resting = λ resting. two.resting (one.resting resting);
+  owed = λ resting own heard shows.
       let p : Place = place_of old in
-      let first : pass (slots_for p names) own heard ≡ one.votes = one.owed calm own heard shows in
+      let first : pass (slots_for p names) own heard ≡ one.votes = one.owed resting own heard shows in
       let second : pass (slots_for p more) (own ++ one.votes) heard ≡ two.votes =
       subst (λ (p : Place). pass (slots_for p more) (own ++ one.votes) heard ≡ two.votes) one.adds.place
-      (two.owed (one.calm calm) (own ++ one.votes) heard (one.adds.shows own heard shows)) in
+      (two.owed (one.resting resting) (own ++ one.votes) heard (one.adds.shows own heard shows)) in
       ap (λ (slots : List (Slot Vote Hearing)). pass slots own heard) (map-append (agreement_slot p.config p.node p.lane p.epoch) names more)
       ∙ pass-append (slots_for p names) (slots_for p more) own heard
       ∙ rw (first, second) refl;
 }
 
 pub Passed-none : (from : ℕ) (a : AbaView) (names : List AgreementSlot) (d : DueView)
-    → (IsCalm a from → AllByRecursion (λ name. IsKnown a.config name × Rests a name) names) → Passed from a a names d d
+    → (RestsBelow a from → AllByRecursion (λ name. IsKnown a.config name × Rests a name) names) → Passed from a a names d d
 Passed-none from a names d rest = record {
   votes = [];
   adds = Adds-none a d;
-  calm = λ calm. calm;
-  owed = λ calm own heard shows. resting_idle a own heard shows names (rest calm);
+  resting = λ resting. resting;
+  owed = λ resting own heard shows. resting_idle a own heard shows names (rest resting);
 }
 
 -- ---- one slot
 
 pub Passed-filled : (from : ℕ) (a : AbaView) (name : AgreementSlot) (d : DueView) → IsKnown a.config name → mark_at a (limit_of name) ≡ true
     → Passed from a a (name ∷ []) d d
-Passed-filled from a name d known filled = Passed-none from a (name ∷ []) d (λ calm. ((known, inl filled), tt))
+Passed-filled from a name d known filled = Passed-none from a (name ∷ []) d (λ resting. ((known, inl filled), tt))
 
 pub Passed-empty : (from : ℕ) (a : AbaView) (name : AgreementSlot) (d : DueView) → IsKnown a.config name → choice_at a name ≡ None
     → Passed from a a (name ∷ []) d d
-Passed-empty from a name d known empty = Passed-none from a (name ∷ []) d (λ calm. ((known, inr empty), tt))
+Passed-empty from a name d known empty = Passed-none from a (name ∷ []) d (λ resting. ((known, inr empty), tt))
 
 owes_one : (slot : Slot Vote Hearing) (own : List Vote) (heard : List Hearing) (vote : Vote) → slot.is_cast own ≡ false → slot.choice own heard ≡ Some vote
     → owes slot own heard ≡ vote ∷ []
@@ -208,8 +208,8 @@ Passed-cast from old new name vote before after known le empty chosen casts due 
         room = rw config less;
         shows = casts_shown old new vote casts;
       };
-      calm = spares_calm from old new (fewer_spared old new from (slot_round name) le (casts_spare old new name vote casts fills (omega (arith, known.round))));
-      owed = λ calm own heard shows.
+      resting = spares_resting from old new (fewer_spared old new from (slot_round name) le (casts_spare old new name vote casts fills (omega (arith, known.round))));
+      owed = λ resting own heard shows.
           ap (λ (votes : List Vote). votes ++ []) (owes_one (slot_named old name) own heard vote
           (sym (filled_shown old own heard shows name known) ∙ empty) (sym (made_shown old own heard shows name known) ∙ chosen));
     }
@@ -255,8 +255,8 @@ pub Passed-before : (from : ℕ) (a : AbaView) (row : Row) (d : DueView) → (ne
     → Passed from a a (each from (row_at a.config row)) d d
 Passed-before from a row d phase inside =
     Passed-none from a (each from (row_at a.config row)) d
-    (λ calm. AllByRecursion-each (λ name. IsKnown a.config name × Rests a name) from (row_at a.config row)
-    (λ r below. row_both a row phase r (omega arith) (λ name known is. calm name known (omega (arith, is)))))
+    (λ resting. AllByRecursion-each (λ name. IsKnown a.config name × Rests a name) from (row_at a.config row)
+    (λ r below. row_both a row phase r (omega arith) (λ name known is. resting name known (omega (arith, is)))))
 
 -- in a round in which nothing is cast no row makes a vote
 unbegun : (a : AbaView) (r : ℕ) → (round_in a r).marks ≡ no_marks → (row : Row) → AllByRecursion (Rests a) (row_at a.config row r)
@@ -327,7 +327,7 @@ Passed-above from old new row before after phase sound place round above inside 
     at r high low =
         subst (λ (c : Numbers). Passed from new new (row_at c row r) after after) config
         (Passed-none from new (row_at new.config row r) after
-        (λ calm. AllByRecursion-both (IsKnown new.config) (Rests new) (λ name. IsKnown new.config name × Rests new name) (row_at new.config row r)
+        (λ resting. AllByRecursion-both (IsKnown new.config) (Rests new) (λ name. IsKnown new.config name × Rests new name) (row_at new.config row r)
         (λ name known rests. (known, rests)) (row_known new.config row phase r low) (unbegun new r (sound.above r high) row)))
 
     more : (k : ℕ) → round + k ≤ old.config.rounds → Passed from old new (each (round + k) (row_at old.config row)) before after
@@ -340,7 +340,7 @@ Passed-above from old new row before after phase sound place round above inside 
 -- ---- all slots, again and again
 
 pub Times-none : (from : ℕ) (a : AbaView) (d : DueView) → PassedTimes from a a d d
-Times-none from a d = record { count = 0; votes = []; adds = Adds-none a d; calm = λ calm. calm; owed = λ calm own heard shows. refl }
+Times-none from a d = record { count = 0; votes = []; adds = Adds-none a d; resting = λ resting. resting; owed = λ resting own heard shows. refl }
 
 passes-more : (slots : List (Slot Vote Hearing)) (k : ℕ) (own : List Vote) (heard : List Hearing)
     → passes (suc k) slots own heard ≡ passes k slots own heard ++ pass slots (own ++ passes k slots own heard) heard
@@ -359,13 +359,13 @@ Times-more from old mid new before between after one two = record {
   count = suc one.count;
   votes = one.votes ++ two.votes;
   adds = Adds-append old mid new before between after one.votes two.votes one.adds two.adds;
-  calm = λ calm. two.calm (one.calm calm);
-  owed = λ calm own heard shows.
+  resting = λ resting. two.resting (one.resting resting);
+  owed = λ resting own heard shows.
       let slots : List (Slot Vote Hearing) = slots_for (place_of old) (names_of old.config) in
-      let first : passes one.count slots own heard ≡ one.votes = one.owed calm own heard shows in
+      let first : passes one.count slots own heard ≡ one.votes = one.owed resting own heard shows in
       let second : pass slots (own ++ one.votes) heard ≡ two.votes =
       subst (λ (p : Place). pass (slots_for p (names_of p.config)) (own ++ one.votes) heard ≡ two.votes) one.adds.place
-      (two.owed (one.calm calm) (own ++ one.votes) heard (one.adds.shows own heard shows)) in
+      (two.owed (one.resting resting) (own ++ one.votes) heard (one.adds.shows own heard shows)) in
       passes-more slots one.count own heard ∙ rw (first, second) refl;
 }
 
@@ -383,25 +383,25 @@ pub Settled-from : (from : ℕ) (old mid new : AbaView) (before between after : 
 Settled-from from old mid new before between after one two same =
     let none : two.votes ≡ [] = no_votes two.votes between.votes after.votes two.adds.due same in
     let place : place_of new ≡ place_of old = two.adds.place ∙ one.adds.place in
-    let rests : IsCalm old from → (own : List Vote) (heard : List Hearing) → Shows old own heard
+    let rests : RestsBelow old from → (own : List Vote) (heard : List Hearing) → Shows old own heard
     → IsIdle (slots_at (place_of old)) (own ++ one.votes) heard =
-    λ calm own heard shows.
+    λ resting own heard shows.
     subst (λ (slots : List (Slot Vote Hearing)). IsIdle slots (own ++ one.votes) heard) (sym (slots_are (place_of old)))
     (subst (λ (p : Place). pass (slots_for p (names_of p.config)) (own ++ one.votes) heard ≡ []) one.adds.place
-    (two.owed (one.calm calm) (own ++ one.votes) heard (one.adds.shows own heard shows) ∙ none)) in
+    (two.owed (one.resting resting) (own ++ one.votes) heard (one.adds.shows own heard shows) ∙ none)) in
     record {
       votes = one.votes;
       place = place;
       due = two.adds.due ∙ ap (λ (vs : List Vote). between.votes ++ vs) none ∙ append-nil between.votes ∙ one.adds.due;
-      owed = λ calm own heard shows. record {
+      owed = λ resting own heard shows. record {
         count = one.count;
         gives =
             subst (λ (slots : List (Slot Vote Hearing)). passes one.count slots own heard ≡ one.votes) (sym (slots_are (place_of old)))
-            (one.owed calm own heard shows);
-        rests = rests calm own heard shows;
+            (one.owed resting own heard shows);
+        rests = rests resting own heard shows;
       };
-      stands = λ calm own heard shows. record {
-        idle = subst (λ (p : Place). IsIdle (slots_at p) (own ++ one.votes) heard) (sym place) (rests calm own heard shows);
+      stands = λ resting own heard shows. record {
+        idle = subst (λ (p : Place). IsIdle (slots_at p) (own ++ one.votes) heard) (sym place) (rests resting own heard shows);
         shows =
             subst (λ (vs : List Vote). Shows new vs heard) (ap (λ (vs : List Vote). (own ++ one.votes) ++ vs) none ∙ append-nil (own ++ one.votes))
             (two.adds.shows (own ++ one.votes) heard (one.adds.shows own heard shows));

@@ -16,7 +16,7 @@ use Rattle.hb_rules.proofs.Passing.{IsSettledAt, settled_if_cast, settled_if_non
 use Rattle.aba_core.specs.Tables.{count_in}
 use Rattle.aba_core.specs.State.{Place, AbaView, place_of, round_in, mark_round, claim_round, mark_at, voters_at, view_at, choice_at, slot_round}
 use Rattle.aba_core.specs.Standing.{Shows}
-use Rattle.aba_core.specs.Rows.{IsKnown, Rests, IsCalm}
+use Rattle.aba_core.specs.Rows.{IsKnown, Rests, RestsBelow}
 use Rattle.aba_core.proofs.Alike.{StartAlike, AreAlike, is_next, is_begin, choice_alike, next_choice_alike, next_rests}
 
 -- ---- from one state to another
@@ -64,11 +64,11 @@ rests_spared k old new spares (Begin b) known below rests = spares.begin b below
 rests_spared k old new spares name known below rests =
     rests_by old new name (spares.grows (limit_of name) known.limit) (choice_spared k old new spares name refl below known.round) rests
 
-pub spares_calm : (k : ℕ) (old new : AbaView) → Spares k old new → IsCalm old k → IsCalm new k
-spares_calm k old new spares calm name known below =
+pub spares_resting : (k : ℕ) (old new : AbaView) → Spares k old new → RestsBelow old k → RestsBelow new k
+spares_resting k old new spares resting name known below =
     let same : new.config ≡ old.config = ap (λ (p : Place). p.config) spares.place in
     let was : IsKnown old.config name = rw same at known in
-    rests_spared k old new spares name was below (calm name was below)
+    rests_spared k old new spares name was below (resting name was below)
 
 -- the slots of the first estimate rest as before where what they look at is the same
 pub begin_rests : (old new : AbaView) → place_of new ≡ place_of old → StartAlike (view_at old) (view_at new)

@@ -8,7 +8,7 @@ use Rattle.hb_rules.specs.Room.{DueView}
 use Rattle.hb_rules.specs.Slots.{pass, passes, IsOwed}
 use Rattle.aba_core.specs.State.{AbaView, place_of, round_in, mark_round, mark_at}
 use Rattle.aba_core.specs.Standing.{slots_at, Shows, Stands}
-use Rattle.aba_core.specs.Rows.{names_of, slots_for, IsCalm, room_of}
+use Rattle.aba_core.specs.Rows.{names_of, slots_for, RestsBelow, room_of}
 
 -- a vote is marked, and nothing else changes
 pub record Casts (old new : AbaView) (vote : Vote) : Type 0 where
@@ -23,7 +23,7 @@ pub record Notes (old new : AbaView) (h : Hearing) (round : Option ℕ) : Type 0
   pub place : place_of new ≡ place_of old
   pub known : IfSome round (λ r. r < old.config.rounds)
   pub shows : (own : List Vote) (heard : List Hearing) → Shows old own heard → Shows new own (heard ++ h ∷ [])
-  pub calm : IsCalm old (unwrap_or round old.config.rounds) → IsCalm new (unwrap_or round old.config.rounds)
+  pub resting : RestsBelow old (unwrap_or round old.config.rounds) → RestsBelow new (unwrap_or round old.config.rounds)
 
 -- Votes are cast, for which there is room, and fill as many limits.
 pub record Adds (old new : AbaView) (before after : DueView) (votes : List Vote) : Type 0 where
@@ -37,16 +37,16 @@ pub record Adds (old new : AbaView) (before after : DueView) (votes : List Vote)
 pub record Passed (from : ℕ) (old new : AbaView) (names : List AgreementSlot) (before after : DueView) : Type 0 where
   pub votes : List Vote
   pub adds : Adds old new before after votes
-  pub calm : IsCalm old from → IsCalm new from
-  pub owed : IsCalm old from → (own : List Vote) (heard : List Hearing) → Shows old own heard → pass (slots_for (place_of old) names) own heard ≡ votes
+  pub resting : RestsBelow old from → RestsBelow new from
+  pub owed : RestsBelow old from → (own : List Vote) (heard : List Hearing) → Shows old own heard → pass (slots_for (place_of old) names) own heard ≡ votes
 
 -- all slots are gone through some times
 pub record PassedTimes (from : ℕ) (old new : AbaView) (before after : DueView) : Type 0 where
   pub count : ℕ
   pub votes : List Vote
   pub adds : Adds old new before after votes
-  pub calm : IsCalm old from → IsCalm new from
-  pub owed : IsCalm old from → (own : List Vote) (heard : List Hearing) → Shows old own heard
+  pub resting : RestsBelow old from → RestsBelow new from
+  pub owed : RestsBelow old from → (own : List Vote) (heard : List Hearing) → Shows old own heard
       → passes count (slots_for (place_of old) (names_of old.config)) own heard ≡ votes
 
 -- all that is owed is cast
@@ -54,5 +54,5 @@ pub record Settled (from : ℕ) (old new : AbaView) (before after : DueView) : T
   pub votes : List Vote
   pub place : place_of new ≡ place_of old
   pub due : after.votes ≡ before.votes ++ votes
-  pub owed : IsCalm old from → (own : List Vote) (heard : List Hearing) → Shows old own heard → IsOwed (slots_at (place_of old)) own heard votes
-  pub stands : IsCalm old from → (own : List Vote) (heard : List Hearing) → Shows old own heard → Stands new (own ++ votes) heard
+  pub owed : RestsBelow old from → (own : List Vote) (heard : List Hearing) → Shows old own heard → IsOwed (slots_at (place_of old)) own heard votes
+  pub stands : RestsBelow old from → (own : List Vote) (heard : List Hearing) → Shows old own heard → Stands new (own ++ votes) heard

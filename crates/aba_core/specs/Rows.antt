@@ -71,8 +71,8 @@ abbrev pub Rests : AbaView → AgreementSlot → Type 0
 Rests a name = (mark_at a (limit_of name) ≡ true) ⊎ (choice_at a name ≡ None)
 
 -- all slots of the rounds before this one rest
-abbrev pub IsCalm : AbaView → ℕ → Type 0
-IsCalm a from = (name : AgreementSlot) → IsKnown a.config name → slot_round name < from → Rests a name
+abbrev pub RestsBelow : AbaView → ℕ → Type 0
+RestsBelow a from = (name : AgreementSlot) → IsKnown a.config name → slot_round name < from → Rests a name
 
 -- ---- room
 

@@ -134,7 +134,7 @@ impl Aba {
         ensures room { 7 * (place_of self.old).config.rounds + 1 ≤ due.old.spare → IsOk result }
     {
         due.reserve(self.room())?;
-        match self.note(from, vote) {
+        match self.noted(from, vote) {
             Some(round) => {
                 self.settle(round, due);
                 Ok(())

@@ -1,9 +1,11 @@
-ghost use Rattle.std.specs.Prelude.{◌≡◌, ◌<◌};
+ghost use Rattle.std.specs.Prelude.{◌≡◌, ◌<◌, ◌++◌, ◌∷◌, [], List};
+ghost use Rattle.hb_wire.specs.declared.vote.Vote.{Vote};
 ghost use Rattle.hb_wire.specs.declared.vote.Vote.TheVariants.{NoMore, Coin};
 ghost use Rattle.hb_wire.specs.Votes.{epoch_of};
-ghost use Rattle.hb_rules.specs.Hearing.{hearing, round_of};
+ghost use Rattle.hb_rules.specs.Hearing.{Hearing, hearing, round_of};
 ghost use Rattle.hb_rules.specs.Marks.{any_est};
-ghost use Rattle.aba_core.specs.State.{mark_at};
+ghost use Rattle.aba_core.specs.State.{mark_at, place_of};
+ghost use Rattle.aba_core.specs.Standing.{Shows};
 ghost use Rattle.aba_core.specs.Passing.{Casts, Notes};
 ghost use Rattle.aba_core.specs.Noting.{IsOfRound, IsOf, IsClaim};
 
@@ -52,9 +54,19 @@ impl Aba {
         self.top = self.top.max(round + 1);
     }
 
-    /// Takes in a vote that node `from` has cast, and casts nothing: the round in which a row may come to owe something by
-    /// it, if there is one. The state may then stand for votes that leave something owed, which `is_idle` tells.
-    pub fn note(&mut self, from: u8, vote: &Vote) -> Option<u8>
+    /// Takes in a vote that node `from` has cast, and casts nothing. The state may then have votes that it owes, which
+    /// `is_idle` tells.
+    pub fn note(&mut self, from: u8, vote: &Vote)
+        requires { from < (place_of self.old).config.n }
+        ensures place { place_of self.new ≡ place_of self.old }
+        ensures shows { (own : List Vote) (heard : List Hearing) → Shows self.old own heard
+            → Shows self.new own (heard ++ hearing from vote.now ∷ []) }
+    {
+        let _round = self.noted(from, vote);
+    }
+
+    // Takes in a vote, and casts nothing: the round in which a row may come to owe something by it, if there is one.
+    pub(crate) fn noted(&mut self, from: u8, vote: &Vote) -> Option<u8>
         requires { from < self.old.config.n }
         ensures { Notes self.old self.new (hearing from vote.now) result }
     {

@@ -15,9 +15,9 @@ delivers_to_all report calm = record {
   all = λ j e i m value correct here delivered.
       let c = report.config in
       let posts = report.history.items in
-      let lane = delivery_lane c i j e value correct.honest posts calm.legal delivered in
+      let lane = delivery_lane c i j e value correct.honest posts calm.lossless.legal delivered in
       total c j posts (is_running report) (heard_at report j) (lane_quiet report j calm lane) e
-      (delivery_within c posts i j e value calm.legal correct.honest delivered) i value correct delivered m here;
+      (delivery_within c posts i j e value calm.lossless.legal correct.honest delivered) i value correct delivered m here;
 }
 
 pub senders_are_delivered : (report : Report) → IsCalm report → SendersAreDelivered report

@@ -9,3 +9,4 @@ pub mod Reading
 pub mod Receiving
 pub mod Naming
 pub mod Quietness
+pub mod Finished

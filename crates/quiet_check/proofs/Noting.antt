@@ -1,5 +1,5 @@
 -- An agreement that has taken in all that was heard.
-use Rattle.std.proofs.Common.{◌≡◌, ◌↔◌, ℕ, ◌<◌, Bool, true, false, List, [], ◌∷◌, ◌++◌, Option, Result, Ok, Err, IfOk, nat_lt, refl, sym, ◌∙◌, subst, append-nil}
+use Rattle.std.proofs.Common.{◌≡◌, ◌↔◌, ◌<◌, Bool, true, false, List, [], ◌∷◌, ◌++◌, Result, Ok, Err, IfOk, nat_lt, refl, sym, ◌∙◌, subst, append-nil}
 use Rattle.std.specs.List.{filter}
 use Rattle.std.proofs.lemmas.List.Elements.{filter-append}
 use Rattle.hb_wire.specs.declared.vote.Vote.{Vote}
@@ -7,7 +7,6 @@ use Rattle.hb_rules.specs.Hearing.{Hearing}
 use Rattle.hb_rules.specs.Slots.{IsIdle}
 use Rattle.aba_core.specs.State.{Place, AbaView, place_of}
 use Rattle.aba_core.specs.Standing.{slots_at, Shows}
-use Rattle.aba_core.specs.Passing.{Notes}
 use Rattle.quiet_check.specs.Inside.{is_inside}
 use Rattle.quiet_check.proofs.Outside.{agreement_inside}
 
@@ -16,13 +15,18 @@ pub record HasNoted (a : AbaView) (p : Place) (own : List Vote) (heard : List He
   pub place : place_of a ≡ p
   pub shows : Shows a own (filter (is_inside p.config.n) heard)
 
-pub noted_inside : (old new : AbaView) (p : Place) (own : List Vote) (heard : List Hearing) (h : Hearing) (round : Option ℕ) → HasNoted old p own heard
-    → nat_lt h.from p.config.n ≡ true → Notes old new h round → HasNoted new p own (heard ++ h ∷ [])
-noted_inside old new p own heard h round noted inside notes = record {
-  place = notes.place ∙ noted.place;
+-- a vote of a node of the run was taken in
+pub record TakesIn (old new : AbaView) (h : Hearing) : Type 0 where
+  pub place : place_of new ≡ place_of old
+  pub shows : (own : List Vote) (heard : List Hearing) → Shows old own heard → Shows new own (heard ++ h ∷ [])
+
+pub noted_inside : (old new : AbaView) (p : Place) (own : List Vote) (heard : List Hearing) (h : Hearing) → HasNoted old p own heard
+    → nat_lt h.from p.config.n ≡ true → TakesIn old new h → HasNoted new p own (heard ++ h ∷ [])
+noted_inside old new p own heard h noted inside takes = record {
+  place = takes.place ∙ noted.place;
   shows =
       subst (Shows new own) (sym (filter-append (is_inside p.config.n) heard (h ∷ []) ∙ rw inside refl))
-      (notes.shows own (filter (is_inside p.config.n) heard) noted.shows);
+      (takes.shows own (filter (is_inside p.config.n) heard) noted.shows);
 }
 
 pub noted_outside : (a : AbaView) (p : Place) (own : List Vote) (heard : List Hearing) (h : Hearing) → HasNoted a p own heard

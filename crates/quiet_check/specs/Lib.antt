@@ -3,3 +3,4 @@ pub mod Lanes
 pub mod Desks
 pub mod Receipts
 pub mod Ends
+pub mod Finished

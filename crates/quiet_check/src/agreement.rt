@@ -37,7 +37,7 @@ pub(crate) fn is_agreement_idle(
     )?;
     for said in heard {
         if said.from < n {
-            let _round = aba.note(said.from, &said.vote);
+            aba.note(said.from, &said.vote);
         }
     }
     aba.is_idle(alloc)

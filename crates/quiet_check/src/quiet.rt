@@ -1,10 +1,12 @@
-ghost use Rattle.std.specs.Prelude.{◌≡◌, ◌<◌, ◌≤◌, ◌↔◌, map, IsTrue, IfOk};
+ghost use Rattle.std.specs.Prelude.{◌≡◌, ◌<◌, ◌≤◌, ◌↔◌, true, map, IsTrue, IfOk};
 ghost use Rattle.hb_rules.specs.Hearing.{heard_of};
 ghost use Rattle.hb_rules.specs.Owing.{slots_of};
 ghost use Rattle.hb_rules.specs.Report.{submitted_at, cast_by, IsSettled, IsQuiet};
 ghost use Rattle.hb_rules.specs.Slots.{IsIdle};
 ghost use Rattle.quiet_check.specs.Receipts.{AreReceived, is_sent};
+ghost use Rattle.quiet_lanes.specs.Calm.{IsLossless};
 ghost use Rattle.quiet_check.specs.Ends.{IsEndQuiet};
+ghost use Rattle.quiet_check.specs.Finished.{IsFinished};
 
 use crate::desks::is_desk_idle;
 use crate::ends::are_actors;
@@ -19,10 +21,15 @@ use std::alloc::{AllocError, Global};
 /// received only what comes to it, and if it works has received all that it has to and owes nothing. It answers exactly for
 /// any report, legal or not. Err where there was no memory.
 ///
+/// A quiet run whose running nodes lost nothing is calm. All that calm runs come to holds of it: what a correct node delivered,
+/// all running nodes did, and what a running node proposed; where all have begun an agreement, all decided or one spent its
+/// rounds; and all closed every epoch, or one spent its rounds (CCS 2016, sections 4.2 to 4.4).
+///
 /// It goes through the actors one after the other: for each through the history once, and through what it received, each time
 /// reading the bytes of its own posts and of those that it received. So for each node time is near linear in the history.
 pub fn is_quiet(alloc: Global, report: &Report) -> Result<bool, AllocError>
     ensures exact { IfOk result (λ answer. IsTrue answer ↔ IsQuiet report.now) }
+    ensures calm { IfOk result (λ answer. answer ≡ true → IsLossless report.now → IsFinished report.now) }
 {
     let all = are_actors(alloc, &report.config, report.ends.as_slice())?;
     if !all {

@@ -62,7 +62,7 @@ received_there report i j k post h calm lane here there stands heard =
       post = post;
       stands = stands;
       comes = and_from (reaches c.n post i j) (not (is_drop (shape_of report.script.links.items post.from i k))) heard.reached
-          (not_from_false (is_drop (shape_of report.script.links.items post.from i k)) (calm.whole i k post here there stands));
+          (not_from_false (is_drop (shape_of report.script.links.items post.from i k)) (calm.lossless.whole i k post here there stands));
       sent = or_right (is_in c.liars post.from) (works report.ends.items post.from post.actor)
           (running_works report post.from post.actor there (poster_few c.n post.to post.from post.actor i j lane heard.reached));
     }
@@ -124,11 +124,11 @@ idle_there report j i calm lane here =
 pub lane_quiet : (report : Report) (j : ℕ) → IsCalm report → j < report.config.n
     → IsQuietLane report.config j report.history.items (is_running report) (heard_at report j)
 lane_quiet report j calm lane = record {
-  sound = calm.sound;
-  legal = calm.legal;
-  apart = calm.apart;
+  sound = calm.lossless.sound;
+  legal = calm.lossless.legal;
+  apart = calm.lossless.apart;
   lane = lane;
-  many = calm.many;
+  many = calm.lossless.many;
   correct = running_correct report;
   posted = λ i h here stands. (got_heard (terms_of report.config [] i j) report.history.items (received_by report i j)).each h stands;
   hears = λ i h here there stands. hears_there report j i h calm lane here there stands;

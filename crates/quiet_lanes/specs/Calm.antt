@@ -9,13 +9,17 @@ use Rattle.hb_rules.specs.History.{IsLegal}
 use Rattle.hb_rules.specs.Report.{is_drop, is_running, IsQuiet}
 use Rattle.hb_rules.specs.Strings.{NoCollision}
 
--- The report of a calm run. Its history is legal, no two hashed strings share a digest, and nothing is left to do. At least
--- n - f nodes run, and no post of one of them is dropped on its way to another.
-pub record IsCalm (report : Report) : Type 0 where
+-- The report of a run whose running nodes lose nothing of one another's posts. Its history is legal, and no two hashed strings
+-- share a digest. At least n - f nodes run, and no post of one of them is dropped on its way to another.
+pub record IsLossless (report : Report) : Type 0 where
   pub sound : AreSound report.config
   pub legal : IsLegal report.config report.history.items
   pub apart : NoCollision report.config report.history.items
-  pub quiet : IsQuiet report
   pub many : report.config.n - report.config.f ≤ count_nodes report.config.n (is_running report)
   pub whole : (i k : ℕ) (post : Post) → is_running report i ≡ true → is_running report post.from ≡ true
       → slice_get report.history.items k ≡ Some post → is_drop (shape_of report.script.links.items post.from i k) ≡ false
+
+-- the report of a calm run: its running nodes lose nothing, and nothing is left to do
+pub record IsCalm (report : Report) : Type 0 where
+  pub lossless : IsLossless report
+  pub quiet : IsQuiet report

@@ -98,7 +98,7 @@ closes report e calm below opened = elim (all_lanes report e calm below opened) 
       let desk = desk_of report i runs in
       closed_now report.config (submitted_at report.script i) (cast_by report i report.config.n) (heard_at_desk report i desk)
       (desk_idle report i calm.quiet desk) e below (opened i runs)
-      (λ j inside. knows report i e j calm.legal calm.quiet runs desk below inside
+      (λ j inside. knows report i e j calm.lossless.legal calm.quiet runs desk below inside
       (finished report i j e calm inside runs (decided j inside refl))))
   | inr spent ↦ inr spent
 ]

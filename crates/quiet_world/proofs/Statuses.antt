@@ -125,12 +125,14 @@ many_run report sound runs =
 calm_of : (report : Report) → AreSound report.config → IsLegal report.config report.history.items → NoCollision report.config report.history.items
     → IsQuiet report → StaysWithinPlan report → IsSpared report → list_any (lacks_memory report) report.ends.items ≡ false → IsCalm report
 calm_of report sound legal apart quiet within spared memory = record {
-  sound = sound;
-  legal = legal;
-  apart = apart;
+  lossless = record {
+    sound = sound;
+    legal = legal;
+    apart = apart;
+    many = many_run report sound (λ i correct. correct_runs report i quiet (runs_on report quiet within spared memory) correct);
+    whole = λ i k post runs run stands. kept report post.from i k spared (running_correct report post.from run).honest;
+  };
   quiet = quiet;
-  many = many_run report sound (λ i correct. correct_runs report i quiet (runs_on report quiet within spared memory) correct);
-  whole = λ i k post runs run stands. kept report post.from i k spared (running_correct report post.from run).honest;
 }
 
 -- ---- the status
@@ -139,12 +141,12 @@ all_closed : (report : Report) → IsCalm report → HasEachClosed report → ha
 all_closed report calm closed =
     and_from (list_any (is_running report) (range_with_len 0 report.config.n))
     (list_all (λ i. not (is_running report i) || has_closed_last report i) (range_with_len 0 report.config.n))
-    (let some = member_from_count report.config.n (is_running report) (omega (arith, calm.many, calm.sound.enough)) in
+    (let some = member_from_count report.config.n (is_running report) (omega (arith, calm.lossless.many, calm.lossless.sound.enough)) in
     list_any-from (is_running report) (range_with_len 0 report.config.n) some.0 (in_range report.config.n some.0 some.1) some.2)
     (all_pass (λ i. not (is_running report i) || has_closed_last report i) (range_with_len 0 report.config.n) (λ i stands. each i (is_running report i) refl))
   where
     each : (i : ℕ) (b : Bool) → is_running report i ≡ b → (not b || has_closed_last report i) ≡ true
-    each i true runs = closed i (report.config.epochs - 1) runs (omega (arith, calm.sound.epochs.0))
+    each i true runs = closed i (report.config.epochs - 1) runs (omega (arith, calm.lossless.sound.epochs.0))
     each i false runs = refl
 
 -- a lane that has spent its rounds in an epoch is stuck

@@ -62,9 +62,9 @@ all_decide report j e calm inside below begun = elim ((all_end report calm).each
 pub one_delivered : (report : Report) (j e k i : ℕ) → IsCalm report → j < report.config.n → IsCorrect report.config k
     → is_running report i ≡ true → Contains (cast_by report k j) (Decided e true) → list_any (is_any_delivery e) (cast_by report i j) ≡ true
 one_delivered report j e k i calm inside correct runs decided =
-    let began = (decisions_begun report.config report.history.items calm.sound calm.legal).begun j e k true inside correct decided in
+    let began = (decisions_begun report.config report.history.items calm.lossless.sound calm.lossless.legal).begun j e k true inside correct decided in
     let said : list_any (is_any_delivery e) (cast_by report began.node j) ≡ true =
-    (beginnings_backed report.config report.history.items calm.legal).delivered j e began.node began.correct began.cast in
+    (beginnings_backed report.config report.history.items calm.lossless.legal).delivered j e began.node began.correct began.cast in
     let value = delivery_cast e (cast_by report began.node j) said in
     list_any-from (is_any_delivery e) (cast_by report i j) (Delivered e value.0)
     ((delivers_to_all report calm).all j e began.node i value.0 began.correct runs value.1) (delivery-marked e value.0)
@@ -73,7 +73,7 @@ one_delivered report j e k i calm inside correct runs decided =
 same_decision : (report : Report) (j e i k : ℕ) (bit other : Bool) → IsCalm report → j < report.config.n → IsCorrect report.config i
     → IsCorrect report.config k → Contains (cast_by report i j) (Decided e bit) → Contains (cast_by report k j) (Decided e other) → bit ≡ other
 same_decision report j e i k bit other calm inside correct also first second =
-    (decisions_agree report.config report.history.items calm.sound calm.legal calm.apart).one j e i k bit other inside correct
+    (decisions_agree report.config report.history.items calm.lossless.sound calm.lossless.legal calm.lossless.apart).one j e i k bit other inside correct
     also first second
 
 -- so every running node has decided 1
@@ -97,7 +97,7 @@ knows_exactly : (report : Report) (i e j : ℕ) (bit : Bool) → IsCalm report �
     → (desk : IsAtWork report.ends.items i report.config.n) → e < report.config.epochs → j < report.config.n
     → Contains (cast_by report i j) (Decided e bit) → decision_of e (heard_at_desk report i desk) j ≡ Some bit
 knows_exactly report i e j bit calm runs desk below inside cast =
-    let first = knows_decision report i e j bit calm.legal calm.quiet runs desk below inside cast in
+    let first = knows_decision report i e j bit calm.lossless.legal calm.quiet runs desk below inside cast in
     let correct = running_correct report i runs in
     let same : first.0 ≡ bit =
     same_decision report j e i i first.0 bit calm inside correct correct (known_cast report i e j first.0 desk first.1) cast in
@@ -121,10 +121,10 @@ knows_enough : (report : Report) (i e j : ℕ) → IsCalm report → (desk : IsA
 knows_enough report i e j calm desk inside below runs decided =
     let c : Numbers = report.config in
     let history : List Post = report.history.items in
-    let began = (decisions_begun c history calm.sound calm.legal).begun j e i false inside (running_correct report i runs) decided in
+    let began = (decisions_begun c history calm.lossless.sound calm.lossless.legal).begun j e i false inside (running_correct report i runs) decided in
     let unwanted : Contains (cast_by report began.node c.n) (NoMore e) =
-    (beginnings_backed c history calm.legal).unwanted j e began.node began.correct began.cast in
-    let enough = was_enough c history began.node e calm.legal began.correct.honest unwanted in
+    (beginnings_backed c history calm.lossless.legal).unwanted j e began.node began.correct began.cast in
+    let enough = was_enough c history began.node e calm.lossless.legal began.correct.honest unwanted in
     let accepts : ℕ → Bool = λ m. is_bit true (decision_of e (heard_at_desk report i desk) m) in
     elim (each_or c.n enough.votes (λ m. accepts m ≡ true) (HasSpentSome report)
     (λ m within votes. knows_one report m e began.node i calm desk within below began.correct runs (enough.each m votes))) [
@@ -157,7 +157,7 @@ turns report i e calm runs below decided =
       | inl wants ↦ inl wants
       | inr few ↦
           let left = correct_member report.config.n (ones report.config e (heard_at_desk report i desk)) accepts (is_running report) (omega arith)
-          (omega (arith, few, calm.many)) in
+          (omega (arith, few, calm.lossless.many)) in
           let cast = decided_nought report i e left.0 calm runs desk below left.1 (decided left.0 left.2) left.3 in
           elim (knows_enough report i e left.0 calm desk left.1 below runs cast) [
             | inl many ↦ absurd (omega (arith, few, many))

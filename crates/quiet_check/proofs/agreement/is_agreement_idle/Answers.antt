@@ -22,8 +22,9 @@ loop-said-preserved c =
     (elim c.if-said-n.branch [
       | then-said-n w ↦
           subst (λ (a : AbaView). HasNoted a p c.args.own.now (before ++ h ∷ [])) (sym w.aba-is)
-          (noted_inside c.loop-said.aba w.note-round.new.self p c.args.own.now before h w.note-round.result c.loop-said.invariant
-          (lt-ltb c.said.inside.from c.args.place.now.config.n (omega (arith, w.if-said-n.true, c.n-n.ensures.value))) w.note-round.ensures)
+          (noted_inside c.loop-said.aba w.note.new.self p c.args.own.now before h c.loop-said.invariant
+          (lt-ltb c.said.inside.from c.args.place.now.config.n (omega (arith, w.if-said-n.true, c.n-n.ensures.value)))
+          (record { place = w.note.ensures.place; shows = w.note.ensures.shows }))
       | else-said-n w ↦
           subst (λ (a : AbaView). HasNoted a p c.args.own.now (before ++ h ∷ [])) (sym w.aba-is)
           (noted_outside c.loop-said.aba p c.args.own.now before h c.loop-said.invariant

@@ -9,7 +9,7 @@ pub returns-then-from-gt0-clause-passed : goal.returns-then-from-gt0-clause-pass
 returns-then-from-gt0-clause-passed c =
     rw (← c.self.view_is) (let known = begin_known c.self.inside.config (omega (arith, c.rounds-rounds.ensures.bounds.0, c.rounds-rounds.ensures.value)) in
     Passed-none c.args.from _ begin_slots c.args.due.now
-    (λ calm. ((known.0, calm (Begin true) known.0 c.if-from-gt0.true), ((known.1.0, calm (Begin false) known.1.0 c.if-from-gt0.true), tt))))
+    (λ resting. ((known.0, resting (Begin true) known.0 c.if-from-gt0.true), ((known.1.0, resting (Begin false) known.1.0 c.if-from-gt0.true), tt))))
 
 pub offer-requires-2-clause-known : goal.offer-requires-2-clause-known
 offer-requires-2-clause-known c =

@@ -10,4 +10,4 @@ pub returns-then-round-rounds-clause-passed : goal.returns-then-round-rounds-cla
 returns-then-round-rounds-clause-passed c from le =
     let past : nat_lt (c.args.round + 1) c.args.self.now.config.rounds ≡ false =
     le-ltb (c.args.round + 1) c.args.self.now.config.rounds (rw (← c.self.view_is) (omega (arith, c.if-round-rounds.true, c.rounds-rounds.ensures.value))) in
-    rw past (Passed-none from c.args.self.now [] c.args.due.now (λ calm. tt))
+    rw past (Passed-none from c.args.self.now [] c.args.due.now (λ resting. tt))

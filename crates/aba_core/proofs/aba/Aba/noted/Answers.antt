@@ -1,6 +1,6 @@
 use Rattle.std.proofs.Common.{◌∙◌}
 use Rattle.aba_core.proofs.Notes.{Notes-foreign, Notes-other, other_vote}
-use Rattle.aba_core.proofs.aba.Aba.note.Goals as goal
+use Rattle.aba_core.proofs.aba.Aba.noted.Goals as goal
 
 pub returns-then-epoch-self : goal.returns-then-epoch-self
 returns-then-epoch-self c =
