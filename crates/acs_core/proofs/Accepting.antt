@@ -5,7 +5,7 @@ use Rattle.std.proofs.lemmas.Bool.{cases_lt}
 use Rattle.hb_wire.specs.declared.items.Item.{Item}
 use Rattle.hb_wire.specs.declared.vote.Vote.{Vote}
 use Rattle.hb_wire.specs.declared.vote.Vote.TheVariants.{Closed}
-use Rattle.hb_rules.specs.DeskRows.{items_of, decision_of, delivery_of, accepted_below}
+use Rattle.hb_rules.specs.DeskRows.{items_of, accepted_below}
 use Rattle.hb_rules.specs.Hearing.{Hearing}
 use Rattle.acs_core.specs.declared.shown.Shown.{Shown}
 use Rattle.acs_core.specs.Shown.{shown_at, accepted_of}

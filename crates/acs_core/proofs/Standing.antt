@@ -1,10 +1,10 @@
 -- What a common subset's state stands for after one more hearing.
-use Rattle.std.proofs.Common.{◌≡◌, ℕ, zero, suc, ◌+◌, ◌-◌, ◌<◌, Bool, true, false, not, ◌&&◌, ◌||◌, ◌==◌, nat_le, List, [], ◌∷◌, ◌++◌, length, set, Option, None, Some, if◌then◌else◌, refl, sym, ap, ap₂, ◌∙◌, subst, append-nil, replicate, arith}
+use Rattle.std.proofs.Common.{◌≡◌, ℕ, zero, suc, ◌+◌, ◌-◌, ◌<◌, Bool, true, false, not, ◌&&◌, ◌||◌, ◌==◌, nat_le, List, [], ◌∷◌, ◌++◌, length, set, Option, None, if◌then◌else◌, refl, sym, ap, ap₂, ◌∙◌, subst, append-nil, replicate, arith}
 use Rattle.std.proofs.lemmas.List.{get_or-replicate}
 use Rattle.std.specs.List.{list_any, filter}
 use Rattle.std.specs.Prelude.{Result, Ok, Err, OnOk}
 use Rattle.std.specs.Option.{option_or, option_to_list}
-use Rattle.std.proofs.lemmas.Bool.{eqb-true, eq-eqb, both_ways}
+use Rattle.std.proofs.lemmas.Bool.{eq-eqb}
 use Rattle.std.proofs.lemmas.List.Folds.{list_any-append}
 use Rattle.hb_base.specs.Counting.{count_nodes}
 use Rattle.hb_base.specs.Numbers.{Numbers}
@@ -14,7 +14,7 @@ use Rattle.hb_wire.specs.Votes.{epoch_of}
 use Rattle.hb_rules.specs.Claims.{decided, delivered, is_bit, is_no_more}
 use Rattle.hb_rules.specs.DeskRows.{claimed_by, decision_of, delivery_of, no_more_slot}
 use Rattle.hb_rules.specs.Hearing.{Hearing, hearing}
-use Rattle.hb_rules.specs.Slots.{Slot, pass, owes, first_of, when, IsIdle, IsOwed}
+use Rattle.hb_rules.specs.Slots.{Slot, pass, first_of, when, IsIdle, IsOwed}
 use Rattle.hb_rules.specs.Turns.{IsPlain}
 use Rattle.hb_rules.proofs.Lists.{some_if, first_within}
 use Rattle.hb_rules.proofs.Passing.{pass-rests, IsOwed-pass}

@@ -1,5 +1,5 @@
 -- What the state of a common subset stands for: the votes that its desk has cast and those that it has heard.
-use Rattle.std.specs.Prelude.{◌≡◌, ℕ, ◌-◌, ◌<◌, Bool, not, ◌&&◌, true, ◌==◌, nat_le, List, [], ◌∷◌, ◌++◌, Option, replicate}
+use Rattle.std.specs.Prelude.{◌≡◌, ℕ, ◌-◌, ◌<◌, Bool, not, ◌&&◌, true, ◌==◌, nat_le, List, [], ◌∷◌, ◌++◌, replicate}
 use Rattle.std.specs.List.{list_any}
 use Rattle.std.specs.Option.{option_or, option_to_list}
 use Rattle.hb_base.specs.Counting.{count_nodes}

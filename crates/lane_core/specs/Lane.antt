@@ -7,7 +7,6 @@ use Rattle.hb_rules.specs.Slots.{Slot, IsIdle, IsOwed}
 use Rattle.hb_rules.specs.Owing.{lane_slots}
 use Rattle.hb_rules.specs.Terms.{Terms, terms_of}
 use Rattle.lane_core.specs.declared.cores.Cores.{Cores}
-use Rattle.hb_wire.specs.Votes.{epoch_of}
 use Rattle.lane_core.specs.Cores.{AreAt, StandsAt, HearsInEpoch, IsNodeOf, agreement_room}
 
 -- whose lane it is, of which run, and what it has of each epoch

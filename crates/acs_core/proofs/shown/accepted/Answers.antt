@@ -1,4 +1,4 @@
-use Rattle.std.proofs.Common.{◌≡◌, ℕ, Bool, ◌++◌, List, length, Option, Some, None, if◌then◌else◌, sym, ap, ◌∙◌, arith}
+use Rattle.std.proofs.Common.{◌≡◌, ℕ, Bool, ◌++◌, List, length, Some, None, if◌then◌else◌, sym, ap, ◌∙◌, arith}
 use Rattle.std.specs.Option.{option_map, option_and_then}
 use Rattle.hb_wire.specs.declared.items.Item.{Item}
 use Rattle.hb_rules.specs.DeskRows.{items_of}

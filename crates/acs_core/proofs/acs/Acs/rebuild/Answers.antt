@@ -1,4 +1,4 @@
-use Rattle.std.proofs.Common.{◌≡◌, ℕ, ap, ◌∙◌, replicate, arith}
+use Rattle.std.proofs.Common.{ℕ, ap, ◌∙◌, replicate, arith}
 use Rattle.acs_core.specs.Shown.{nothing}
 use Rattle.acs_core.proofs.Standing.{Stands-fresh, fresh_is}
 use Rattle.acs_core.proofs.acs.Acs.rebuild.Goals as goal
