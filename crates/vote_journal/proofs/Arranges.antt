@@ -1,16 +1,16 @@
 -- What a disk says while its halves are arranged, and once they are.
 use Rattle.std.proofs.Common.{◌≡◌, ◌&&◌, inl, inr, ⊎_elim, ℕ, Bool, true, false, cond, nat_le, List, [], ◌∷◌, length, take, refl, sym, ◌∙◌, ap, subst}
 use Rattle.std.specs.List.{concat}
-use Rattle.std.proofs.lemmas.Bool.{cases_Bool, and_parts}
+use Rattle.std.proofs.lemmas.Bool.{cases_Bool, and_parts, both_ways}
 use Rattle.disk_model.specs.declared.disk.Half.{Half}
 use Rattle.disk_model.specs.declared.disk.Half.TheVariants.{A, B}
 use Rattle.disk_model.specs.Image.{Image, half_of, other, with_half}
 use Rattle.disk_model.specs.Disk.{overwritten}
-use Rattle.vote_journal.specs.Text.{HasBytes, half_entries, text_of, is_some_entry, live_by, live_half, live_entries, IsSound, SaysOnly, HoldsEntries, Agree}
+use Rattle.vote_journal.specs.Text.{HasBytes, half_entries, both_have_entries, text_of, is_some_entry, live_by, live_half, live_entries, IsSound, SaysOnly, HoldsEntries, Agree}
 use Rattle.vote_journal.specs.Steps.{MayLose, MayArrange, begun_image, arranged, Arranged}
 use Rattle.vote_journal.proofs.Blocks.{holds_has}
 use Rattle.vote_journal.proofs.Images.{image_says, swapped}
-use Rattle.vote_journal.proofs.Tears.{gate_shut, cut_done}
+use Rattle.vote_journal.proofs.Tears.{gate_shut, cut_done, length-cut}
 use Rattle.vote_journal.proofs.Gains.{half_with, other_with, loses_first, loses_second}
 use Rattle.vote_journal.proofs.Says.{text_is}
 use Rattle.vote_journal.proofs.Starts.{sound_agree, begin_says, begun_holds}
@@ -82,6 +82,7 @@ arranged_holds false image new a b sound is made =
       live_holds = begun_at live image a b sound;
       spare_holds = subst (λ (es : List (List ℕ)). HoldsEntries (half_of (other live) (begun_image image)) es)
           (spare_none (half_entries image.a) (half_entries image.b) image.a image.b (sym is) refl refl) (begun_at (other live) image a b sound);
+      cut = λ both. absurd (both_ways _ (sym is) both);
     })
 arranged_holds true image new a b sound is made =
     let live = live_half image in
@@ -94,6 +95,8 @@ arranged_holds true image new a b sound is made =
           ∙ other_with spare (take 9 shut) begun ∙ ap (λ (h : Half). half_of h begun) (other_other live))) (begun_at live image a b sound);
       spare_holds = subst (λ (xs : List ℕ). HoldsEntries xs []) (sym (half_with spare (take 9 shut) begun))
           (cut_done shut (gate_shut (half_of spare begun) (half_entries (half_of spare image)) (begun_at spare image a b sound)));
+      cut = λ both. ap length (half_with spare (take 9 shut) begun)
+          ∙ length-cut shut (gate_shut (half_of spare begun) (half_entries (half_of spare image)) (begun_at spare image a b sound));
     })
 
 -- what was found in copies of the halves
@@ -129,6 +132,7 @@ pub record Opens (half : Half) (image new : Image) : Type 0 where
   pub live : HoldsEntries (half_of half new) (half_entries (half_of half new))
   pub spare : HoldsEntries (half_of (other half) new) []
   pub same : half_entries (half_of half new) ≡ live_entries image
+  pub cut : both_have_entries image ≡ true → length (half_of (other half) new) ≡ 9
 
 pub opens : (half : Half) (image new : Image) → half ≡ live_half image → Arranged (live_half image) image new → Opens half image new
 opens half image new e arranged =
@@ -138,6 +142,7 @@ opens half image new e arranged =
       live = subst (λ (es : List (List ℕ)). HoldsEntries (half_of (live_half image) new) es) (sym has) arranged.live_holds;
       spare = arranged.spare_holds;
       same = has;
+      cut = arranged.cut;
     })
 
 pub arranged_text : (image new : Image) → IsSound image → Arranged (live_half image) image new → text_of new ≡ text_of image

@@ -10,7 +10,7 @@ use Rattle.vote_journal.specs.Text.{magic, blocks, entries_in, half_entries, is_
 use Rattle.vote_journal.specs.Steps.{MayGain, MayLose, MayShut, Folded}
 use Rattle.vote_journal.proofs.Blocks.{holds_has, held_in, length-blocks}
 use Rattle.vote_journal.proofs.Says.{held_says, text_is, alone, beside_all}
-use Rattle.vote_journal.proofs.Tears.{gate_shut, cut_done}
+use Rattle.vote_journal.proofs.Tears.{gate_shut, cut_done, length-cut}
 use Rattle.vote_journal.proofs.Gains.{half_with, other_with, loses_first, loses_second}
 
 -- the bytes of a half up to its closed gate
@@ -106,6 +106,7 @@ module _ (live spare : Half) (image mid : Image) (es : List (List ℕ)) (text : 
         one = subst (λ (xs : List ℕ). HoldsEntries xs (text ∷ [])) (sym (other_with live bytes mid)) one;
         gone = subst (λ (xs : List ℕ). HoldsEntries xs []) (sym (half_with live bytes mid))
             (cut_done (overwritten 8 (0 ∷ []) (half_of live mid)) (gate_shut (half_of live mid) es still));
+        cut = ap length (half_with live bytes mid) ∙ length-cut (overwritten 8 (0 ∷ []) (half_of live mid)) (gate_shut (half_of live mid) es still);
       })
 
 -- the half that is live then
@@ -113,6 +114,7 @@ pub record FoldOpens (spare : Half) (new : Image) (text : List ℕ) : Type 0 whe
   pub live : HoldsEntries (half_of spare new) (half_entries (half_of spare new))
   pub spare_none : HoldsEntries (half_of (other spare) new) []
   pub same : half_entries (half_of spare new) ≡ text ∷ []
+  pub cut : length (half_of (other spare) new) ≡ 9
 
 pub fold_opens : (live spare : Half) (new : Image) (text : List ℕ) → spare ≡ other live → Folded live text new → FoldOpens spare new text
 fold_opens live spare new text e folded =
@@ -121,4 +123,5 @@ fold_opens live spare new text e folded =
       live = subst (λ (es : List (List ℕ)). HoldsEntries (half_of (other live) new) es) (sym has) folded.one;
       spare_none = subst (λ (h : Half). HoldsEntries (half_of h new) []) (sym (other_twice live)) folded.gone;
       same = has;
+      cut = subst (λ (h : Half). length (half_of h new) ≡ 9) (sym (other_twice live)) folded.cut;
     })

@@ -228,3 +228,7 @@ cut_done half holds = record {
   closed = holds.closed;
   short = tt;
 }
+
+pub length-cut : (half : List ℕ) → HoldsEntries half [] → length (take 9 half) ≡ 9
+length-cut half holds =
+    ap length (ap (take 9) (holds.is ∙ past_gate [] holds.gate holds.tail) ∙ take_at (front_of [] ++ holds.gate ∷ []) holds.tail 9 refl)

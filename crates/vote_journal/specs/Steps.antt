@@ -4,7 +4,7 @@ use Rattle.std.specs.List.{concat}
 use Rattle.disk_model.specs.declared.disk.Half.{Half}
 use Rattle.disk_model.specs.Image.{Image, half_of, other, with_half}
 use Rattle.disk_model.specs.Disk.{TornWrite, Cut, OnHalf, overwritten}
-use Rattle.vote_journal.specs.Text.{magic, half_entries, blocks, HasBytes, HoldsEntries}
+use Rattle.vote_journal.specs.Text.{magic, half_entries, both_have_entries, blocks, HasBytes, HoldsEntries}
 
 -- one half has these entries, with or without one more, and the other is as it was
 pub record MayGain (half : Half) (entries : List (List ℕ)) (payload spare : List ℕ) (c : Image) : Type 0 where
@@ -67,8 +67,12 @@ MayArrange both spare old c = MayBegin old c ⊎ ((both ≡ true) × MayShut spa
 pub record Arranged (live : Half) (image new : Image) : Type 0 where
   pub live_holds : HoldsEntries (half_of live new) (half_entries (half_of live image))
   pub spare_holds : HoldsEntries (half_of (other live) new) []
+  -- which is cut to its first gate where both had entries
+  pub cut : both_have_entries image ≡ true → length (half_of (other live) new) ≡ 9
 
 -- the other half has one entry of all the payloads, and the one that was live has none
 pub record Folded (live : Half) (text : List ℕ) (new : Image) : Type 0 where
   pub one : HoldsEntries (half_of (other live) new) (text ∷ [])
   pub gone : HoldsEntries (half_of live new) []
+  -- and no more than its magic and its first gate
+  pub cut : length (half_of live new) ≡ 9

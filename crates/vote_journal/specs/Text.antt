@@ -59,6 +59,9 @@ abbrev pub is_some_entry : List (List ℕ) → Bool
 is_some_entry [] = false
 is_some_entry (entry ∷ entries) = true
 
+abbrev pub both_have_entries : Image → Bool
+both_have_entries image = is_some_entry (half_entries image.a) && is_some_entry (half_entries image.b)
+
 -- the payloads, put together, of the entries of a half that has entries
 abbrev pub text_of : Image → List ℕ
 text_of image = if is_some_entry (half_entries image.a) then concat (half_entries image.a) else concat (half_entries image.b)

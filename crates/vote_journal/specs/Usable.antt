@@ -27,6 +27,10 @@ byte_count journal = journal.bytes
 abbrev pub entries_in_journal : {D : Type 0} → (D → Image) → Journal D → List (List ℕ)
 entries_in_journal seen journal = half_entries (half_of journal.live (seen journal.disk))
 
+-- what stands in the half beside its live one
+abbrev pub spare_bytes : {D : Type 0} → (D → Image) → Journal D → List ℕ
+spare_bytes seen journal = half_of (other journal.live) (seen journal.disk)
+
 -- Both halves hold their entries, the one beside the live one none, and all of it is durable. The journal knows where
 -- the closed gate of the live half stands, how many entries there are, and how many bytes of payload.
 pub record IsUsable {D : Type 0} (seen : D → Image) (may_leave : D → Image → Type 0) (journal : Journal D) : Type 0 where

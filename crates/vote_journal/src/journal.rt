@@ -4,7 +4,7 @@ ghost use Rattle.std.specs.List.{concat};
 ghost use Rattle.disk_model.specs.Disk.{Only, LeavesOnly};
 ghost use Rattle.disk_model.specs.Supply.{Draws};
 ghost use Rattle.vote_journal.specs.Runs.{Runs, HasReason, IsStep, IsUntouched, LeftOrSays};
-ghost use Rattle.vote_journal.specs.Text.{text_of, live_entries, is_foreign, IsSound, SaysOnly, SaysMaybe};
+ghost use Rattle.vote_journal.specs.Text.{text_of, live_entries, both_have_entries, is_foreign, IsSound, SaysOnly, SaysMaybe};
 
 use crate::JournalFault;
 use crate::fold::fold_disk;
@@ -27,7 +27,7 @@ pub struct Journal<D: Disk> {
 }
 
 impl<D: Disk> Journal<D> {
-    ghost use Rattle.vote_journal.specs.Usable.{IsUsable, disk_of, disk_after, entries_in_journal, entry_count, byte_count};
+    ghost use Rattle.vote_journal.specs.Usable.{IsUsable, disk_of, disk_after, entries_in_journal, spare_bytes, entry_count, byte_count};
 
     /// Opens the journal of a disk, and gives its entries in order. An empty disk is begun, and what an interrupted fold
     /// left is put right. On refusal the disk is handed back: `NotAJournal` comes exactly where a half holds more than
@@ -40,6 +40,10 @@ impl<D: Disk> Journal<D> {
 
         // The entries put together are the text.
         ensures read { IfOk result (λ opened. IsSound (D.seen disk) → concat opened.1.items ≡ text_of (D.seen disk)) }
+
+        // Where both halves had entries, the one that isn't live is cut to its first gate.
+        ensures cut { IfOk result (λ opened. IsSound (D.seen disk) → both_have_entries (D.seen disk) ≡ true
+            → length (spare_bytes D.seen opened.0) ≡ 9) }
         ensures ours { OnOk result ((is_foreign (D.seen disk).a || is_foreign (D.seen disk).b) ≡ false) }
 
         // A disk that holds no journal is handed back as it was. It was synced and read, and nothing else.
@@ -98,6 +102,8 @@ impl<D: Disk> Journal<D> {
         // The entries put together are the text.
         ensures read { IfOk result (λ entries. IsSound (D.seen (disk_of self.old))
             → concat entries.items ≡ text_of (D.seen (disk_of self.old))) }
+        ensures cut { OnOk result (IsSound (D.seen (disk_of self.old)) → both_have_entries (D.seen (disk_of self.old)) ≡ true
+            → length (spare_bytes D.seen self.new) ≡ 9) }
         ensures ours { OnOk result ((is_foreign (D.seen (disk_of self.old)).a || is_foreign (D.seen (disk_of self.old)).b) ≡ false) }
         ensures foreign { IfErr result (λ fault. fault ≡ JournalFault.NotAJournal
             → (is_foreign (D.seen (disk_of self.old)).a || is_foreign (D.seen (disk_of self.old)).b) ≡ true) }
@@ -140,6 +146,7 @@ impl<D: Disk> Journal<D> {
         requires short { length entry.now < 2 ^ 32 }
         ensures usable { OnOk result (IsUsable D.seen D.may_leave self.new) }
         ensures added { OnOk result (entries_in_journal D.seen self.new ≡ entries_in_journal D.seen self.old ++ entry.now ∷ []) }
+        ensures spare { OnOk result (spare_bytes D.seen self.new ≡ spare_bytes D.seen self.old) }
         ensures text { OnOk result (text_of (D.seen (disk_of self.new)) ≡ text_of (D.seen (disk_of self.old)) ++ entry.now) }
         ensures step { IsStep D.seen D.may_leave D.moment D.left_since D.faults D.supply D.explains (disk_of self.old) (disk_of self.new)
             (SaysMaybe (text_of (D.seen (disk_of self.old))) entry.now) result }
@@ -152,14 +159,15 @@ impl<D: Disk> Journal<D> {
         Ok(())
     }
 
-    /// Folds the entries into one of all their payloads, in the other half, and gives up the old ones. After an `Err` the
-    /// journal isn't usable; a crash leaves the same text. `NotAJournal` doesn't come.
+    /// Folds the entries into one of all their payloads, in the other half, and cuts the half that held them to its first
+    /// gate. After an `Err` the journal isn't usable; a crash leaves the same text. `NotAJournal` doesn't come.
     pub fn fold(&mut self) -> Result<(), JournalFault>
         requires usable { IsUsable D.seen D.may_leave self.old }
         requires some { 1 ≤ entry_count self.old }
         requires small { byte_count self.old < 2 ^ 32 }
         ensures usable { OnOk result (IsUsable D.seen D.may_leave self.new) }
         ensures one { OnOk result (entries_in_journal D.seen self.new ≡ concat (entries_in_journal D.seen self.old) ∷ []) }
+        ensures cut { OnOk result (length (spare_bytes D.seen self.new) ≡ 9) }
         ensures text { OnOk result (text_of (D.seen (disk_of self.new)) ≡ text_of (D.seen (disk_of self.old))) }
         ensures step { IsStep D.seen D.may_leave D.moment D.left_since D.faults D.supply D.explains (disk_of self.old) (disk_of self.new)
             (SaysOnly (text_of (D.seen (disk_of self.old)))) result }

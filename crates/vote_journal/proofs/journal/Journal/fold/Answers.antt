@@ -59,3 +59,8 @@ returns-clause-usable g c =
         few,
       );
     }
+
+pub returns-clause-cut : goal.returns-clause-cut
+returns-clause-cut g c =
+    (fold_opens c.args.self.now.live c.other-spare.result (g.D.Disk.seen c.fold_disk.new.disk) c.fold_disk.new.text.items
+    c.other-spare.ensures c.in_ok-fold_disk.ensures.folded).cut

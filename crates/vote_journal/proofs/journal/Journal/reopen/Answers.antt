@@ -31,3 +31,7 @@ returns-in-Ok-clause-usable g c = λ sound.
 
 pub returns-in-Err-clause-no_foreign : goal.returns-in-Err-clause-no_foreign
 returns-in-Err-clause-no_foreign g c = λ sound is. absurd (cc (c.in-Err.ensures.foreign is, sound_ours (g.D.Disk.seen c.args.self.now.disk) sound))
+
+pub returns-in-Ok-clause-cut : goal.returns-in-Ok-clause-cut
+returns-in-Ok-clause-cut g c = λ sound.
+    (opens c.in-Ok.opened.live (g.D.Disk.seen c.args.self.now.disk) (g.D.Disk.seen c.open.new.disk) c.in-Ok.ensures.live (c.in-Ok.ensures.arranged sound)).cut
