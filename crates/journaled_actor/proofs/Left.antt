@@ -22,7 +22,7 @@ use Rattle.hb_rules.specs.Ledger.{IsPrefix}
 use Rattle.hb_rules.specs.Same.{count, firsts}
 use Rattle.hb_rules.specs.Terms.{Terms, AreVotes, AreLawful, AreSpelled, AreHeardSpelled, AreAmong, cast_in, heard_got, heard_all}
 use Rattle.hb_rules.proofs.Lists.{AllByRecursion-parts}
-use Rattle.journaled_actor.specs.Folding.{is_full, folded_if_full}
+use Rattle.journaled_actor.specs.Folding.{is_full, folded_if_full, entries_after}
 use Rattle.journaled_actor.specs.Payload.{payload}
 use Rattle.journaled_actor.specs.Kept.{Covers, IsCovered, IsSafe, IsAll, IsOpen, Turn, CastSome, HearsPost, heard_with}
 use Rattle.journaled_actor.proofs.Crashes.{left_now}
@@ -77,6 +77,19 @@ folded_full es full = rw full refl
 
 pub folded_not : (es : List (List ℕ)) → is_full es ≡ false → folded_if_full es ≡ es
 folded_not es full = rw full refl
+
+-- with votes that are cast
+pub something : (due : List Vote) → (length due == 0) ≡ false → due ≡ [] → ⊥
+something [] some none = absurd (cc (some))
+something (vote ∷ due) some none = absurd (cc (none))
+
+pub entries_same : (es : List (List ℕ)) (due : List Vote) → due ≡ [] → entries_after es due ≡ es
+entries_same es [] none = refl
+entries_same es (vote ∷ due) none = absurd (cc (none))
+
+pub entries_more : (es : List (List ℕ)) (due : List Vote) → (length due == 0) ≡ false → entries_after es due ≡ folded_if_full es ++ payload due ∷ []
+entries_more es [] some = absurd (cc (some))
+entries_more es (vote ∷ due) some = refl
 
 -- entries that are put together one by one
 pub gathered_more : (entries : List (List ℕ)) (k : ℕ) (text entry : List ℕ) → k < length entries → entry ≡ get_or entries k entry

@@ -1,10 +1,11 @@
 //! Casting votes: first into the journal, and then into the book.
-ghost use Rattle.std.specs.Prelude.{◌≡◌, List, ◌++◌, OnOk, IsErrOf};
+ghost use Rattle.std.specs.Prelude.{◌≡◌, List, [], ◌∷◌, ◌++◌, Ok, OnOk, IsErrOf};
 ghost use Rattle.disk_model.specs.Image.{Image};
 ghost use Rattle.hb_wire.specs.declared.vote.Vote.{Vote};
 ghost use Rattle.hb_rules.specs.Terms.{AreVotes};
 ghost use Rattle.vote_journal.specs.Text.{text_of, SaysMaybe};
-ghost use Rattle.vote_journal.specs.Usable.{IsUsable, disk_of};
+ghost use Rattle.vote_journal.specs.Usable.{IsUsable, disk_of, entries_in_journal};
+ghost use Rattle.journaled_actor.specs.Folding.{folded_if_full, entries_after};
 ghost use Rattle.journaled_actor.specs.Going.{SeatGoes, DiskGoes};
 ghost use Rattle.journaled_actor.specs.Kept.{IsOf, IsSafe, IsAll, CastSome};
 
@@ -23,6 +24,8 @@ use vote_journal::Journal;
 fn keep<D: Disk>(text: &[u8], journal: &mut Journal<D>) -> Result<(), ActorFault>
     requires usable { IsUsable D.seen D.may_leave journal.old }
     ensures usable { OnOk result (IsUsable D.seen D.may_leave journal.new) }
+    ensures entries { OnOk result (entries_in_journal D.seen journal.new
+        ≡ folded_if_full (entries_in_journal D.seen journal.old) ++ text.now ∷ []) }
     ensures text { OnOk result (text_of (D.seen (disk_of journal.new)) ≡ text_of (D.seen (disk_of journal.old)) ++ text.now) }
     ensures images { (image : Image) → D.may_leave (disk_of journal.new) image
         → SaysMaybe (text_of (D.seen (disk_of journal.old))) text.now image }
@@ -39,7 +42,7 @@ fn keep<D: Disk>(text: &[u8], journal: &mut Journal<D>) -> Result<(), ActorFault
 }
 
 /// Casts votes that are owed: writes them into the journal as one entry, and once that is acknowledged posts them, in their
-/// order. Where there are none it does nothing.
+/// order. Where there are none it does nothing, and writes no entry.
 pub(crate) fn cast<B: Book, D: Disk, C: Core>(
     alloc: Global,
     due: &[Vote],
@@ -61,6 +64,9 @@ pub(crate) fn cast<B: Book, D: Disk, C: Core>(
     ensures all { OnOk result ((votes : List Vote) → IsAll (C.terms core.now) (B.seen seat.old) (text_of (D.seen (disk_of journal.old))) votes
         → AreVotes (C.terms core.now) (B.seen seat.old) (votes ++ due.now)
         → IsAll (C.terms core.now) (B.seen seat.new) (text_of (D.seen (disk_of journal.new))) (votes ++ due.now)) }
+    ensures entries { OnOk result (entries_in_journal D.seen journal.new
+        ≡ entries_after (entries_in_journal D.seen journal.old) due.now) }
+    ensures nothing { due.now ≡ [] → (result ≡ Ok tt) × (journal.new ≡ journal.old) }
     ensures cast { CastSome (C.terms core.now) (B.seen seat.old) (B.seen seat.new) due.now }
     ensures disk { DiskGoes D.supply D.faults D.explains (disk_of journal.old) (disk_of journal.new) result }
 {

@@ -1,13 +1,14 @@
-use Rattle.std.proofs.Common.{◌≡◌, ℕ, List, ◌++◌, sym, ap, ◌∙◌, subst}
+use Rattle.std.proofs.Common.{◌≡◌, ℕ, List, [], ◌∷◌, ◌++◌, refl, sym, ap, ◌∙◌, subst}
 use Rattle.std.proofs.lemmas.Result.{err_from_is_err_and, on_ok_weaker}
 use Rattle.vote_journal.specs.Text.{text_of}
-use Rattle.vote_journal.specs.Usable.{disk_of}
+use Rattle.vote_journal.specs.Usable.{disk_of, entries_in_journal}
 use Rattle.hb_base.specs.Numbers.{Numbers}
 use Rattle.hb_wire.specs.declared.vote.Vote.{Vote}
 use Rattle.hb_rules.specs.Terms.{AreSpelled}
+use Rattle.journaled_actor.specs.Folding.{folded_if_full}
 use Rattle.journaled_actor.specs.Payload.{payload, AreWritten}
 use Rattle.journaled_actor.proofs.Going.{seat_still, disk_still, disk_done}
-use Rattle.journaled_actor.proofs.Left.{always_ok, safe_covered, safe_all, spelled_due, cast_none, all_as_before, all_cast, nothing_in}
+use Rattle.journaled_actor.proofs.Left.{always_ok, safe_covered, safe_all, spelled_due, cast_none, all_as_before, all_cast, nothing_in, something, entries_same, entries_more}
 use Rattle.journaled_actor.proofs.Safe.{safe_maybe, payload_append}
 use Rattle.hb_rules.proofs.Turns.{turn_after}
 use Rattle.journaled_actor.proofs.casting.cast.Goals as goal
@@ -21,6 +22,8 @@ returns-then-is_empty g c =
       safe = safe_all t posts c.requires.opened.0 c.requires.usable c.requires.opened.1;
       usable = c.requires.usable;
       all = λ votes all are. all_as_before t posts (text_of (g.D.Disk.seen (disk_of c.args.journal.now))) votes c.args.due.now (nothing_in c.args.due.now (sym c.if-is_empty.ensures)) all;
+      entries = sym (entries_same (entries_in_journal g.D.Disk.seen c.args.journal.now) c.args.due.now (nothing_in c.args.due.now (sym c.if-is_empty.ensures)));
+      nothing = λ _. (refl, refl);
       cast = cast_none t posts c.args.due.now;
       disk = disk_still (λ h. cc (h));
     }
@@ -41,6 +44,8 @@ returns-in_err-text g c =
       safe = safe_all t posts c.requires.opened.0 c.requires.usable c.requires.opened.1;
       usable = tt;
       all = tt;
+      entries = tt;
+      nothing = λ none. absurd (something c.args.due.now (sym c.if-is_empty.ensures) none);
       cast = cast_none t posts c.args.due.now;
       disk = disk_still (λ h. cc (h));
     })
@@ -57,6 +62,8 @@ returns-in_err-keep g c =
           c.requires.opened.0 c.args.due.now c.requires.opened.1 c.requires.opened.2 (c.deref.ensures.value ∙ c.in_ok-text.ensures.text) did.images;
       usable = tt;
       all = tt;
+      entries = tt;
+      nothing = λ none. absurd (something c.args.due.now (sym c.if-is_empty.ensures) none);
       cast = cast_none t posts c.args.due.now;
       disk = did.disk;
     })
@@ -94,6 +101,10 @@ returns g c =
       usable = always_ok c.post_all.result kept.usable;
       all = on_ok_weaker c.post_all.result (λ complete votes all are.
           all_cast t old new text now votes due did.seat.longer all are (says_of votes all.says) complete) did.all;
+      entries = always_ok c.post_all.result (kept.entries
+          ∙ ap (λ (xs : List ℕ). folded_if_full (entries_in_journal g.D.Disk.seen c.args.journal.now) ++ xs ∷ []) (c.deref.ensures.value ∙ c.in_ok-text.ensures.text)
+          ∙ sym (entries_more (entries_in_journal g.D.Disk.seen c.args.journal.now) due (sym c.if-is_empty.ensures)));
+      nothing = λ none. absurd (something due (sym c.if-is_empty.ensures) none);
       cast = did.cast;
       disk = disk_done kept.disk did.other;
     }

@@ -15,6 +15,7 @@ returns-in-Ok g c =
     let did = c.in-Ok.ensures in
     record {
       usable = did.usable;
+      entries = did.entries;
       text = did.text;
       images = λ image may. left_now d.may_leave d.moment d.left_since g.met.D.Disk.counts_now (disk_of c.args.journal.now) (disk_of c.record.new.journal) _ did.step.runs.moments image may;
       disk = record { draws = did.step.runs.draws; no_fewer = did.step.runs.faults_stay; failed = λ h. absurd (cc (h)) };
@@ -27,6 +28,7 @@ returns-in-Err g c =
     let did = c.in-Err.ensures in
     rw c.fault_of.ensures (record {
       usable = tt;
+      entries = tt;
       text = tt;
       images = λ image may. left_now d.may_leave d.moment d.left_since g.met.D.Disk.counts_now (disk_of c.args.journal.now) (disk_of c.record.new.journal) _ did.step.runs.moments image may;
       disk = disk_failed did.step.runs.draws did.step.runs.faults_stay did.step.failed did.step.no_other;
@@ -39,6 +41,7 @@ returns-then-text g c =
     let j = c.args.journal.now in
     record {
       usable = tt;
+      entries = tt;
       text = tt;
       images = λ image may. says_maybe _ c.args.text.now image (usable_says d.seen d.may_leave j c.requires.usable image may);
       disk = disk_still (λ h. cc (h));
