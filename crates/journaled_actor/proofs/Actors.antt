@@ -1,5 +1,5 @@
 -- What a call leaves of what holds of an actor in every state.
-use Rattle.std.proofs.Common.{◌≡◌, ℕ, ◌+◌, ◌≤◌, ◌⊎◌, ⊎_elim, inl, Bool, true, false, List, [], ◌∷◌, ◌++◌, Result, Ok, Err, refl, sym, ap, ◌∙◌, subst, arith, append-nil}
+use Rattle.std.proofs.Common.{◌≡◌, ℕ, ◌+◌, ◌≤◌, ◌⊎◌, ⊎_elim, inl, Bool, true, false, List, [], ◌∷◌, ◌++◌, Result, Ok, Err, refl, sym, ap, ap₂, ◌∙◌, subst, arith, length, append-nil}
 use Rattle.std.specs.Prelude.{OnOk, IfErr, IsErrOf}
 use Rattle.std.specs.Result.{is_ok}
 use Rattle.hb_base.specs.Limits.{most_stops}
@@ -10,7 +10,8 @@ use Rattle.disk_model.specs.Supply.{Supply, Draws}
 use Rattle.hb_wire.specs.declared.vote.Vote.{Vote}
 use Rattle.hb_wire.specs.declared.post.Post.{Post}
 use Rattle.vote_journal.specs.Calls.{IsEmpty}
-use Rattle.vote_journal.specs.Text.{text_of, half_entries, entries_in, is_some_entry}
+use Rattle.vote_journal.specs.Text.{text_of, live_entries, half_entries, entries_in, is_some_entry}
+use Rattle.vote_journal.proofs.Images.{fewer, live_count}
 use Rattle.hb_rules.specs.declared.actor.ActorFault.{ActorFault}
 use Rattle.hb_rules.specs.declared.actor.ActorFault.TheVariants.{Journal}
 use Rattle.hb_rules.specs.Actor.{ActorView, Goes, IsFew, AreSeen, ReachesActor, budget}
@@ -126,6 +127,9 @@ empty_agrees some = cc (some, ap is_some_entry none_in_empty)
 empty_says : text_of (record { a = []; b = [] }) ≡ []
 empty_says = rw none_in_empty refl
 
+empty_few : length (live_entries (record { a = []; b = [] })) ≤ 64
+empty_few = omega (arith, live_count (record { a = []; b = [] }), ap₂ fewer none_in_empty none_in_empty)
+
 -- no vote is in an empty journal
 pub safe_empty : {D : Type 0} (seen : D → Image) (may_leave : D → Image → Type 0) (disk : D) (t : Terms) (posts : List Post) → IsEmpty seen may_leave disk
     → cast_in t posts ≡ [] → IsSafe t posts (may_leave disk)
@@ -134,6 +138,7 @@ safe_empty seen may_leave disk t posts empty none image may =
       sound = record { a = inl (omega arith); b = inl (omega arith); agree = λ a b. absurd (empty_agrees a) };
       votes = [];
       says = empty_says;
+      few = inl empty_few;
       covers = record {
         are = record { castable = tt; proper = tt; spelled = tt; rest = inl refl };
         posted = record { rest = []; is = sym (ap (λ (votes : List Vote). firsts votes ++ []) none) };

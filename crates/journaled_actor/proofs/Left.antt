@@ -1,10 +1,10 @@
 -- What calls leave of a journal, of the votes that are cast, and of what is heard.
-use Rattle.std.proofs.Common.{◌≡◌, ℕ, ◌<◌, ◌≤◌, ◌+◌, ◌-◌, ◌^◌, min, inl, Bool, true, false, ◌==◌, nat_lt, List, [], ◌∷◌, ◌++◌, length, take, Option, None, Some, slice_get, get_or, Result, Ok, Err, refl, sym, ap, ◌∙◌, subst, arith, append-nil}
+use Rattle.std.proofs.Common.{◌≡◌, ℕ, ◌<◌, ◌≤◌, ◌+◌, ◌-◌, ◌^◌, min, inl, inr, ⊎_elim, Bool, true, false, ◌==◌, nat_lt, List, [], ◌∷◌, ◌++◌, length, take, Option, None, Some, slice_get, get_or, Result, Ok, Err, refl, sym, ap, ◌∙◌, subst, arith, append-nil}
 use Rattle.std.specs.Prelude.{OnOk, IfSome}
 use Rattle.hb_wire.specs.Addresses.{reaches}
 use Rattle.std.specs.List.{concat}
-use Rattle.std.proofs.lemmas.Bool.{eqb-true, eq-eqb, ltb-true, lt-ltb, and_parts}
-use Rattle.std.proofs.lemmas.List.{take_more}
+use Rattle.std.proofs.lemmas.Bool.{cases_Bool, cases_order, both_ways, eqb-true, eq-eqb, ltb-true, ltb-false, lt-ltb, and_parts}
+use Rattle.std.proofs.lemmas.List.{take_more, length-append}
 use Rattle.std.proofs.lemmas.List.Folds.{concat-append}
 use Rattle.disk_model.specs.Image.{Image}
 use Rattle.disk_model.specs.Supply.{Supply}
@@ -13,8 +13,8 @@ use Rattle.hb_wire.specs.declared.vote.Vote.{Vote}
 use Rattle.hb_wire.specs.declared.post.Post.{Post}
 use Rattle.vote_journal.specs.declared.journal.Journal.{Journal}
 use Rattle.vote_journal.specs.Runs.{Runs, LeftOrSays}
-use Rattle.vote_journal.specs.Text.{text_of, SaysOnly, SaysMaybe}
-use Rattle.vote_journal.specs.Usable.{IsUsable, disk_of}
+use Rattle.vote_journal.specs.Text.{text_of, live_entries, SaysOnly, SaysMaybe}
+use Rattle.vote_journal.specs.Usable.{disk_of}
 use Rattle.hb_rules.specs.Actor.{IsFew, AreSeen, ReachesActor}
 use Rattle.hb_rules.specs.Hearing.{Hearing, hearing_of}
 use Rattle.hb_rules.specs.History.{HasSpelling}
@@ -22,14 +22,14 @@ use Rattle.hb_rules.specs.Ledger.{IsPrefix}
 use Rattle.hb_rules.specs.Same.{count, firsts}
 use Rattle.hb_rules.specs.Terms.{Terms, AreVotes, AreLawful, AreSpelled, AreHeardSpelled, AreAmong, cast_in, heard_got, heard_all}
 use Rattle.hb_rules.proofs.Lists.{AllByRecursion-parts}
-use Rattle.journaled_actor.specs.Folding.{is_full, folded_if_full, entries_after}
+use Rattle.journaled_actor.specs.Folding.{is_full, folded_if_full, entries_after, AreFew, most_while, IsReady}
 use Rattle.journaled_actor.specs.Payload.{payload}
 use Rattle.journaled_actor.specs.Kept.{Covers, IsCovered, IsSafe, IsAll, IsOpen, Turn, CastSome, HearsPost, heard_with}
 use Rattle.journaled_actor.proofs.Crashes.{left_now}
 use Rattle.hb_rules.proofs.Received.{got_heard, heard_spelled}
 use Rattle.journaled_actor.proofs.Heard.{got_more, got_longer, seen_more, seen_longer, reaches_longer, slice_longer}
 use Rattle.journaled_actor.proofs.Owing.{open_with}
-use Rattle.journaled_actor.proofs.Safe.{usable_says, safe_said, safe_left, all_covers}
+use Rattle.journaled_actor.proofs.Safe.{usable_says, live_is, entries_say, safe_said, safe_left, all_covers}
 use Rattle.hb_rules.proofs.Turns.{turn_after, votes_longer, owed_votes, none_among}
 
 -- ---- results
@@ -78,6 +78,37 @@ folded_full es full = rw full refl
 pub folded_not : (es : List (List ℕ)) → is_full es ≡ false → folded_if_full es ≡ es
 folded_not es full = rw full refl
 
+full_if : (es : List (List ℕ)) → length es ≡ 64 → nat_lt (length (concat es)) (2 ^ 32) ≡ true → is_full es ≡ true
+full_if es many short = rw (eq-eqb (length es) 64 many, short) refl
+
+-- few stay few while one is added
+pub most_few : (es : List (List ℕ)) (text : List ℕ) → text ≡ concat es → AreFew (length es) text → AreFew (most_while es) text
+most_few es text is (inr long) = inr long
+most_few es text is (inl few) = by (is_full es) refl
+  where
+    by : (full : Bool) → is_full es ≡ full → AreFew (most_while es) text
+    by true full = inl (omega (arith, few, ap length (folded_full es full)))
+    by false full =
+        ⊎_elim
+        (λ (short : nat_lt (length (concat es)) (2 ^ 32) ≡ true). ⊎_elim
+        (λ (many : length es ≡ 64). absurd (both_ways _ full (full_if es many short)))
+        (λ apart. ⊎_elim
+        (λ (less : length es < 64). inl (omega (arith, less, ap length (folded_not es full))))
+        (λ (more : 64 < length es). absurd (omega (arith, more, few)))
+        apart)
+        (cases_order (length es) 64))
+        (λ (long : nat_lt (length (concat es)) (2 ^ 32) ≡ false). inr (omega (arith, ltb-false _ _ long, ap length is)))
+        (cases_Bool (nat_lt (length (concat es)) (2 ^ 32)))
+
+-- and once it is added
+pub added_few : (es new : List (List ℕ)) (text now entry : List ℕ) → text ≡ concat es → AreFew (length es) text
+    → new ≡ folded_if_full es ++ entry ∷ [] → now ≡ text ++ entry → AreFew (length new) now
+added_few es new text now entry is few has more =
+    ⊎_elim
+    (λ (most : most_while es ≤ 64). inl (omega (arith, most, ap length has, length-append (folded_if_full es) (entry ∷ []))))
+    (λ (long : 2 ^ 32 ≤ length text). inr (omega (arith, long, ap length more, length-append text entry)))
+    (most_few es text is few)
+
 -- with votes that are cast
 pub something : (due : List Vote) → (length due == 0) ≡ false → due ≡ [] → ⊥
 something [] some none = absurd (cc (some))
@@ -102,18 +133,21 @@ gathered_more entries k text entry within at is =
 
 -- ---- images
 
-pub says_maybe : (text entry : List ℕ) (image : Image) → SaysOnly text image → SaysMaybe text entry image
-says_maybe text entry image only = record { sound = only.sound; says = inl only.says }
+pub says_maybe : (text entry : List ℕ) (n most : ℕ) (image : Image) → n ≤ most → SaysOnly text n image → SaysMaybe text entry most image
+says_maybe text entry n most image le only = record { sound = only.sound; says = inl only.says; few = omega (arith, le, only.few) }
+
+pub maybe_most : (text entry : List ℕ) (n most : ℕ) (image : Image) → n ≤ most → SaysMaybe text entry n image → SaysMaybe text entry most image
+maybe_most text entry n most image le maybe = record { sound = maybe.sound; says = maybe.says; few = omega (arith, le, maybe.few) }
 
 -- an opened journal's disk, whatever came of it
 pub reopened : {D : Type 0} {faults : D → ℕ} {supply : D → Supply} (seen : D → Image) (may_leave : D → Image → Type 0) (moment : D → ℕ)
     (left_since : D → ℕ → Image → Type 0) → ((disk : D) (t : ℕ) (c : Image) → t ≤ moment disk → may_leave disk c → left_since disk t c)
     → ((disk : D) → may_leave disk (seen disk)) → (old new : D)
-    → Runs moment left_since faults supply old new (LeftOrSays (may_leave old) (text_of (seen old)))
+    → Runs moment left_since faults supply old new (LeftOrSays (may_leave old) (text_of (seen old)) (length (live_entries (seen old))))
     → (t : Terms) (posts : List Post) → IsSafe t posts (may_leave old) → IsSafe t posts (may_leave new)
 reopened seen may_leave moment left_since counts stays old new runs t posts safe =
     safe_left t posts (may_leave old) (may_leave new) (seen old) (stays old) safe
-    (left_now may_leave moment left_since counts old new (LeftOrSays (may_leave old) (text_of (seen old))) runs.moments)
+    (left_now may_leave moment left_since counts old new (LeftOrSays (may_leave old) (text_of (seen old)) (length (live_entries (seen old)))) runs.moments)
 
 -- the votes of a journal that was opened
 pub votes_read : (t : Terms) (posts : List Post) (image : Image) (c : Numbers) (text : List ℕ) (found : List Vote) → c ≡ t.config
@@ -125,15 +159,26 @@ votes_read t posts image c text found same is finds covered =
     (subst (Covers t posts) (sym found_is) covered.covers, covered.says ∙ ap payload (sym found_is))
 
 module _ {D : Type 0} {seen : D → Image} {may_leave : D → Image → Type 0} {journal : Journal D} where
-  pub safe_covered : (t : Terms) (posts : List Post) (votes : List Vote) → IsUsable seen may_leave journal
-      → text_of (seen (disk_of journal)) ≡ payload votes → Covers t posts votes → IsSafe t posts (may_leave (disk_of journal))
-  safe_covered t posts votes usable says covers =
-      safe_said t posts (may_leave (disk_of journal)) (text_of (seen (disk_of journal))) votes (usable_says seen may_leave journal usable) says covers
+  few_live : IsReady seen may_leave journal → AreFew (length (live_entries (seen (disk_of journal)))) (text_of (seen (disk_of journal)))
+  few_live ready =
+      subst (λ (es : List (List ℕ)). AreFew (length es) (text_of (seen (disk_of journal)))) (sym (live_is ready.usable)) ready.few
 
-  pub safe_all : (t : Terms) (posts : List Post) (votes : List Vote) → IsUsable seen may_leave journal
+  -- while an entry is added
+  pub ready_most : IsReady seen may_leave journal → AreFew (most_while (live_entries (seen (disk_of journal)))) (text_of (seen (disk_of journal)))
+  ready_most ready =
+      most_few (live_entries (seen (disk_of journal))) (text_of (seen (disk_of journal)))
+      (entries_say ready.usable ∙ ap concat (sym (live_is ready.usable))) (few_live ready)
+
+  pub safe_covered : (t : Terms) (posts : List Post) (votes : List Vote) → IsReady seen may_leave journal
+      → text_of (seen (disk_of journal)) ≡ payload votes → Covers t posts votes → IsSafe t posts (may_leave (disk_of journal))
+  safe_covered t posts votes ready says covers =
+      safe_said t posts (may_leave (disk_of journal)) (text_of (seen (disk_of journal))) votes (length (live_entries (seen (disk_of journal))))
+      (usable_says seen may_leave journal ready.usable) (few_live ready) says covers
+
+  pub safe_all : (t : Terms) (posts : List Post) (votes : List Vote) → IsReady seen may_leave journal
       → IsAll t posts (text_of (seen (disk_of journal))) votes → IsSafe t posts (may_leave (disk_of journal))
-  safe_all t posts votes usable all =
-      safe_covered t posts votes usable all.says (all_covers t posts (text_of (seen (disk_of journal))) votes all)
+  safe_all t posts votes ready all =
+      safe_covered t posts votes ready all.says (all_covers t posts (text_of (seen (disk_of journal))) votes all)
 
 -- ---- votes that are cast
 

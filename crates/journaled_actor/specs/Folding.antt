@@ -1,6 +1,10 @@
--- When the entries of a journal are folded.
-use Rattle.std.specs.Prelude.{ℕ, ◌^◌, Bool, ◌&&◌, ◌==◌, nat_lt, List, [], ◌∷◌, ◌++◌, length, if◌then◌else◌}
+-- When the entries of a journal are folded, and how many there are.
+use Rattle.std.specs.Prelude.{ℕ, ◌⊎◌, ◌≤◌, ◌+◌, ◌^◌, max, Bool, ◌&&◌, ◌==◌, nat_lt, List, [], ◌∷◌, ◌++◌, length, if◌then◌else◌}
 use Rattle.std.specs.List.{concat}
+use Rattle.disk_model.specs.Image.{Image}
+use Rattle.vote_journal.specs.Text.{text_of}
+use Rattle.vote_journal.specs.Usable.{IsUsable, disk_of, entries_in_journal}
+use Rattle.vote_journal.specs.declared.journal.Journal.{Journal}
 use Rattle.hb_wire.specs.declared.vote.Vote.{Vote}
 use Rattle.journaled_actor.specs.Payload.{payload}
 
@@ -17,3 +21,16 @@ folded_if_full entries = if is_full entries then concat entries ∷ [] else entr
 abbrev pub entries_after : List (List ℕ) → List Vote → List (List ℕ)
 entries_after entries [] = entries
 entries_after entries (vote ∷ votes) = folded_if_full entries ++ payload (vote ∷ votes) ∷ []
+
+-- so many entries of this text are few: at most 64, or the text has 2^32 bytes or more
+abbrev pub AreFew : ℕ → List ℕ → Type 0
+AreFew count text = (count ≤ 64) ⊎ (2 ^ 32 ≤ length text)
+
+-- so many entries there are at most while one is added to these
+abbrev pub most_while : List (List ℕ) → ℕ
+most_while entries = max (length entries) (length (folded_if_full entries) + 1)
+
+-- a journal that may be appended to, of few entries
+pub record IsReady {D : Type 0} (seen : D → Image) (may_leave : D → Image → Type 0) (journal : Journal D) : Type 0 where
+  pub usable : IsUsable seen may_leave journal
+  pub few : AreFew (length (entries_in_journal seen journal)) (text_of (seen (disk_of journal)))

@@ -1,19 +1,20 @@
 -- What an actor keeps in its journal: the votes that it may have posted, and maybe more. The letters: t are the actor's
 -- terms, seen is what its seat has seen.
-use Rattle.std.specs.Prelude.{◌≡◌, ℕ, ◌+◌, ◌≤◌, Bool, true, List, [], ◌++◌, take}
+use Rattle.std.specs.Prelude.{◌≡◌, ℕ, ◌+◌, ◌≤◌, Bool, true, List, [], ◌++◌, length, take}
 use Rattle.hb_base.specs.Numbers.{Numbers}
 use Rattle.hb_base.specs.Limits.{most_stops}
 use Rattle.disk_model.specs.Image.{Image}
 use Rattle.disk_model.specs.Supply.{Supply}
 use Rattle.hb_wire.specs.declared.vote.Vote.{Vote}
 use Rattle.hb_wire.specs.declared.post.Post.{Post}
-use Rattle.vote_journal.specs.Text.{IsSound, text_of}
+use Rattle.vote_journal.specs.Text.{IsSound, text_of, live_entries}
 use Rattle.std.specs.Option.{option_to_list}
 use Rattle.hb_rules.specs.Hearing.{Hearing, hearing_of}
 pub use Rattle.hb_rules.specs.Keeping.{Covers, Turn}
 use Rattle.hb_rules.specs.Same.{firsts}
 use Rattle.hb_rules.specs.Terms.{Terms, AreVotes, AreLawful, cast_in}
 use Rattle.hb_rules.specs.Actor.{ActorView, IsFew, AreSeen, budget}
+use Rattle.journaled_actor.specs.Folding.{AreFew}
 use Rattle.journaled_actor.specs.Payload.{payload}
 
 -- a seat of this config, node and actor is the one of the terms
@@ -22,11 +23,12 @@ pub record IsOf (t : Terms) (config : Numbers) (node actor : ℕ) : Type 0 where
   pub node_is : node ≡ t.node
   pub actor_is : actor ≡ t.actor
 
--- a sound image of a journal of such votes
+-- a sound image of a journal of such votes, in few entries
 pub record IsCovered (t : Terms) (seen : List Post) (image : Image) : Type 0 where
   pub sound : IsSound image
   pub votes : List Vote
   pub says : text_of image ≡ payload votes
+  pub few : AreFew (length (live_entries image)) (text_of image)
   pub covers : Covers t seen votes
 
 -- whatever a crash leaves, it has all votes that the actor has cast

@@ -31,7 +31,8 @@ pub struct JournaledActor<B: Book, D: Power + Drop, C: Core> {
 impl<B: Book, D: Power + Drop, C: Core> Model for JournaledActor<B, D, C> {
     ghost use Rattle.hb_rules.specs.Terms.{heard_got};
     ghost use Rattle.vote_journal.specs.Text.{text_of};
-    ghost use Rattle.vote_journal.specs.Usable.{IsUsable, disk_of};
+    ghost use Rattle.vote_journal.specs.Usable.{disk_of};
+    ghost use Rattle.journaled_actor.specs.Folding.{IsReady};
     ghost use Rattle.journaled_actor.specs.Kept.{ActorParts, IsKept, IsOpen};
 
     ghost Value = { ActorParts B.Seat D C };
@@ -48,7 +49,7 @@ impl<B: Book, D: Power + Drop, C: Core> Model for JournaledActor<B, D, C> {
 
     ghost invariant = { λ a. IsKept (C.terms a.core) (B.config a.seat) (B.node a.seat) (B.actor a.seat) (B.seen a.seat)
         (D.may_leave (disk_of a.journal)) (D.supply (disk_of a.journal))
-        (IsUsable D.seen D.may_leave a.journal × IsOpen (C.terms a.core) (B.seen a.seat) (text_of (D.seen (disk_of a.journal)))
+        (IsReady D.seen D.may_leave a.journal × IsOpen (C.terms a.core) (B.seen a.seat) (text_of (D.seen (disk_of a.journal)))
         (C.stands a.core) (heard_got (C.terms a.core) (B.seen a.seat) a.got.items))
         a.fresh a.live a.got.items a.restarts };
 }

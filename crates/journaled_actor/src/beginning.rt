@@ -4,7 +4,8 @@ ghost use Rattle.hb_wire.specs.declared.vote.Vote.{Vote};
 ghost use Rattle.hb_rules.specs.Actor.{IsFew};
 ghost use Rattle.hb_rules.specs.Terms.{AreLawful};
 ghost use Rattle.vote_journal.specs.Text.{text_of};
-ghost use Rattle.vote_journal.specs.Usable.{IsUsable, disk_of};
+ghost use Rattle.vote_journal.specs.Usable.{disk_of};
+ghost use Rattle.journaled_actor.specs.Folding.{IsReady};
 ghost use Rattle.journaled_actor.specs.Going.{SeatGoes, DiskGoes};
 ghost use Rattle.journaled_actor.specs.Kept.{IsOf, IsSafe, IsAll, IsOpen};
 
@@ -31,13 +32,13 @@ fn begin<B: Book, D: Disk, C: Core>(
     requires seat { B.knows book.old seat.old }
     requires is { IsOf (C.terms core.old) (B.config seat.old) (B.node seat.old) (B.actor seat.old) }
     requires lawful { AreLawful (C.terms core.old) }
-    requires usable { IsUsable D.seen D.may_leave journal.old }
+    requires ready { IsReady D.seen D.may_leave journal.old }
     requires all { IsAll (C.terms core.old) (B.seen seat.old) (text_of (D.seen (disk_of journal.old))) votes.now }
     ensures terms { C.terms core.new ≡ C.terms core.old }
     ensures seat { SeatGoes B.config B.node B.actor B.seen B.knows B.moved (C.terms core.old)
         seat.old seat.new book.old book.new out.old out.new result }
     ensures safe { IsSafe (C.terms core.old) (B.seen seat.new) (D.may_leave (disk_of journal.new)) }
-    ensures usable { OnOk result (IsUsable D.seen D.may_leave journal.new) }
+    ensures ready { OnOk result (IsReady D.seen D.may_leave journal.new) }
     ensures opened { OnOk result (IsOpen (C.terms core.old) (B.seen seat.new) (text_of (D.seen (disk_of journal.new))) (C.stands core.new) []) }
     ensures few { (most : ℕ) → 1 ≤ most → IsFew (C.terms core.old) (B.seen seat.old) most → IsFew (C.terms core.old) (B.seen seat.new) most }
     ensures disk { DiskGoes D.supply D.faults D.explains (disk_of journal.old) (disk_of journal.new) result }
@@ -64,7 +65,7 @@ pub(crate) fn take_up<B: Book, D: Disk, C: Core>(
     ensures seat { SeatGoes B.config B.node B.actor B.seen B.knows B.moved (C.terms core.old)
         seat.old seat.new book.old book.new out.old out.new result }
     ensures safe { IsSafe (C.terms core.old) (B.seen seat.new) (D.may_leave (disk_of journal.new)) }
-    ensures usable { OnOk result (IsUsable D.seen D.may_leave journal.new) }
+    ensures ready { OnOk result (IsReady D.seen D.may_leave journal.new) }
     ensures opened { OnOk result (IsOpen (C.terms core.old) (B.seen seat.new) (text_of (D.seen (disk_of journal.new))) (C.stands core.new) []) }
     ensures few { (most : ℕ) → IsFew (C.terms core.old) (B.seen seat.old) most → IsFew (C.terms core.old) (B.seen seat.new) (most + 1) }
     ensures disk { DiskGoes D.supply D.faults D.explains (disk_of journal.old) (disk_of journal.new) result }

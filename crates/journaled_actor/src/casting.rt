@@ -3,9 +3,9 @@ ghost use Rattle.std.specs.Prelude.{◌≡◌, List, [], ◌∷◌, ◌++◌, Ok
 ghost use Rattle.disk_model.specs.Image.{Image};
 ghost use Rattle.hb_wire.specs.declared.vote.Vote.{Vote};
 ghost use Rattle.hb_rules.specs.Terms.{AreVotes};
-ghost use Rattle.vote_journal.specs.Text.{text_of, SaysMaybe};
-ghost use Rattle.vote_journal.specs.Usable.{IsUsable, disk_of, entries_in_journal};
-ghost use Rattle.journaled_actor.specs.Folding.{folded_if_full, entries_after};
+ghost use Rattle.vote_journal.specs.Text.{text_of, live_entries, SaysMaybe};
+ghost use Rattle.vote_journal.specs.Usable.{disk_of, entries_in_journal};
+ghost use Rattle.journaled_actor.specs.Folding.{folded_if_full, entries_after, most_while, IsReady};
 ghost use Rattle.journaled_actor.specs.Going.{SeatGoes, DiskGoes};
 ghost use Rattle.journaled_actor.specs.Kept.{IsOf, IsSafe, IsAll, CastSome};
 
@@ -22,13 +22,13 @@ use vote_journal::Journal;
 
 // Keeps votes as one entry. Bytes that no entry can hold are refused as memory that is wanting.
 fn keep<D: Disk>(text: &[u8], journal: &mut Journal<D>) -> Result<(), ActorFault>
-    requires usable { IsUsable D.seen D.may_leave journal.old }
-    ensures usable { OnOk result (IsUsable D.seen D.may_leave journal.new) }
+    requires ready { IsReady D.seen D.may_leave journal.old }
+    ensures ready { OnOk result (IsReady D.seen D.may_leave journal.new) }
     ensures entries { OnOk result (entries_in_journal D.seen journal.new
         ≡ folded_if_full (entries_in_journal D.seen journal.old) ++ text.now ∷ []) }
     ensures text { OnOk result (text_of (D.seen (disk_of journal.new)) ≡ text_of (D.seen (disk_of journal.old)) ++ text.now) }
     ensures images { (image : Image) → D.may_leave (disk_of journal.new) image
-        → SaysMaybe (text_of (D.seen (disk_of journal.old))) text.now image }
+        → SaysMaybe (text_of (D.seen (disk_of journal.old))) text.now (most_while (live_entries (D.seen (disk_of journal.old)))) image }
     ensures disk { DiskGoes D.supply D.faults D.explains (disk_of journal.old) (disk_of journal.new) result }
     ensures other { IsErrOf result ActorFault.Full → ⊥ }
 {
@@ -54,13 +54,13 @@ pub(crate) fn cast<B: Book, D: Disk, C: Core>(
 ) -> Result<(), ActorFault>
     requires seat { B.knows book.old seat.old }
     requires is { IsOf (C.terms core.now) (B.config seat.old) (B.node seat.old) (B.actor seat.old) }
-    requires usable { IsUsable D.seen D.may_leave journal.old }
+    requires ready { IsReady D.seen D.may_leave journal.old }
     requires opened { (votes : List Vote) × IsAll (C.terms core.now) (B.seen seat.old) (text_of (D.seen (disk_of journal.old))) votes
         × AreVotes (C.terms core.now) (B.seen seat.old) (votes ++ due.now) }
     ensures seat { SeatGoes B.config B.node B.actor B.seen B.knows B.moved (C.terms core.now)
         seat.old seat.new book.old book.new out.old out.new result }
     ensures safe { IsSafe (C.terms core.now) (B.seen seat.new) (D.may_leave (disk_of journal.new)) }
-    ensures usable { OnOk result (IsUsable D.seen D.may_leave journal.new) }
+    ensures ready { OnOk result (IsReady D.seen D.may_leave journal.new) }
     ensures all { OnOk result ((votes : List Vote) → IsAll (C.terms core.now) (B.seen seat.old) (text_of (D.seen (disk_of journal.old))) votes
         → AreVotes (C.terms core.now) (B.seen seat.old) (votes ++ due.now)
         → IsAll (C.terms core.now) (B.seen seat.new) (text_of (D.seen (disk_of journal.new))) (votes ++ due.now)) }

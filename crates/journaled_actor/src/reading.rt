@@ -3,8 +3,9 @@ ghost use Rattle.std.specs.Prelude.{◌≡◌, List, OnOk, IfOk, IsErrOf};
 ghost use Rattle.std.specs.List.{concat};
 ghost use Rattle.hb_wire.specs.declared.post.Post.{Post};
 ghost use Rattle.vote_journal.specs.Text.{text_of};
-ghost use Rattle.vote_journal.specs.Usable.{IsUsable, disk_of};
+ghost use Rattle.vote_journal.specs.Usable.{disk_of};
 ghost use Rattle.journaled_actor.specs.Faults.{actor_fault};
+ghost use Rattle.journaled_actor.specs.Folding.{IsReady};
 ghost use Rattle.journaled_actor.specs.Going.{DiskGoes};
 ghost use Rattle.journaled_actor.specs.Kept.{IsSafe, Covers};
 ghost use Rattle.journaled_actor.specs.Payload.{payload, AreWritten};
@@ -52,7 +53,7 @@ pub(crate) fn read_back<D: Disk, C: Core>(
     ensures covers { IfOk result (λ votes. (seen : List Post) → IsSafe (C.terms core.now) seen (D.may_leave (disk_of journal.old))
         → Covers (C.terms core.now) seen votes.items) }
     ensures text { IfOk result (λ votes. text_of (D.seen (disk_of journal.new)) ≡ payload votes.items) }
-    ensures usable { OnOk result (IsUsable D.seen D.may_leave journal.new) }
+    ensures ready { OnOk result (IsReady D.seen D.may_leave journal.new) }
     ensures written { IfOk result (λ votes. AreWritten (C.terms core.now).config votes.items) }
     ensures disk { DiskGoes D.supply D.faults D.explains (disk_of journal.old) (disk_of journal.new) result }
     ensures other { IsErrOf result ActorFault.Full → ⊥ }

@@ -1,9 +1,9 @@
 //! Adding an entry to a journal.
 ghost use Rattle.std.specs.Prelude.{◌≡◌, ◌<◌, ◌^◌, [], ◌∷◌, ◌++◌, length, OnOk};
 ghost use Rattle.vote_journal.specs.Runs.{IsStep};
-ghost use Rattle.vote_journal.specs.Text.{text_of, SaysOnly, SaysMaybe};
+ghost use Rattle.vote_journal.specs.Text.{text_of, live_entries, SaysOnly, SaysMaybe};
 ghost use Rattle.vote_journal.specs.Usable.{IsUsable, disk_of, entries_in_journal};
-ghost use Rattle.journaled_actor.specs.Folding.{is_full, folded_if_full};
+ghost use Rattle.journaled_actor.specs.Folding.{is_full, folded_if_full, most_while};
 
 use disk_model::Disk;
 use vote_journal::{Journal, JournalFault};
@@ -26,7 +26,7 @@ fn fold_if_full<D: Disk>(journal: &mut Journal<D>) -> Result<(), JournalFault>
     ensures entries { OnOk result (entries_in_journal D.seen journal.new ≡ folded_if_full (entries_in_journal D.seen journal.old)) }
     ensures text { OnOk result (text_of (D.seen (disk_of journal.new)) ≡ text_of (D.seen (disk_of journal.old))) }
     ensures step { IsStep D.seen D.may_leave D.moment D.left_since D.faults D.supply D.explains (disk_of journal.old) (disk_of journal.new)
-        (SaysOnly (text_of (D.seen (disk_of journal.old)))) result }
+        (SaysOnly (text_of (D.seen (disk_of journal.old))) (length (live_entries (D.seen (disk_of journal.old))))) result }
 {
     if is_full(journal) {
         journal.fold()
@@ -44,7 +44,7 @@ pub(crate) fn record<D: Disk>(journal: &mut Journal<D>, entry: &[u8]) -> Result<
         ≡ folded_if_full (entries_in_journal D.seen journal.old) ++ entry.now ∷ []) }
     ensures text { OnOk result (text_of (D.seen (disk_of journal.new)) ≡ text_of (D.seen (disk_of journal.old)) ++ entry.now) }
     ensures step { IsStep D.seen D.may_leave D.moment D.left_since D.faults D.supply D.explains (disk_of journal.old) (disk_of journal.new)
-        (SaysMaybe (text_of (D.seen (disk_of journal.old))) entry.now) result }
+        (SaysMaybe (text_of (D.seen (disk_of journal.old))) entry.now (most_while (live_entries (D.seen (disk_of journal.old))))) result }
 {
     fold_if_full(journal)?;
     journal.append(entry)

@@ -5,10 +5,11 @@ ghost use Rattle.hb_rules.specs.Actor.{IsFew, AreSeen, ReachesActor};
 ghost use Rattle.hb_rules.specs.Hearing.{Hearing};
 ghost use Rattle.hb_rules.specs.Terms.{AreLawful, heard_got};
 ghost use Rattle.vote_journal.specs.Text.{text_of};
-ghost use Rattle.vote_journal.specs.Usable.{IsUsable, disk_of};
+ghost use Rattle.vote_journal.specs.Usable.{disk_of};
 ghost use Rattle.hb_rules.specs.Book.{Watched};
 ghost use Rattle.hb_wire.specs.declared.vote.Vote.{Vote};
 ghost use Rattle.hb_wire.specs.declared.post.Post.{Post};
+ghost use Rattle.journaled_actor.specs.Folding.{IsReady};
 ghost use Rattle.journaled_actor.specs.Going.{SeatGoes, DiskGoes};
 ghost use Rattle.journaled_actor.specs.Kept.{IsOf, IsSafe, IsOpen, HearsPost};
 
@@ -87,7 +88,7 @@ pub(crate) fn advance<B: Book, D: Disk, C: Core>(
     requires is { IsOf (C.terms core.old) (B.config seat.old) (B.node seat.old) (B.actor seat.old) }
     requires lawful { AreLawful (C.terms core.old) }
     requires post { ReachesActor (C.terms core.old).config (B.seen seat.old) (C.terms core.old).node (C.terms core.old).actor k }
-    requires usable { IsUsable D.seen D.may_leave journal.old }
+    requires ready { IsReady D.seen D.may_leave journal.old }
     requires got { AreSeen (C.terms core.old) (B.seen seat.old) got.old.items }
     requires opened { IsOpen (C.terms core.old) (B.seen seat.old) (text_of (D.seen (disk_of journal.old))) (C.stands core.old)
         (heard_got (C.terms core.old) (B.seen seat.old) got.old.items) }
@@ -95,7 +96,7 @@ pub(crate) fn advance<B: Book, D: Disk, C: Core>(
     ensures seat { SeatGoes B.config B.node B.actor B.seen B.knows B.moved (C.terms core.old)
         seat.old seat.new book.old book.new out.old out.new result }
     ensures safe { IsSafe (C.terms core.old) (B.seen seat.new) (D.may_leave (disk_of journal.new)) }
-    ensures usable { OnOk result (IsUsable D.seen D.may_leave journal.new) }
+    ensures ready { OnOk result (IsReady D.seen D.may_leave journal.new) }
     ensures opened { OnOk result (IsOpen (C.terms core.old) (B.seen seat.new) (text_of (D.seen (disk_of journal.new))) (C.stands core.new)
         (heard_got (C.terms core.old) (B.seen seat.new) (got.old.items ++ k ∷ []))) }
     ensures got { OnOk result (got.new.items ≡ got.old.items ++ k ∷ []) }

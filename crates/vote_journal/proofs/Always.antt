@@ -1,9 +1,9 @@
 -- From an empty disk on, each image that the calls of a journal leave is sound.
-use Rattle.std.proofs.Common.{◌≤◌, inl, inr, ⊎_elim, ℕ, List, [], ◌∷◌, sym, ◌∙◌, subst, arith}
+use Rattle.std.proofs.Common.{◌≤◌, ◌+◌, length, inl, inr, ⊎_elim, ℕ, List, [], ◌∷◌, sym, ◌∙◌, subst, arith}
 use Rattle.disk_model.specs.Image.{Image}
 use Rattle.disk_model.specs.Disk.{LeavesOnly}
 use Rattle.disk_model.specs.Supply.{Supply}
-use Rattle.vote_journal.specs.Text.{IsSound, SaysOnly, SaysMaybe, text_of}
+use Rattle.vote_journal.specs.Text.{IsSound, SaysOnly, SaysMaybe, text_of, live_entries}
 use Rattle.vote_journal.specs.Runs.{LeftOrSays}
 use Rattle.vote_journal.specs.Calls.{JournalCall, Recover, Append, Fold, SwitchOn, IsEmpty, ComesBack, Did, Lead}
 use Rattle.vote_journal.proofs.Starts.{empty_sound}
@@ -41,10 +41,10 @@ module _ {D : Type 0} (seen : D → Image) (may_leave : D → Image → Type 0) 
   one_more : (call : JournalCall) (first old new : D) → LeavesOnly moment left_since first old IsSound
       → Did seen may_leave moment left_since faults supply call old new → LeavesOnly moment left_since first new IsSound
   one_more Recover first old new since did =
-      further first old new (LeftOrSays (may_leave old) (text_of (seen old))) since (did (left_now first old (seen old) since (seen_may_stay old))).moments
-      (λ c may. ⊎_elim (λ left. left_now first old c since left) (λ (says : SaysOnly (text_of (seen old)) c). says.sound) may)
-  one_more (Append payload) first old new since did = further first old new (SaysMaybe (text_of (seen old)) payload) since did.moments (λ c says. says.sound)
-  one_more Fold first old new since did = further first old new (SaysOnly (text_of (seen old))) since did.moments (λ c says. says.sound)
+      further first old new (LeftOrSays (may_leave old) (text_of (seen old)) (length (live_entries (seen old)))) since (did (left_now first old (seen old) since (seen_may_stay old))).moments
+      (λ c may. ⊎_elim (λ left. left_now first old c since left) (λ (says : SaysOnly (text_of (seen old)) (length (live_entries (seen old))) c). says.sound) may)
+  one_more (Append payload) first old new since did = further first old new (SaysMaybe (text_of (seen old)) payload (length (live_entries (seen old)) + 1)) since did.moments (λ c says. says.sound)
+  one_more Fold first old new since did = further first old new (SaysOnly (text_of (seen old)) (length (live_entries (seen old)))) since did.moments (λ c says. says.sound)
   one_more SwitchOn first old new since did = further first old new (may_leave old) since (back old new did) (λ c left. left_now first old c since left)
 
   all_more : (steps : List (JournalCall × D)) (first old new : D) → LeavesOnly moment left_since first old IsSound

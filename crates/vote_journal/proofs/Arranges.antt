@@ -1,5 +1,5 @@
 -- What a disk says while its halves are arranged, and once they are.
-use Rattle.std.proofs.Common.{◌≡◌, ◌&&◌, inl, inr, ⊎_elim, ℕ, Bool, true, false, cond, nat_le, List, [], ◌∷◌, length, take, refl, sym, ◌∙◌, ap, subst}
+use Rattle.std.proofs.Common.{◌≡◌, ◌≤◌, arith, ◌&&◌, inl, inr, ⊎_elim, ℕ, Bool, true, false, cond, nat_le, List, [], ◌∷◌, length, take, refl, sym, ◌∙◌, ap, subst}
 use Rattle.std.specs.List.{concat}
 use Rattle.std.proofs.lemmas.Bool.{cases_Bool, and_parts, both_ways}
 use Rattle.disk_model.specs.declared.disk.Half.{Half}
@@ -9,7 +9,7 @@ use Rattle.disk_model.specs.Disk.{overwritten}
 use Rattle.vote_journal.specs.Text.{HasBytes, half_entries, both_have_entries, text_of, is_some_entry, live_by, live_half, live_entries, IsSound, SaysOnly, HoldsEntries, Agree}
 use Rattle.vote_journal.specs.Steps.{MayLose, MayArrange, begun_image, arranged, Arranged}
 use Rattle.vote_journal.proofs.Blocks.{holds_has}
-use Rattle.vote_journal.proofs.Images.{image_says, swapped}
+use Rattle.vote_journal.proofs.Images.{image_says, swapped, fewer}
 use Rattle.vote_journal.proofs.Tears.{gate_shut, cut_done, length-cut}
 use Rattle.vote_journal.proofs.Gains.{half_with, other_with, loses_first, loses_second}
 use Rattle.vote_journal.proofs.Says.{text_is}
@@ -32,33 +32,47 @@ both_at B image h = let p = and_parts _ _ h in (p.1, p.0)
 without : (es fs : List (List ℕ)) (text : List ℕ) → Agree es fs text → is_some_entry fs ≡ true → Agree [] fs text
 without es fs text agree some = record { first = λ p. absurd (cc); second = agree.second; none = λ p q. absurd (cc (some, q)) }
 
-lose_says : (spare : Half) (image c : Image) → HasBytes image.a → HasBytes image.b → IsSound image
+other_other : (half : Half) → other (other half) ≡ half
+other_other A = refl
+other_other B = refl
+
+beside_some : (es fs : List (List ℕ)) → is_some_entry fs ≡ true → fewer es fs ≤ length fs
+beside_some [] fs some = omega arith
+beside_some (e ∷ es) [] some = absurd (cc)
+beside_some (e ∷ es) (f ∷ fs) some = omega arith
+
+lose_says : (spare : Half) (image c : Image) → spare ≡ other (live_half image) → HasBytes image.a → HasBytes image.b → IsSound image
     → (is_some_entry (half_entries image.a) && is_some_entry (half_entries image.b)) ≡ true
-    → MayLose spare (half_entries (half_of spare image)) (half_of (other spare) (begun_image image)) c → SaysOnly (text_of image) c
-lose_says spare image c a b sound both may =
+    → MayLose spare (half_entries (half_of spare image)) (half_of (other spare) (begun_image image)) c
+    → SaysOnly (text_of image) (length (live_entries image)) c
+lose_says spare image c e a b sound both may =
     let es = half_entries (half_of spare image) in
     let fs = half_entries (half_of (other spare) image) in
     let agree = agree_at spare image sound in
+    let some = (both_at spare image both).1 in
+    let many : length fs ≡ length (live_entries image) =
+    ap (λ (h : Half). length (half_entries (half_of h image))) (ap other e ∙ other_other (live_half image)) in
     let there : HoldsEntries (half_of (other spare) c) fs = subst (λ (xs : List ℕ). HoldsEntries xs fs) (sym may.there)
     (begun_at (other spare) image a b sound) in
     ⊎_elim
-    (λ same. image_says spare c es fs (text_of image) (holds_has (half_of spare c) es same) (holds_has (half_of (other spare) c) fs there) agree)
-    (λ gone. image_says spare c [] fs (text_of image) (holds_has (half_of spare c) [] gone) (holds_has (half_of (other spare) c) fs there)
-    (without es fs (text_of image) agree (both_at spare image both).1))
+    (λ same. image_says spare c es fs (text_of image) (length (live_entries image)) (holds_has (half_of spare c) es same)
+    (holds_has (half_of (other spare) c) fs there) agree (omega (arith, beside_some es fs some, many)))
+    (λ gone. image_says spare c [] fs (text_of image) (length (live_entries image)) (holds_has (half_of spare c) [] gone)
+    (holds_has (half_of (other spare) c) fs there) (without es fs (text_of image) agree some) (omega (arith, many)))
     may.here
 
-pub arrange_says : (both : Bool) (spare : Half) (image c : Image) → HasBytes image.a → HasBytes image.b → IsSound image
-    → both ≡ (is_some_entry (half_entries image.a) && is_some_entry (half_entries image.b))
-    → MayArrange both spare image c → SaysOnly (text_of image) c
-arrange_says both spare image c a b sound is (inl may) = begin_says image c sound may
-arrange_says both spare image c a b sound is (inr (t, inl torn)) =
+pub arrange_says : (both : Bool) (spare : Half) (image c : Image) → spare ≡ other (live_half image) → HasBytes image.a → HasBytes image.b
+    → IsSound image → both ≡ (is_some_entry (half_entries image.a) && is_some_entry (half_entries image.b))
+    → MayArrange both spare image c → SaysOnly (text_of image) (length (live_entries image)) c
+arrange_says both spare image c e a b sound is (inl may) = begin_says image c sound may
+arrange_says both spare image c e a b sound is (inr (t, inl torn)) =
     let two = sym is ∙ t in
-    lose_says spare image c a b sound two
+    lose_says spare image c e a b sound two
     (loses_first spare (begun_image image) c (half_entries (half_of spare image)) (begun_at spare image a b sound) (both_at spare image two).0 torn)
-arrange_says both spare image c a b sound is (inr (t, inr cut)) =
+arrange_says both spare image c e a b sound is (inr (t, inr cut)) =
     let two = sym is ∙ t in
     let mid = with_half spare (overwritten 8 (0 ∷ []) (half_of spare (begun_image image))) (begun_image image) in
-    lose_says spare image c a b sound two
+    lose_says spare image c e a b sound two
     (loses_second spare (begun_image image) mid (half_entries (half_of spare image)) (begun_at spare image a b sound) refl c cut)
 
 -- the spare half has no entry where not both have some
@@ -68,10 +82,6 @@ spare_none [] [] a b h p q = q
 spare_none [] (f ∷ fs) a b h p q = p
 spare_none (e ∷ es) [] a b h p q = q
 spare_none (e ∷ es) (f ∷ fs) a b h p q = absurd (cc)
-
-other_other : (half : Half) → other (other half) ≡ half
-other_other A = refl
-other_other B = refl
 
 pub arranged_holds : (both : Bool) (image new : Image) → HasBytes image.a → HasBytes image.b → IsSound image
     → both ≡ (is_some_entry (half_entries image.a) && is_some_entry (half_entries image.b))
@@ -108,8 +118,9 @@ pub both_found : (image : Image) (es fs : List (List ℕ)) → es ≡ half_entri
 both_found image es fs e f = ap (λ (x : List (List ℕ)). is_some_entry x && is_some_entry fs) e
     ∙ ap (λ (x : List (List ℕ)). is_some_entry (half_entries image.a) && is_some_entry x) f
 
-pub sound_says : (image c : Image) → IsSound image → c ≡ image → SaysOnly (text_of image) c
-sound_says image c sound is = subst (λ (i : Image). SaysOnly (text_of image) i) (sym is) (record { sound = sound; says = refl })
+pub sound_says : (image c : Image) → IsSound image → c ≡ image → SaysOnly (text_of image) (length (live_entries image)) c
+sound_says image c sound is = subst (λ (i : Image). SaysOnly (text_of image) (length (live_entries image)) i) (sym is)
+    (record { sound = sound; says = refl; few = omega arith })
 
 -- the live half of a sound image has its text
 pub live_says : (es fs : List (List ℕ)) (image : Image) (text : List ℕ) → half_entries image.a ≡ es → half_entries image.b ≡ fs → Agree es fs text

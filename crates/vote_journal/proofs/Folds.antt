@@ -6,10 +6,11 @@ use Rattle.disk_model.specs.declared.disk.Half.{Half}
 use Rattle.disk_model.specs.declared.disk.Half.TheVariants.{A, B}
 use Rattle.disk_model.specs.Image.{Image, half_of, other, with_half}
 use Rattle.disk_model.specs.Disk.{Reads, overwritten}
-use Rattle.vote_journal.specs.Text.{magic, blocks, entries_in, half_entries, is_some_entry, text_of, HoldsEntries, SaysOnly}
+use Rattle.vote_journal.specs.Text.{magic, blocks, entries_in, half_entries, live_entries, is_some_entry, text_of, HoldsEntries, SaysOnly}
 use Rattle.vote_journal.specs.Steps.{MayGain, MayLose, MayShut, Folded}
 use Rattle.vote_journal.proofs.Blocks.{holds_has, held_in, length-blocks}
-use Rattle.vote_journal.proofs.Says.{held_says, text_is, alone, beside_all}
+use Rattle.vote_journal.proofs.Says.{held_says, text_is, alone, alone_few, beside_all, beside_few}
+use Rattle.vote_journal.proofs.Alone.{live_alone}
 use Rattle.vote_journal.proofs.Tears.{gate_shut, cut_done, length-cut}
 use Rattle.vote_journal.proofs.Gains.{half_with, other_with, loses_first, loses_second}
 
@@ -42,10 +43,11 @@ pub none_gate : (half : List ℕ) → HoldsEntries half [] → 8 ≡ 8 + length 
 none_gate half holds = omega (arith, ap (λ (es : List (List ℕ)). length (blocks es)) (holds_has half [] holds).has)
 
 pub folds_here : (live : Half) (image c : Image) (es : List (List ℕ)) → HoldsEntries (half_of live image) es → HoldsEntries (half_of (other live) image) []
-    → c ≡ image → SaysOnly (text_of image) c
+    → c ≡ image → SaysOnly (text_of image) (length (live_entries image)) c
 folds_here live image c es a b is =
-    let s = held_says live image es [] (concat es) a b (alone es) in
-    subst (λ (i : Image). SaysOnly (text_of image) i) (sym is) (record { sound = s.sound; says = refl })
+    let s = held_says live image es [] (concat es) (length es) a b (alone es) (alone_few es) in
+    subst (λ (i : Image). SaysOnly (text_of image) (length (live_entries image)) i) (sym is)
+    (record { sound = s.sound; says = refl; few = omega arith })
 
 other_twice : (half : Half) → other (other half) ≡ half
 other_twice A = refl
@@ -54,21 +56,31 @@ other_twice B = refl
 -- while the one entry is put into the other half
 pub fold_gain : (live spare : Half) (image c : Image) (es : List (List ℕ)) (text : List ℕ) → spare ≡ other live → HoldsEntries (half_of live image) es
     → HoldsEntries (half_of spare image) [] → text ≡ concat es → is_some_entry es ≡ true
-    → MayGain spare (half_entries (half_of spare image)) text (half_of (other spare) image) c → SaysOnly (text_of image) c
+    → MayGain spare (half_entries (half_of spare image)) text (half_of (other spare) image) c
+    → SaysOnly (text_of image) (length (live_entries image)) c
 fold_gain live spare image c es text e a b t some may =
     let none : half_entries (half_of spare image) ≡ [] = (holds_has (half_of spare image) [] b).has in
     let back : other spare ≡ live = ap other e ∙ other_twice live in
     let there : half_of live c ≡ half_of live image = subst (λ (h : Half). half_of h c ≡ half_of h image) back may.there in
     let lives : HoldsEntries (half_of live c) es = subst (λ (xs : List ℕ). HoldsEntries xs es) (sym there) a in
-    let was : text_of image ≡ concat es = text_is live image es a (subst (λ (h : Half). HoldsEntries (half_of h image) []) e b) in
-    let P : List ℕ → Type 0 = λ xs. SaysOnly xs c in
+    let none_there = subst (λ (h : Half). HoldsEntries (half_of h image) []) e b in
+    let was : text_of image ≡ concat es = text_is live image es a none_there in
+    let many = ap length (live_alone live image es a none_there) in
+    let most : ℕ = length (live_entries image) in
+    let P : List ℕ → Type 0 = λ xs. SaysOnly xs most c in
     subst P (sym was) (⊎_elim
-    (λ same. held_says live c es [] (concat es) lives
-    (subst (λ (h : Half). HoldsEntries (half_of h c) []) e (subst (λ (xs : List (List ℕ)). HoldsEntries (half_of spare c) xs) none same)) (alone es))
-    (λ more. held_says live c es (text ∷ []) (concat es) lives
+    (λ same. held_says live c es [] (concat es) most lives
+    (subst (λ (h : Half). HoldsEntries (half_of h c) []) e (subst (λ (xs : List (List ℕ)). HoldsEntries (half_of spare c) xs) none same)) (alone es)
+    (omega (arith, alone_few es, many)))
+    (λ more. held_says live c es (text ∷ []) (concat es) most lives
     (subst (λ (h : Half). HoldsEntries (half_of h c) (text ∷ [])) e
-    (subst (λ (xs : List (List ℕ)). HoldsEntries (half_of spare c) (xs ++ text ∷ [])) none more)) (beside_all es text t some))
+    (subst (λ (xs : List (List ℕ)). HoldsEntries (half_of spare c) (xs ++ text ∷ [])) none more)) (beside_all es text t some)
+    (omega (arith, beside_few es (text ∷ []) some, many)))
     may.here)
+
+some_long : (es : List (List ℕ)) → is_some_entry es ≡ true → 1 ≤ length es
+some_long [] some = absurd (cc)
+some_long (e ∷ es) some = omega arith
 
 -- and while the old ones are given up
 module _ (live spare : Half) (image mid : Image) (es : List (List ℕ)) (text : List ℕ) (e : spare ≡ other live) (a : HoldsEntries (half_of live image) es)
@@ -85,17 +97,22 @@ module _ (live spare : Half) (image mid : Image) (es : List (List ℕ)) (text : 
   was : text_of image ≡ concat es
   was = text_is live image es a (subst (λ (h : Half). HoldsEntries (half_of h image) []) e b)
 
-  lose : (c : Image) → MayLose live es (half_of (other live) mid) c → SaysOnly (text_of image) c
+  many : length es ≤ length (live_entries image)
+  many = omega (arith, ap length (live_alone live image es a (subst (λ (h : Half). HoldsEntries (half_of h image) []) e b)))
+
+  lose : (c : Image) → MayLose live es (half_of (other live) mid) c → SaysOnly (text_of image) (length (live_entries image)) c
   lose c may =
       let there : HoldsEntries (half_of (other live) c) (text ∷ []) = subst (λ (xs : List ℕ). HoldsEntries xs (text ∷ [])) (sym may.there) one in
-      let P : List ℕ → Type 0 = λ xs. SaysOnly xs c in
+      let P : List ℕ → Type 0 = λ xs. SaysOnly xs (length (live_entries image)) c in
       subst P (sym was) (⊎_elim
-      (λ same. held_says live c es (text ∷ []) (concat es) same there (beside_all es text t some))
-      (λ gone. held_says live c [] (text ∷ []) (concat es) gone there
-      (record { first = λ h. absurd (cc); second = λ _. append-nil text ∙ t; none = λ h k. absurd (cc) }))
+      (λ same. held_says live c es (text ∷ []) (concat es) (length (live_entries image)) same there (beside_all es text t some)
+      (omega (arith, beside_few es (text ∷ []) some, many)))
+      (λ gone. held_says live c [] (text ∷ []) (concat es) (length (live_entries image)) gone there
+      (record { first = λ h. absurd (cc); second = λ _. append-nil text ∙ t; none = λ h k. absurd (cc) })
+      (omega (arith, some_long es some, many)))
       may.here)
 
-  pub fold_lose : (c : Image) → MayShut live mid c → SaysOnly (text_of image) c
+  pub fold_lose : (c : Image) → MayShut live mid c → SaysOnly (text_of image) (length (live_entries image)) c
   fold_lose c (inl torn) = lose c (loses_first live mid c es still some torn)
   fold_lose c (inr cut) = lose c (loses_second live mid (with_half live (overwritten 8 (0 ∷ []) (half_of live mid)) mid) es still refl c cut)
 

@@ -6,12 +6,12 @@ use Rattle.disk_model.specs.declared.disk.Half.TheVariants.{A, B}
 use Rattle.disk_model.specs.Image.{Image}
 use Rattle.disk_model.specs.Disk.{TornWrite, OnHalf, Only, Follows, Elapses}
 use Rattle.disk_model.specs.Supply.{Supply, Draws}
-use Rattle.vote_journal.specs.Text.{HasBytes, half_entries, text_of, is_some_entry, IsSoundHalf, IsSound, SaysOnly, HoldsEntries, HalfHas, Agree}
+use Rattle.vote_journal.specs.Text.{HasBytes, half_entries, live_entries, text_of, is_some_entry, IsSoundHalf, IsSound, SaysOnly, HoldsEntries, HalfHas, Agree}
 use Rattle.vote_journal.specs.Runs.{Runs}
 use Rattle.vote_journal.specs.Steps.{BothTorn, MayStart, MayBegin, begun as begun_bytes, begun_half}
 use Rattle.vote_journal.proofs.Moments.{begun, one_call}
 use Rattle.vote_journal.proofs.Blocks.{short_has}
-use Rattle.vote_journal.proofs.Images.{image_says}
+use Rattle.vote_journal.proofs.Images.{image_says, live_count}
 use Rattle.vote_journal.proofs.Holding.{holding}
 
 torn_same : (at n : ℕ) (c : List ℕ) → TornWrite at n c c
@@ -68,10 +68,10 @@ agreed (e ∷ es) fs h = record { first = λ p. refl; second = λ p. sym (h refl
 pub sound_agree : (image : Image) → IsSound image → Agree (half_entries image.a) (half_entries image.b) (text_of image)
 sound_agree image sound = agreed (half_entries image.a) (half_entries image.b) sound.agree
 
-pub begin_says : (image c : Image) → IsSound image → MayBegin image c → SaysOnly (text_of image) c
+pub begin_says : (image c : Image) → IsSound image → MayBegin image c → SaysOnly (text_of image) (length (live_entries image)) c
 begin_says image c sound may =
-    image_says A c (half_entries image.a) (half_entries image.b) (text_of image) (starts_has image.a c.a sound.a may.a)
-    (starts_has image.b c.b sound.b may.b) (sound_agree image sound)
+    image_says A c (half_entries image.a) (half_entries image.b) (text_of image) (length (live_entries image)) (starts_has image.a c.a sound.a may.a)
+    (starts_has image.b c.b sound.b may.b) (sound_agree image sound) (omega (arith, live_count image))
 
 -- once it is begun a sound half holds its entries
 start_holds : HoldsEntries begun_bytes []

@@ -30,9 +30,9 @@ pub record IsStep {T D : Type 0} (seen : D → Image) (may_leave : D → Image �
   pub failed : IfErr result (HasReason faults explains old new)
   pub no_other : IfErr result (λ fault. fault ≡ NotAJournal → ⊥)
 
--- what might have been left before, or a sound image of this text
-abbrev pub LeftOrSays : (Image → Type 0) → List ℕ → Image → Type 0
-LeftOrSays may_leave text c = may_leave c ⊎ SaysOnly text c
+-- what might have been left before, or a sound image of this text, in so many entries at most
+abbrev pub LeftOrSays : (Image → Type 0) → List ℕ → ℕ → Image → Type 0
+LeftOrSays may_leave text most c = may_leave c ⊎ SaysOnly text most c
 
 -- Nothing was written: a read gives what it gave, all of it is durable, and a crash since then leaves what one before might have left.
 pub record IsUntouched {D : Type 0} (seen : D → Image) (may_leave : D → Image → Type 0) (moment : D → ℕ) (left_since : D → ℕ → Image → Type 0)

@@ -87,15 +87,17 @@ live_half image = live_by (half_entries image.a) (half_entries image.b)
 abbrev pub live_entries : Image → List (List ℕ)
 live_entries image = half_entries (half_of (live_half image) image)
 
--- a sound image of this text
-pub record SaysOnly (text : List ℕ) (image : Image) : Type 0 where
+-- a sound image of this text, in so many entries at most
+pub record SaysOnly (text : List ℕ) (most : ℕ) (image : Image) : Type 0 where
   pub sound : IsSound image
   pub says : text_of image ≡ text
+  pub few : length (live_entries image) ≤ most
 
--- a sound image of this text, or of this text and one payload more
-pub record SaysMaybe (text payload : List ℕ) (image : Image) : Type 0 where
+-- a sound image of this text, or of this text and one payload more, in so many entries at most
+pub record SaysMaybe (text payload : List ℕ) (most : ℕ) (image : Image) : Type 0 where
   pub sound : IsSound image
   pub says : (text_of image ≡ text) ⊎ (text_of image ≡ text ++ payload)
+  pub few : length (live_entries image) ≤ most
 
 -- the four bytes of a length
 abbrev pub size_bytes : ℕ → List ℕ

@@ -4,7 +4,7 @@ ghost use Rattle.std.specs.List.{concat};
 ghost use Rattle.disk_model.specs.Image.{half_of, other};
 ghost use Rattle.disk_model.specs.Disk.{Only};
 ghost use Rattle.vote_journal.specs.Runs.{IsStep};
-ghost use Rattle.vote_journal.specs.Text.{half_entries, entries_in, size_bytes, blocks, is_some_entry, text_of, HoldsEntries, SaysOnly};
+ghost use Rattle.vote_journal.specs.Text.{half_entries, entries_in, size_bytes, blocks, is_some_entry, text_of, live_entries, HoldsEntries, SaysOnly};
 ghost use Rattle.vote_journal.specs.Steps.{Folded};
 
 use crate::JournalFault;
@@ -70,7 +70,7 @@ pub(crate) fn fold_disk<D: Disk>(
     ensures framed { OnOk result (length framed.new.items ≡ 5 + length text.new.items) }
     ensures folded { OnOk result (Folded live text.new.items (D.seen disk.new)) }
     ensures step { IsStep D.seen D.may_leave D.moment D.left_since D.faults D.supply D.explains disk.old disk.new
-        (SaysOnly (text_of (D.seen disk.old))) result }
+        (SaysOnly (text_of (D.seen disk.old)) (length (live_entries (D.seen disk.old)))) result }
 {
     read_text(disk, live, half, text)?;
     frame_into(text, framed)?;

@@ -57,13 +57,13 @@ impl<D: Disk> Journal<D> {
         ensures foreign_stays { (is_foreign (D.seen disk).a || is_foreign (D.seen disk).b) ≡ true
             → (D.seen (disk_after result) ≡ D.seen disk) × LeavesOnly D.moment D.left_since disk (disk_after result) (D.may_leave disk) }
 
-        // Where nothing was pending, a crash at any moment of the call leaves a sound image of the same text.
+        // Where nothing was pending, a crash at any moment of the call leaves a sound image of the same text, in no more entries.
         ensures runs { Only (D.seen disk) (D.may_leave disk) → IsSound (D.seen disk)
-            → Runs D.moment D.left_since D.faults D.supply disk (disk_after result) (SaysOnly (text_of (D.seen disk))) }
+            → Runs D.moment D.left_since D.faults D.supply disk (disk_after result) (SaysOnly (text_of (D.seen disk)) (length (live_entries (D.seen disk)))) }
 
         // Whatever was pending, it leaves what one before the call may have left, or a sound image of the same text.
         ensures pending { IsSound (D.seen disk)
-            → Runs D.moment D.left_since D.faults D.supply disk (disk_after result) (LeftOrSays (D.may_leave disk) (text_of (D.seen disk))) }
+            → Runs D.moment D.left_since D.faults D.supply disk (disk_after result) (LeftOrSays (D.may_leave disk) (text_of (D.seen disk)) (length (live_entries (D.seen disk)))) }
         ensures supply { Draws (D.supply disk) (D.supply (disk_after result)) }
         ensures failed { IfErr result (λ refused. HasReason D.faults D.explains disk refused.0 refused.1) }
     {
@@ -114,10 +114,10 @@ impl<D: Disk> Journal<D> {
             → (D.seen (disk_of self.new) ≡ D.seen (disk_of self.old))
             × LeavesOnly D.moment D.left_since (disk_of self.old) (disk_of self.new) (D.may_leave (disk_of self.old)) }
         ensures runs { Only (D.seen (disk_of self.old)) (D.may_leave (disk_of self.old)) → IsSound (D.seen (disk_of self.old))
-            → Runs D.moment D.left_since D.faults D.supply (disk_of self.old) (disk_of self.new) (SaysOnly (text_of (D.seen (disk_of self.old)))) }
+            → Runs D.moment D.left_since D.faults D.supply (disk_of self.old) (disk_of self.new) (SaysOnly (text_of (D.seen (disk_of self.old))) (length (live_entries (D.seen (disk_of self.old))))) }
         ensures pending { IsSound (D.seen (disk_of self.old))
             → Runs D.moment D.left_since D.faults D.supply (disk_of self.old) (disk_of self.new)
-            (LeftOrSays (D.may_leave (disk_of self.old)) (text_of (D.seen (disk_of self.old)))) }
+            (LeftOrSays (D.may_leave (disk_of self.old)) (text_of (D.seen (disk_of self.old))) (length (live_entries (D.seen (disk_of self.old))))) }
         ensures supply { Draws (D.supply (disk_of self.old)) (D.supply (disk_of self.new)) }
         ensures failed { IfErr result (HasReason D.faults D.explains (disk_of self.old) (disk_of self.new)) }
     {
@@ -149,7 +149,7 @@ impl<D: Disk> Journal<D> {
         ensures spare { OnOk result (spare_bytes D.seen self.new ≡ spare_bytes D.seen self.old) }
         ensures text { OnOk result (text_of (D.seen (disk_of self.new)) ≡ text_of (D.seen (disk_of self.old)) ++ entry.now) }
         ensures step { IsStep D.seen D.may_leave D.moment D.left_since D.faults D.supply D.explains (disk_of self.old) (disk_of self.new)
-            (SaysMaybe (text_of (D.seen (disk_of self.old))) entry.now) result }
+            (SaysMaybe (text_of (D.seen (disk_of self.old))) entry.now (length (live_entries (D.seen (disk_of self.old))) + 1)) result }
     {
         let framed = frame(self.alloc, entry)?;
         add_entry(&mut self.disk, self.live, self.gate, entry, &framed)?;
@@ -170,7 +170,7 @@ impl<D: Disk> Journal<D> {
         ensures cut { OnOk result (length (spare_bytes D.seen self.new) ≡ 9) }
         ensures text { OnOk result (text_of (D.seen (disk_of self.new)) ≡ text_of (D.seen (disk_of self.old))) }
         ensures step { IsStep D.seen D.may_leave D.moment D.left_since D.faults D.supply D.explains (disk_of self.old) (disk_of self.new)
-            (SaysOnly (text_of (D.seen (disk_of self.old)))) result }
+            (SaysOnly (text_of (D.seen (disk_of self.old))) (length (live_entries (D.seen (disk_of self.old))))) result }
     {
         let mut half = vec![in self.alloc; 0; self.gate as usize + 1]?;
         let mut text = Vec::with_capacity(self.alloc, self.bytes as usize)?;

@@ -34,8 +34,8 @@ pub fn usable_laws<D: Disk>()
 /// A crash at this moment is one of those since an earlier moment: what `recover`, `append` and `fold` say of all images
 /// since then, ended well or failed, holds of what is left now.
 pub fn crash_laws<D: Disk>()
-    ensures only { (old new : D) (text : List ℕ) (left : Image) → LeavesOnly D.moment D.left_since old new (SaysOnly text)
-        → D.may_leave new left → SaysOnly text left }
-    ensures maybe { (old new : D) (text payload : List ℕ) (left : Image) → LeavesOnly D.moment D.left_since old new (SaysMaybe text payload)
-        → D.may_leave new left → SaysMaybe text payload left }
+    ensures only { (old new : D) (text : List ℕ) (most : ℕ) (left : Image) → LeavesOnly D.moment D.left_since old new (SaysOnly text most)
+        → D.may_leave new left → SaysOnly text most left }
+    ensures maybe { (old new : D) (text payload : List ℕ) (most : ℕ) (left : Image) → LeavesOnly D.moment D.left_since old new (SaysMaybe text payload most)
+        → D.may_leave new left → SaysMaybe text payload most left }
 {}

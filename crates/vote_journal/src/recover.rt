@@ -123,9 +123,9 @@ pub(crate) fn open<D: Disk>(alloc: Global, disk: &mut D) -> Result<Opened, Journ
     ensures arranged { OnOk result (IsSound (D.seen disk.old) → Arranged (live_half (D.seen disk.old)) (D.seen disk.old) (D.seen disk.new)) }
     ensures durable { OnOk result (Only (D.seen disk.new) (D.may_leave disk.new)) }
     ensures runs { Only (D.seen disk.old) (D.may_leave disk.old) → IsSound (D.seen disk.old)
-        → Runs D.moment D.left_since D.faults D.supply disk.old disk.new (SaysOnly (text_of (D.seen disk.old))) }
+        → Runs D.moment D.left_since D.faults D.supply disk.old disk.new (SaysOnly (text_of (D.seen disk.old)) (length (live_entries (D.seen disk.old)))) }
     ensures pending { IsSound (D.seen disk.old)
-        → Runs D.moment D.left_since D.faults D.supply disk.old disk.new (LeftOrSays (D.may_leave disk.old) (text_of (D.seen disk.old))) }
+        → Runs D.moment D.left_since D.faults D.supply disk.old disk.new (LeftOrSays (D.may_leave disk.old) (text_of (D.seen disk.old)) (length (live_entries (D.seen disk.old)))) }
     ensures untouched { IfErr result (λ fault. fault ≡ JournalFault.NotAJournal
         → IsUntouched D.seen D.may_leave D.moment D.left_since disk.old disk.new) }
     ensures foreign_stays { (is_foreign (D.seen disk.old).a || is_foreign (D.seen disk.old).b) ≡ true

@@ -22,8 +22,8 @@ returns-in_err-rebuild g c =
     rw (p.1, p.2) (record {
       terms = c.in_err-rebuild.ensures.terms;
       seat = seat_still g.met.B.Book.stays c.requires.seat (λ h. cc (h));
-      safe = safe_all t posts c.args.votes.now c.requires.usable c.requires.all;
-      usable = tt;
+      safe = safe_all t posts c.args.votes.now c.requires.ready c.requires.all;
+      ready = tt;
       opened = tt;
       few = λ most one few. few;
       disk = disk_still (λ h. cc (h));
@@ -40,7 +40,7 @@ cast-requires g c =
     record {
       seat = c.requires.seat;
       is = subst (λ (v : Terms). IsOf v (b.config c.args.seat.now) (b.node c.args.seat.now) (b.actor c.args.seat.now)) (sym made.terms) c.requires.is;
-      usable = c.requires.usable;
+      ready = c.requires.ready;
       opened = (c.args.votes.now, may.0, may.1);
     }
 
@@ -64,7 +64,7 @@ returns g c =
       seat = subst (λ (v : Terms). SeatGoes b.config b.node b.actor b.seen b.knows b.moved v c.args.seat.now c.cast.new.seat c.args.book.now c.cast.new.book
           c.args.out.now c.cast.new.out c.cast.result) made.terms did.seat;
       safe = subst (λ (v : Terms). IsSafe v new (d.may_leave (disk_of c.cast.new.journal))) made.terms did.safe;
-      usable = did.usable;
+      ready = did.ready;
       opened = on_ok_weaker c.cast.result (λ all. open_cast t u new (text_of (d.seen (disk_of c.cast.new.journal))) (g.C.Core.stands c.rebuild.new.self) votes due []
           made.terms c.requires.lawful due_is made.stands (all votes may.0 may.1)) did.all;
       few = λ most one few.

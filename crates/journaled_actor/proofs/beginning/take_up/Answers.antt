@@ -24,7 +24,7 @@ returns-in_err-votes g c =
       terms = refl;
       seat = seat_still g.met.B.Book.stays c.requires.seat (other_still did.other);
       safe = did.safe posts c.requires.safe;
-      usable = tt;
+      ready = tt;
       opened = tt;
       few = λ most few. few_more t posts most few;
       disk = disk_again did.disk;
@@ -55,8 +55,8 @@ returns-in_err-post_all g c =
     rw (p.1, p.2) (record {
       terms = refl;
       seat = did.seat;
-      safe = safe_covered t new votes read.usable (read.text ∙ ap payload (sym c.deref.ensures.value)) (did.covers [] (turn_begins t old votes covers));
-      usable = tt;
+      safe = safe_covered t new votes read.ready (read.text ∙ ap payload (sym c.deref.ensures.value)) (did.covers [] (turn_begins t old votes covers));
+      ready = tt;
       opened = tt;
       few = λ most few. few_again t old old new votes most covers.are did.cast few;
       disk = disk_done read.disk did.other;
@@ -80,7 +80,7 @@ begin-requires g c =
       seat = did.seat.stays;
       is = is_still c.requires.is did.seat.same;
       lawful = c.requires.lawful;
-      usable = read.usable;
+      ready = read.ready;
       all = subst (λ (xs : List Vote). IsAll t new (text_of (g.D.Disk.seen (disk_of c.read_back.new.journal))) xs)
           (c.deref.ensures.value ∙ sym c.deref-2.ensures.value) all;
     }
@@ -98,7 +98,7 @@ returns g c =
       terms = begun.terms;
       seat = seat_then g.met.B.Book.goes_on did.seat begun.seat;
       safe = begun.safe;
-      usable = begun.usable;
+      ready = begun.ready;
       opened = begun.opened;
       few = λ most few. begun.few (most + 1) (omega arith) (few_again t old old (g.B.Book.seen c.post_all.new.seat) votes most covers.are did.cast few);
       disk = disk_then read.disk begun.disk;

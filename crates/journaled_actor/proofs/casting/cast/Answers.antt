@@ -8,7 +8,7 @@ use Rattle.hb_rules.specs.Terms.{AreSpelled}
 use Rattle.journaled_actor.specs.Folding.{folded_if_full}
 use Rattle.journaled_actor.specs.Payload.{payload, AreWritten}
 use Rattle.journaled_actor.proofs.Going.{seat_still, disk_still, disk_done}
-use Rattle.journaled_actor.proofs.Left.{always_ok, safe_covered, safe_all, spelled_due, cast_none, all_as_before, all_cast, nothing_in, something, entries_same, entries_more}
+use Rattle.journaled_actor.proofs.Left.{always_ok, ready_most, safe_covered, safe_all, spelled_due, cast_none, all_as_before, all_cast, nothing_in, something, entries_same, entries_more}
 use Rattle.journaled_actor.proofs.Safe.{safe_maybe, payload_append}
 use Rattle.hb_rules.proofs.Turns.{turn_after}
 use Rattle.journaled_actor.proofs.casting.cast.Goals as goal
@@ -19,8 +19,8 @@ returns-then-is_empty g c =
     let posts = g.B.Book.seen c.args.seat.now in
     record {
       seat = seat_still g.met.B.Book.stays c.requires.seat (λ h. cc (h));
-      safe = safe_all t posts c.requires.opened.0 c.requires.usable c.requires.opened.1;
-      usable = c.requires.usable;
+      safe = safe_all t posts c.requires.opened.0 c.requires.ready c.requires.opened.1;
+      ready = c.requires.ready;
       all = λ votes all are. all_as_before t posts (text_of (g.D.Disk.seen (disk_of c.args.journal.now))) votes c.args.due.now (nothing_in c.args.due.now (sym c.if-is_empty.ensures)) all;
       entries = sym (entries_same (entries_in_journal g.D.Disk.seen c.args.journal.now) c.args.due.now (nothing_in c.args.due.now (sym c.if-is_empty.ensures)));
       nothing = λ _. (refl, refl);
@@ -41,8 +41,8 @@ returns-in_err-text g c =
     let p = err_from_is_err_and c.from_residual.result c.from_residual.ensures.1 in
     rw (p.1, p.2) (record {
       seat = seat_still g.met.B.Book.stays c.requires.seat (λ h. cc (h));
-      safe = safe_all t posts c.requires.opened.0 c.requires.usable c.requires.opened.1;
-      usable = tt;
+      safe = safe_all t posts c.requires.opened.0 c.requires.ready c.requires.opened.1;
+      ready = tt;
       all = tt;
       entries = tt;
       nothing = λ none. absurd (something c.args.due.now (sym c.if-is_empty.ensures) none);
@@ -59,8 +59,9 @@ returns-in_err-keep g c =
     rw (p.1, p.2) (record {
       seat = seat_still g.met.B.Book.stays c.requires.seat did.other;
       safe = safe_maybe t posts (g.D.Disk.may_leave (disk_of c.keep.new.journal)) (text_of (g.D.Disk.seen (disk_of c.args.journal.now))) c.deref.result.now
-          c.requires.opened.0 c.args.due.now c.requires.opened.1 c.requires.opened.2 (c.deref.ensures.value ∙ c.in_ok-text.ensures.text) did.images;
-      usable = tt;
+          _
+          c.requires.opened.0 c.args.due.now c.requires.opened.1 c.requires.opened.2 (c.deref.ensures.value ∙ c.in_ok-text.ensures.text) (ready_most c.requires.ready) did.images;
+      ready = tt;
       all = tt;
       entries = tt;
       nothing = λ none. absurd (something c.args.due.now (sym c.if-is_empty.ensures) none);
@@ -96,9 +97,9 @@ returns g c =
     ∙ ap (λ (xs : List ℕ). payload votes ++ xs) (c.deref.ensures.value ∙ c.in_ok-text.ensures.text) ∙ sym (payload_append votes due) in
     record {
       seat = did.seat;
-      safe = safe_covered t new (c.requires.opened.0 ++ due) kept.usable (says_of c.requires.opened.0 c.requires.opened.1.says)
+      safe = safe_covered t new (c.requires.opened.0 ++ due) kept.ready (says_of c.requires.opened.0 c.requires.opened.1.says)
           (did.covers c.requires.opened.0 (turn_after t old c.requires.opened.0 due c.requires.opened.2 c.requires.opened.1.complete));
-      usable = always_ok c.post_all.result kept.usable;
+      ready = always_ok c.post_all.result kept.ready;
       all = on_ok_weaker c.post_all.result (λ complete votes all are.
           all_cast t old new text now votes due did.seat.longer all are (says_of votes all.says) complete) did.all;
       entries = always_ok c.post_all.result (kept.entries

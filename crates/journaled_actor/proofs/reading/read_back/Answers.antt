@@ -1,4 +1,4 @@
-use Rattle.std.proofs.Common.{◌≡◌, List, ap, ◌∙◌, subst}
+use Rattle.std.proofs.Common.{◌≡◌, List, length, ap, ◌∙◌, subst}
 use Rattle.std.proofs.lemmas.Result.{err_from_is_err_and}
 use Rattle.std.specs.List.{concat}
 use Rattle.hb_base.specs.Numbers.{Numbers}
@@ -9,6 +9,7 @@ use Rattle.journaled_actor.specs.Kept.{Covers, IsSafe}
 use Rattle.journaled_actor.specs.Payload.{payload, AreWritten}
 use Rattle.journaled_actor.proofs.Going.{disk_failed, fault_not_full}
 use Rattle.journaled_actor.proofs.Left.{reopened, votes_read}
+use Rattle.journaled_actor.proofs.Safe.{few_same}
 use Rattle.journaled_actor.proofs.reading.read_back.Goals as goal
 
 pub returns-in-Err : goal.returns-in-Err
@@ -27,7 +28,7 @@ returns-in-Err g c =
       safe = safe;
       covers = tt;
       text = tt;
-      usable = tt;
+      ready = tt;
       written = tt;
       disk = disk_failed runs.draws runs.faults_stay did.failed (did.no_foreign sound);
       other = fault_not_full c.in-Err.fault;
@@ -50,7 +51,7 @@ returns-in_err-text g c =
       safe = safe;
       covers = tt;
       text = tt;
-      usable = tt;
+      ready = tt;
       written = tt;
       disk = record { draws = runs.draws; no_fewer = runs.faults_stay; failed = λ h. absurd (cc (h)) };
       other = λ h. cc (h);
@@ -73,7 +74,7 @@ returns-in_err-read_votes g c =
       safe = safe;
       covers = tt;
       text = tt;
-      usable = tt;
+      ready = tt;
       written = tt;
       disk = record { draws = runs.draws; no_fewer = runs.faults_stay; failed = λ h. absurd (cc (h)) };
       other = λ h. cc (h);
@@ -101,7 +102,10 @@ returns g c =
       safe = safe;
       covers = λ posts before. (read posts before).0;
       text = did.text sound ∙ (read c.requires.safe.0 c.requires.safe.1).1;
-      usable = did.usable sound;
+      ready = record {
+        usable = did.usable sound;
+        few = few_same _ _ _ _ (ap length (did.same sound)) (did.text sound) (c.requires.safe.1 (d.seen old) (m.seen_may_stay old)).few;
+      };
       written = subst (λ (n : Numbers). AreWritten n c.in_ok-read_votes.field-0.items) c.config.ensures found.written;
       disk = record { draws = runs.draws; no_fewer = runs.faults_stay; failed = λ h. absurd (cc (h)) };
       other = λ h. cc (h);

@@ -37,9 +37,9 @@ returns-in_err-receive g c =
     rw (p.1, p.2) (record {
       terms = did.terms;
       seat = seat_watched c.requires.is did.seat did.same did.moved did.watched (λ h. cc (h));
-      safe = safe_all t new c.requires.opened.votes c.requires.usable
+      safe = safe_all t new c.requires.opened.votes c.requires.ready
           (all_watched t old new (text_of (g.D.Disk.seen (disk_of c.args.journal.now))) c.requires.opened.votes prefix same c.requires.opened.all);
-      usable = tt;
+      ready = tt;
       opened = tt;
       got = tt;
       kept = did.kept;
@@ -75,7 +75,7 @@ cast-requires g c =
     record {
       seat = did.seat;
       is = subst (λ (v : Terms). IsOf v (b.config r) (b.node r) (b.actor r)) (sym did.terms) (is_still c.requires.is did.same);
-      usable = c.requires.usable;
+      ready = c.requires.ready;
       opened = (votes, may.0, may.1);
     }
 
@@ -113,7 +113,7 @@ returns g c =
           (subst (λ (v : Terms). SeatGoes b.config b.node b.actor b.seen b.knows b.moved v r c.cast.new.seat c.receive.new.book c.cast.new.book
           c.args.out.now c.cast.new.out c.cast.result) did.terms cast.seat);
       safe = subst (λ (v : Terms). IsSafe v new (g.D.Disk.may_leave (disk_of c.cast.new.journal))) did.terms cast.safe;
-      usable = cast.usable;
+      ready = cast.ready;
       opened = on_ok_weaker c.cast.result (λ whole. open_step t u old mid new now (g.C.Core.stands c.receive.new.core) got c.args.k votes due heard did.terms
           c.requires.lawful prefix cast.seat.longer c.requires.got c.requires.post heard_is due_is hears.holds (whole votes may.0 may.1)) cast.all;
       got = always_ok c.cast.result did.got;

@@ -1,8 +1,8 @@
-use Rattle.std.proofs.Common.{◌≡◌, ◌∙◌, inl, inr, ℕ, Bool, ◌&&◌, List, ap, sym, subst, Result, Ok, Err, IfErr, IsErrAnd}
+use Rattle.std.proofs.Common.{◌≡◌, ◌∙◌, inl, inr, ℕ, Bool, ◌&&◌, List, length, ap, sym, subst, Result, Ok, Err, IfErr, IsErrAnd}
 use Rattle.disk_model.specs.declared.disk.Half.{Half}
 use Rattle.disk_model.specs.Image.{Image, other}
 use Rattle.vote_journal.specs.declared.fault.JournalFault.{JournalFault}
-use Rattle.vote_journal.specs.Text.{text_of, half_entries, is_some_entry, IsSound, SaysOnly}
+use Rattle.vote_journal.specs.Text.{text_of, half_entries, live_half, live_entries, is_some_entry, IsSound, SaysOnly}
 use Rattle.vote_journal.specs.Steps.{IsFoundIn, MayArrange, arranged}
 use Rattle.vote_journal.proofs.Moments.{weaker, more_calls}
 use Rattle.vote_journal.proofs.Arranges.{arrange_says, arranged_holds, live_found, both_found, sound_says}
@@ -21,9 +21,10 @@ module _ (old : Image) {es fs xs ys : List (List ℕ)} {gate bytes gate' bytes' 
   found_both = is ∙ both_found old xs ys (lent_a ∙ a.is) (lent_b ∙ b.is)
 
   -- what arranging the halves of a sound disk may leave says its text
-  says_text : {spare : Half} {now : Image} → now ≡ old → IsSound old → (c : Image) → MayArrange both spare now c → SaysOnly (text_of old) c
-  says_text {spare} same sound c may =
-      arrange_says both spare old c a.are_bytes b.are_bytes sound found_both (subst (λ (i : Image). MayArrange both spare i c) same may)
+  says_text : {spare : Half} {now : Image} → spare ≡ other (live_half old) → now ≡ old → IsSound old → (c : Image) → MayArrange both spare now c
+      → SaysOnly (text_of old) (length (live_entries old)) c
+  says_text {spare} beside same sound c may =
+      arrange_says both spare old c beside a.are_bytes b.are_bytes sound found_both (subst (λ (i : Image). MayArrange both spare i c) same may)
 
 pub returns-clause-arranged : goal.returns-clause-arranged
 returns-clause-arranged g c = λ sound.
@@ -40,15 +41,19 @@ pub returns-in_err-arrange-clause-runs : goal.returns-in_err-arrange-clause-runs
 returns-in_err-arrange-clause-runs g c = λ only sound.
     let old = g.D.Disk.seen c.args.disk.now in
     let found = c.in_ok-found.ensures in
+    let beside = c.other.ensures ∙ ap other (c.live_of-live.ensures
+    ∙ live_found old c.deref.result.now c.deref-2.result.now (c.deref.ensures.value ∙ found.a.is) (c.deref-2.ensures.value ∙ found.b.is)) in
     more_calls c.survey.ensures.runs c.arrange.ensures.step.runs (λ image left. sound_says old image sound (only image left))
-    (says_text old found.a found.b c.deref-3.ensures.value c.deref-4.ensures.value c.have_both-both.ensures c.survey.ensures.seen sound)
+    (says_text old found.a found.b c.deref-3.ensures.value c.deref-4.ensures.value c.have_both-both.ensures beside c.survey.ensures.seen sound)
 
 pub returns-clause-runs : goal.returns-clause-runs
 returns-clause-runs g c = λ only sound.
     let old = g.D.Disk.seen c.args.disk.now in
     let found = c.in_ok-found.ensures in
+    let beside = c.other.ensures ∙ ap other (c.live_of-live.ensures
+    ∙ live_found old c.deref.result.now c.deref-2.result.now (c.deref.ensures.value ∙ found.a.is) (c.deref-2.ensures.value ∙ found.b.is)) in
     more_calls c.survey.ensures.runs c.arrange.ensures.step.runs (λ image left. sound_says old image sound (only image left))
-    (says_text old found.a found.b c.deref-3.ensures.value c.deref-4.ensures.value c.have_both-both.ensures c.survey.ensures.seen sound)
+    (says_text old found.a found.b c.deref-3.ensures.value c.deref-4.ensures.value c.have_both-both.ensures beside c.survey.ensures.seen sound)
 
 pub returns-in_err-found-clause-pending : goal.returns-in_err-found-clause-pending
 returns-in_err-found-clause-pending g c = λ sound. weaker c.survey.ensures.runs (λ image left. inl left)
@@ -57,14 +62,18 @@ pub returns-in_err-arrange-clause-pending : goal.returns-in_err-arrange-clause-p
 returns-in_err-arrange-clause-pending g c = λ sound.
     let old = g.D.Disk.seen c.args.disk.now in
     let found = c.in_ok-found.ensures in
-    let says = says_text old found.a found.b c.deref-3.ensures.value c.deref-4.ensures.value c.have_both-both.ensures c.survey.ensures.seen sound in
+    let beside = c.other.ensures ∙ ap other (c.live_of-live.ensures
+    ∙ live_found old c.deref.result.now c.deref-2.result.now (c.deref.ensures.value ∙ found.a.is) (c.deref-2.ensures.value ∙ found.b.is)) in
+    let says = says_text old found.a found.b c.deref-3.ensures.value c.deref-4.ensures.value c.have_both-both.ensures beside c.survey.ensures.seen sound in
     more_calls c.survey.ensures.runs c.arrange.ensures.step.runs (λ image left. inl left) (λ image may. inr (says image may))
 
 pub returns-clause-pending : goal.returns-clause-pending
 returns-clause-pending g c = λ sound.
     let old = g.D.Disk.seen c.args.disk.now in
     let found = c.in_ok-found.ensures in
-    let says = says_text old found.a found.b c.deref-3.ensures.value c.deref-4.ensures.value c.have_both-both.ensures c.survey.ensures.seen sound in
+    let beside = c.other.ensures ∙ ap other (c.live_of-live.ensures
+    ∙ live_found old c.deref.result.now c.deref-2.result.now (c.deref.ensures.value ∙ found.a.is) (c.deref-2.ensures.value ∙ found.b.is)) in
+    let says = says_text old found.a found.b c.deref-3.ensures.value c.deref-4.ensures.value c.have_both-both.ensures beside c.survey.ensures.seen sound in
     more_calls c.survey.ensures.runs c.arrange.ensures.step.runs (λ image left. inl left) (λ image may. inr (says image may))
 
 pub returns-in_err-found-clause-untouched : goal.returns-in_err-found-clause-untouched

@@ -2,7 +2,8 @@ use Rattle.std.proofs.Common.{◌≡◌, ℕ, ◌+◌, ◌≤◌, inl, inr, true
 use Rattle.hb_base.specs.Outside.{Rose}
 use Rattle.std.proofs.lemmas.Result.{err_from_is_err_and}
 use Rattle.vote_journal.specs.Text.{text_of}
-use Rattle.vote_journal.specs.Usable.{IsUsable, disk_of}
+use Rattle.vote_journal.specs.Usable.{disk_of}
+use Rattle.journaled_actor.specs.Folding.{IsReady}
 use Rattle.disk_model.specs.Supply.{Draws}
 use Rattle.hb_rules.specs.Actor.{AreSeen, Goes, IsStillOff, IsOnAgain, budget}
 use Rattle.hb_base.specs.Limits.{most_stops}
@@ -29,7 +30,7 @@ invariant_of-self g c =
     let now = b.seen i.seat in
     let same = c.in_err-switch_on.ensures.refused in
     kept_by t t _ _ _ _ _ _ now (d.may_leave (disk_of c.switch_on.new.self)) (d.supply (disk_of c.switch_on.new.self))
-    (λ (u : Terms). IsUsable d.seen d.may_leave c.switch_on.new.self
+    (λ (u : Terms). IsReady d.seen d.may_leave c.switch_on.new.self
     × IsOpen u now (text_of (d.seen (disk_of c.switch_on.new.self))) (g.C.Core.stands i.core) (heard_got u now i.got.items))
     false i.got.items i.restarts refl holds.is (refl, refl, refl) holds.lawful
     (along (sym same) (λ disk. IsSafe t now (d.may_leave disk)) holds.safe) holds.few
@@ -97,7 +98,7 @@ invariant_of-self-2 g c =
     let got = c.clear.new.self.items in
     let none : got ≡ [] = c.clear.ensures.items in
     kept_by t (g.C.Core.terms c.take_up-begun.new.core) _ _ _ _ _ _ now (d.may_leave (disk_of journal)) (d.supply (disk_of journal))
-    (λ (u : Terms). IsUsable d.seen d.may_leave journal
+    (λ (u : Terms). IsReady d.seen d.may_leave journal
     × IsOpen u now (text_of (d.seen (disk_of journal))) (g.C.Core.stands c.take_up-begun.new.core) (heard_got u now got))
     c.is_ok-self-inside.result got (i.restarts + 1) did.terms holds.is did.seat.same holds.lawful did.safe
     (few_within t now (1 + i.restarts + 1) (1 + (i.restarts + 1)) (omega arith) (did.few (1 + i.restarts) holds.few))
@@ -109,7 +110,7 @@ invariant_of-self-2 g c =
     (along (sym none) (AreSeen t now) (λ k stands. absurd (omega (arith, stands.1))))
     (λ live.
     let ok = sym c.is_ok-self-inside.ensures.value ∙ live in (
-      when_ok c.take_up-begun.result _ did.usable ok,
+      when_ok c.take_up-begun.result _ did.ready ok,
       along (sym none) (λ (ks : List ℕ). IsOpen t now (text_of (d.seen (disk_of journal))) (g.C.Core.stands c.take_up-begun.new.core) (heard_got t now ks))
           (when_ok c.take_up-begun.result _ did.opened ok),
     ))

@@ -1,7 +1,8 @@
 use Rattle.std.proofs.Common.{◌≡◌, ℕ, ◌+◌, true, List, refl, sym, ◌∙◌, arith}
 use Rattle.hb_base.specs.Outside.{Rose}
 use Rattle.vote_journal.specs.Text.{text_of}
-use Rattle.vote_journal.specs.Usable.{IsUsable, disk_of}
+use Rattle.vote_journal.specs.Usable.{disk_of}
+use Rattle.journaled_actor.specs.Folding.{IsReady}
 use Rattle.hb_rules.specs.Actor.{Goes}
 use Rattle.hb_rules.specs.Terms.{Terms, heard_got}
 use Rattle.journaled_actor.specs.Going.{SeatGoes}
@@ -30,7 +31,7 @@ invariant_of-self g c =
     let journal = c.take_up-begun.new.journal in
     let fresh = holds.fresh (along (sym c.self.view_is) (λ a. a.fresh ≡ true) c.requires.fresh) in
     kept_by t (g.C.Core.terms c.take_up-begun.new.core) _ _ _ _ _ _ now (d.may_leave (disk_of journal)) (d.supply (disk_of journal))
-    (λ (u : Terms). IsUsable d.seen d.may_leave journal
+    (λ (u : Terms). IsReady d.seen d.may_leave journal
     × IsOpen u now (text_of (d.seen (disk_of journal))) (g.C.Core.stands c.take_up-begun.new.core) (heard_got u now i.got.items))
     c.is_ok-self-inside.result i.got.items i.restarts did.terms holds.is did.seat.same holds.lawful did.safe
     (few_within t now (0 + 1) (1 + i.restarts) (omega arith) (did.few 0 (few_none t (b.seen i.seat) fresh.2)))
@@ -38,7 +39,7 @@ invariant_of-self g c =
     (seen_longer t (b.seen i.seat) now i.got.items did.seat.longer holds.received)
     (λ live.
     let ok = sym c.is_ok-self-inside.ensures.value ∙ live in (
-      when_ok c.take_up-begun.result _ did.usable ok,
+      when_ok c.take_up-begun.result _ did.ready ok,
       along (sym fresh.0) (λ (got : List ℕ). IsOpen t now (text_of (d.seen (disk_of journal))) (g.C.Core.stands c.take_up-begun.new.core) (heard_got t now got))
           (when_ok c.take_up-begun.result _ did.opened ok),
     ))

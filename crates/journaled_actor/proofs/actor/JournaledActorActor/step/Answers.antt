@@ -2,7 +2,8 @@ use Rattle.std.proofs.Common.{OnOk, ◌≡◌, ℕ, ◌+◌, ◌⊎◌, true, Li
 use Rattle.hb_base.specs.Numbers.{Numbers}
 use Rattle.hb_base.specs.Outside.{Rose}
 use Rattle.vote_journal.specs.Text.{text_of}
-use Rattle.vote_journal.specs.Usable.{IsUsable, disk_of}
+use Rattle.vote_journal.specs.Usable.{disk_of}
+use Rattle.journaled_actor.specs.Folding.{IsReady}
 use Rattle.hb_rules.specs.Actor.{Goes, ReachesActor}
 use Rattle.hb_rules.specs.Terms.{Terms, heard_got}
 use Rattle.journaled_actor.specs.Going.{SeatGoes}
@@ -24,7 +25,7 @@ advance-heard-requires g c =
       post = at_terms (g.C.Core.terms i.core) (b.config i.seat) (b.node i.seat) (b.actor i.seat) holds.is
           (λ (d : Numbers) (j x : ℕ). ReachesActor d (b.seen i.seat) j x c.args.k)
           (along (sym c.self.view_is) (λ a. ReachesActor (b.config a.seat) (b.seen a.seat) (b.node a.seat) (b.actor a.seat) c.args.k) c.requires.post);
-      usable = live.0;
+      ready = live.0;
       got = holds.received;
       opened = live.1;
     }
@@ -44,7 +45,7 @@ invariant_of-self g c =
     (λ (d : Numbers) (j x : ℕ). ReachesActor d (b.seen i.seat) j x c.args.k)
     (along (sym c.self.view_is) (λ a. ReachesActor (b.config a.seat) (b.seen a.seat) (b.node a.seat) (b.actor a.seat) c.args.k) c.requires.post) in
     kept_by t (g.C.Core.terms c.advance-heard.new.core) _ _ _ _ _ _ now (d.may_leave (disk_of journal)) (d.supply (disk_of journal))
-    (λ (u : Terms). IsUsable d.seen d.may_leave journal
+    (λ (u : Terms). IsReady d.seen d.may_leave journal
     × IsOpen u now (text_of (d.seen (disk_of journal))) (g.C.Core.stands c.advance-heard.new.core) (heard_got u now got))
     c.is_ok-self-inside.result got i.restarts did.terms holds.is did.seat.same holds.lawful did.safe
     (did.few (1 + i.restarts) (omega arith) holds.few)
@@ -52,7 +53,7 @@ invariant_of-self g c =
     (seen_either t (b.seen i.seat) now i.got.items got c.args.k did.seat.longer holds.received there did.kept)
     (λ live.
     let ok = sym c.is_ok-self-inside.ensures.value ∙ live in (
-      when_ok c.advance-heard.result _ did.usable ok,
+      when_ok c.advance-heard.result _ did.ready ok,
       along (sym (when_ok c.advance-heard.result _ did.got ok))
           (λ (ks : List ℕ). IsOpen t now (text_of (d.seen (disk_of journal))) (g.C.Core.stands c.advance-heard.new.core) (heard_got t now ks))
           (when_ok c.advance-heard.result _ did.opened ok),
