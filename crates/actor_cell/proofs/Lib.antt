@@ -1,3 +1,6 @@
 pub mod Places
 pub mod Puts
 pub mod Deals
+pub mod Mailing
+pub mod Hearings
+pub mod Sendings

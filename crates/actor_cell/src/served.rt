@@ -1,0 +1,12 @@
+//! What a turn of an actor did.
+
+/// What a turn of an actor did.
+#[derive(Clone, Copy, Debug, PartialEq, Eq)]
+pub enum Served {
+    /// Nothing: its mailbox was empty at a step of the turn, and nothing is held back.
+    Idle,
+    /// It took one number, and heard its post or threw it away.
+    Did,
+    /// Nothing: the actor had ended before.
+    Ended,
+}
