@@ -29,8 +29,8 @@ pub fn check(alloc: Global, root: &[u8; 32], k: u8, shards: &[Bytes]) -> Result<
     }
 }
 
-// The tree over shards.
-pub(crate) fn tree_over(alloc: Global, shards: &[Bytes]) -> Result<Tree, AllocError>
+/// The tree over shards, 1 to 16. Err where there is no memory.
+pub fn tree_over(alloc: Global, shards: &[Bytes]) -> Result<Tree, AllocError>
     requires some { 1 ≤ length shards.now }
     requires few { length shards.now ≤ most_nodes }
     ensures { IfOk result (λ tree. tree ≡ leaf_digests shards.now) }
@@ -42,9 +42,9 @@ pub(crate) fn tree_over(alloc: Global, shards: &[Bytes]) -> Result<Tree, AllocEr
     Tree::build(alloc, &leaves)
 }
 
-// The value to which k shards rebuild, each given with its node: none where their lengths differ or the codeword with
-// these has another root.
-pub(crate) fn value_through(
+/// The value to which k shards rebuild, each given with its node: none where their lengths differ or the codeword with
+/// these has another root. Err where there is no memory.
+pub fn value_through(
     alloc: Global,
     config: &Config,
     root: &[u8; 32],

@@ -11,5 +11,5 @@ mod roots;
 mod tests;
 
 pub use answer::Check;
-pub use checking::check;
+pub use checking::{check, tree_over, value_through};
 pub use rbc::Rbc;

@@ -1,0 +1,7 @@
+use Rattle.std.proofs.Common.{take}
+use Rattle.claim_count.proofs.Counted.{AreCounted}
+use Rattle.claim_count.proofs.count.count_claims.Given as goal
+
+-- the nodes of which the claim was heard before this hearing
+abbrev pub invariant-loop-said : goal.invariant-loop-said
+invariant-loop-said g l = AreCounted l.fn.n (g.C.Claim.makes l.claim) (take l.said-index l.heard) l.voters
