@@ -1,20 +1,19 @@
-ghost use Rattle.std.specs.Prelude.{◌≡◌, ℕ, ◌-◌, ◌<◌, ◌≤◌, Bool, not, ◌&&◌, ◌||◌, true, false, nat_le, List, [], ◌∷◌, ◌++◌, length, replicate};
+ghost use Rattle.std.specs.Prelude.{◌≡◌, ◌-◌, ◌<◌, ◌≤◌, ◌&&◌, ◌||◌, true, false, List, [], ◌++◌, length, replicate};
 ghost use Rattle.std.specs.Prelude.{IfOk, OnOk, OnErr, IsOk, None, Some};
 ghost use Rattle.std.specs.Option.{option_map, option_to_list};
 ghost use Rattle.std.specs.List.{list_any, filter};
-ghost use Rattle.hb_base.specs.Counting.{count_nodes};
 ghost use Rattle.hb_wire.specs.declared.vote.Vote.{Vote};
 ghost use Rattle.hb_wire.specs.declared.vote.Vote.TheVariants.{Decided, Delivered, NoMore, Closed};
-ghost use Rattle.hb_rules.specs.Claims.{is_bit, is_no_more, is_any_delivery};
+ghost use Rattle.hb_rules.specs.Claims.{is_no_more, is_any_delivery};
 ghost use Rattle.hb_rules.specs.DeskRows.{accepted_below};
 ghost use Rattle.hb_rules.specs.Hearing.{Hearing, hearing};
 ghost use Rattle.hb_rules.specs.Slots.{when};
-ghost use Rattle.acs_core.specs.Shown.{shown_at, accepted_of, nothing};
-ghost use Rattle.acs_core.specs.Subset.{AcsView, place_of, fresh, Stands, Hears, Notes, is_no_more_due, heard_in_subset};
+ghost use Rattle.acs_core.specs.Shown.{accepted_of, nothing};
+ghost use Rattle.acs_core.specs.Subset.{AcsView, place_of, fresh, Stands, Hears, is_no_more_due, heard_in_subset};
 
 use crate::shown::{Shown, accepted, count_accepted, note_decision, note_value};
 use hb_base::{Bytes, Config};
-use hb_rules::Due;
+use hb_rules::{Due, has_no_more};
 use hb_wire::Vote;
 use std::alloc::{AllocError, Global};
 use std::marker::Model;
@@ -168,13 +167,6 @@ pub fn subset_laws()
         → filter (heard_in_subset (place_of a).epoch) heard ≡ filter (heard_in_subset (place_of a).epoch) now
         → Stands a own heard → Stands a other now }
 {}
-
-// Whether NoMore of this epoch is among the votes.
-fn has_no_more(epoch: u8, own: &[Vote]) -> bool
-    ensures { result ≡ list_any (is_no_more epoch) own.now }
-{
-    own.iter().any(|vote| matches!(vote, Vote::NoMore { epoch: other } if *other == epoch))
-}
 
 // So many lanes that have shown nothing.
 fn no_lanes(alloc: Global, n: u8) -> Result<Vec<Shown>, AllocError>

@@ -1,5 +1,5 @@
 //! The votes of a desk.
-ghost use Rattle.std.specs.Prelude.{◌≡◌, ◌-◌, ◌&&◌, ◌↔◌, not, nat_le, nat_lt, true, false, List, ℕ, IsTrue};
+ghost use Rattle.std.specs.Prelude.{◌≡◌, ◌-◌, ◌&&◌, ◌↔◌, not, nat_le, nat_lt, true, false, IsTrue};
 ghost use Rattle.std.specs.List.{list_any};
 ghost use Rattle.hb_wire.specs.declared.vote.Vote.TheVariants.{Propose, NoMore, Closed};
 ghost use Rattle.hb_rules.specs.Claims.{is_decision, is_any_proposal, is_no_more, is_any_closing};
@@ -9,7 +9,7 @@ ghost use Rattle.hb_rules.specs.Hearing.{heard_by, count_shown};
 use crate::accepted::is_accepted;
 use crate::heard::count_accepted;
 use hb_base::Config;
-use hb_rules::Heard;
+use hb_rules::{Heard, has_no_more, has_proposal, is_closed, is_open};
 use hb_wire::{Item, Vote};
 
 /// Whether a desk may cast this vote, by the votes that it has cast and those that it has heard (CCS 2016, figures 3 and 4):
@@ -58,29 +58,4 @@ fn is_unclosed(epoch: u8, own: &[Vote]) -> bool
     ensures { result ≡ (is_open epoch own.now && not (list_any (is_any_closing epoch) own.now)) }
 {
     is_open(epoch, own) && !is_closed(epoch, own)
-}
-
-fn has_proposal(epoch: u8, own: &[Vote]) -> bool
-    ensures { result ≡ list_any (is_any_proposal epoch) own.now }
-{
-    own.iter().any(|vote| matches!(vote, Vote::Propose { epoch: other, .. } if *other == epoch))
-}
-
-fn has_no_more(epoch: u8, own: &[Vote]) -> bool
-    ensures { result ≡ list_any (is_no_more epoch) own.now }
-{
-    own.iter().any(|vote| matches!(vote, Vote::NoMore { epoch: other } if *other == epoch))
-}
-
-fn is_closed(epoch: u8, own: &[Vote]) -> bool
-    ensures { result ≡ list_any (is_any_closing epoch) own.now }
-{
-    own.iter().any(|vote| matches!(vote, Vote::Closed { epoch: other, .. } if *other == epoch))
-}
-
-// Whether an epoch is open: it is the first, or the one before is closed.
-fn is_open(epoch: u8, own: &[Vote]) -> bool
-    ensures { result ≡ is_open epoch own.now }
-{
-    epoch == 0 || is_closed(epoch - 1, own)
 }

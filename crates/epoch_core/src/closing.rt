@@ -1,6 +1,5 @@
 ghost use Rattle.std.specs.Prelude.{◌≡◌, ℕ, ◌+◌, ◌<◌, ◌≤◌, [], ◌∷◌, ◌++◌, take, length, IfOk, OnOk};
 ghost use Rattle.hb_base.specs.Limits.{most_batch};
-ghost use Rattle.hb_base.specs.Numbers.{Numbers};
 ghost use Rattle.hb_wire.specs.Batches.{batch_bytes};
 ghost use Rattle.tx_pool.specs.Pool.{without};
 ghost use Rattle.hb_rules.specs.Pool.{transactions_in};

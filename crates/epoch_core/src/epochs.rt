@@ -1,4 +1,4 @@
-ghost use Rattle.std.specs.Prelude.{◌≡◌, ℕ, ◌<◌, ◌≤◌, List, [], length, None, IfOk, OnOk, OnErr, IsOk};
+ghost use Rattle.std.specs.Prelude.{◌≡◌, ℕ, ◌<◌, ◌≤◌, List, [], length, IfOk, OnOk, OnErr, IsOk};
 ghost use Rattle.hb_base.specs.Numbers.{Numbers};
 ghost use Rattle.hb_wire.specs.declared.vote.Vote.{Vote};
 ghost use Rattle.tx_pool.specs.Calls.{first_places};

@@ -1,16 +1,15 @@
-ghost use Rattle.std.specs.Prelude.{◌≡◌, ℕ, ◌<◌, ◌≤◌, ◌++◌, [], List, length, true, false, None, IfOk, OnOk, if◌then◌else◌, Some};
+ghost use Rattle.std.specs.Prelude.{◌≡◌, ℕ, ◌<◌, ◌≤◌, true, false, None, IfOk, OnOk, Some};
 ghost use Rattle.std.specs.List.{list_any, flat_map};
 ghost use Rattle.hb_base.specs.Limits.{most_batch};
-ghost use Rattle.hb_base.specs.Numbers.{Numbers};
 ghost use Rattle.tx_pool.specs.Pool.{without};
-ghost use Rattle.hb_wire.specs.Batches.{batch_bytes};
-ghost use Rattle.hb_rules.specs.Claims.{is_any_closing, is_any_proposal, is_no_more};
+ghost use Rattle.hb_rules.specs.Claims.{is_any_closing, is_any_proposal};
 ghost use Rattle.epoch_core.specs.Tables.{AreUnheard};
 ghost use Rattle.epoch_core.specs.Closing.{closed_transactions, first_value};
 
 use crate::closing::{add_transactions, value_of};
 use crate::table::Table;
 use hb_base::Bytes;
+use hb_rules::{has_no_more, has_proposal, is_closed};
 use hb_wire::Vote;
 use std::alloc::{AllocError, Global};
 use tx_pool::Pool;
@@ -39,19 +38,11 @@ pub(crate) fn unproposed(
     requires { batch ≤ most_batch }
     ensures { IfOk result (λ value. value ≡ first_value batch pool.now.pooled (list_any (is_any_proposal 0) own.now)) }
 {
-    if has_first(own) {
+    if has_proposal(0, own) {
         return Ok(None);
     }
     let value = value_of(alloc, pool, batch)?;
     Ok(Some(value))
-}
-
-// Whether the first proposal is one of the votes.
-fn has_first(own: &[Vote]) -> bool
-    ensures { result ≡ list_any (is_any_proposal 0) own.now }
-{
-    own.iter()
-        .any(|vote| matches!(vote, Vote::Propose { epoch: 0, .. }))
 }
 
 // Settles the transactions with which these votes close epochs.
@@ -74,18 +65,4 @@ pub(crate) fn unheard(alloc: Global, own: &[Vote], epochs: u8) -> Result<Vec<Tab
         tables.push(Table::Unheard(has_no_more(epoch, own)))?;
     }
     Ok(tables)
-}
-
-// Whether one of the votes closes this epoch.
-fn is_closed(epoch: u8, own: &[Vote]) -> bool
-    ensures { result ≡ list_any (is_any_closing epoch) own.now }
-{
-    own.iter().any(|vote| matches!(vote, Vote::Closed { epoch: other, .. } if *other == epoch))
-}
-
-// Whether one of the votes wants no more lanes in this epoch.
-fn has_no_more(epoch: u8, own: &[Vote]) -> bool
-    ensures { result ≡ list_any (is_no_more epoch) own.now }
-{
-    own.iter().any(|vote| matches!(vote, Vote::NoMore { epoch: other } if *other == epoch))
 }

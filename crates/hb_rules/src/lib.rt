@@ -7,6 +7,7 @@ pub mod agreement_slot;
 pub mod book;
 #[cfg(test)]
 mod book_tests;
+pub mod desk;
 pub mod due;
 pub mod hearing;
 pub mod lanes;
@@ -23,6 +24,7 @@ pub mod voters;
 pub use actor::{Actor, ActorFault};
 pub use agreement_slot::AgreementSlot;
 pub use book::{Book, BookFault};
+pub use desk::{has_no_more, has_proposal, is_closed, is_open};
 pub use due::Due;
 pub use hearing::{Heard, hear};
 pub use lanes::{is_correct, posting_lane};

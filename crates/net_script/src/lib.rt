@@ -4,5 +4,5 @@
 mod delivery;
 mod script;
 
-pub use delivery::shape;
+pub use delivery::{shape, shape_by};
 pub use script::{ActorPlan, LiarAt, Link, Order, Script, Shape, Submit};

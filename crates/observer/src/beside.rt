@@ -2,7 +2,7 @@
 
 ghost use Rattle.std.specs.Prelude.{◌≡◌, [], ◌∷◌, ◌++◌, List, IfOk, OnOk};
 ghost use Rattle.hb_wire.specs.declared.post.Post.{Post};
-ghost use Rattle.net_script.specs.Delivery.{is_any_or, fits, shape_of};
+ghost use Rattle.net_script.specs.Delivery.{shape_of};
 ghost use Rattle.hb_rules.specs.Report.{is_drop};
 ghost use Rattle.observer.specs.Beside.{arriving, IsBeside, AreBeside};
 ghost use Rattle.observer.specs.Standing.{HasHeard};
@@ -10,7 +10,7 @@ ghost use Rattle.observer.specs.Standing.{HasHeard};
 use crate::observer::Observer;
 use hb_rules::Report;
 use hb_wire::Post;
-use net_script::{Link, Shape};
+use net_script::{Link, Shape, shape_by};
 use std::alloc::{AllocError, Global};
 
 /// The observer beside a node: it has heard, in order, the posts of the history that are not dropped on their way to the node.
@@ -61,32 +61,5 @@ pub fn observers_beside(alloc: Global, report: &Report) -> Result<Vec<Observer>,
 pub(crate) fn is_dropped(links: &[Link], from: u8, to: u8, k: usize) -> bool
     ensures { result ≡ is_drop (shape_of links.now from to k) }
 {
-    if from == to {
-        return false;
-    }
-    for link in links {
-        if fits(link, from, to, k) {
-            return link.shape == Shape::Drop;
-        }
-    }
-    false
-}
-
-fn fits(link: &Link, from: u8, to: u8, k: usize) -> bool
-    ensures { result ≡ fits link.now from to k }
-{
-    is_any_or(link.from, from)
-        && is_any_or(link.to, to)
-        && link.every != 0
-        && k % (link.every as usize) == link.at as usize
-}
-
-// Whether a rule that names this node, or any, speaks of that one.
-fn is_any_or(named: Option<u8>, node: u8) -> bool
-    ensures { result ≡ is_any_or named node }
-{
-    match named {
-        None => true,
-        Some(named) => named == node,
-    }
+    shape_by(links, from, to, k) == Shape::Drop
 }

@@ -1,7 +1,6 @@
 ghost use Rattle.std.specs.Prelude.{◌≡◌, ℕ, ◌-◌, ◌<◌, ◌↔◌, true, IsTrue, List, is_some};
-ghost use Rattle.std.specs.List.{list_any};
 ghost use Rattle.hb_base.specs.Counting.{count_nodes};
-ghost use Rattle.hb_rules.specs.Claims.{decided, is_bit, is_any_proposal, is_no_more, is_any_closing, is_any_delivery};
+ghost use Rattle.hb_rules.specs.Claims.{decided, is_bit, is_any_delivery};
 ghost use Rattle.hb_rules.specs.Desk.{is_open};
 ghost use Rattle.hb_rules.specs.DeskRows.{claimed_by, decision_of, accepted_below};
 ghost use Rattle.hb_rules.specs.Hearing.{heard_by};
@@ -10,7 +9,7 @@ ghost use Rattle.hb_rules.specs.Slots.{IsIdle};
 ghost use Rattle.quiet_check.specs.Desks.{is_known, owes_proposal, owes_no_more, owes_closing, owes_in};
 
 use hb_base::Config;
-use hb_rules::Heard;
+use hb_rules::{Heard, has_no_more, has_proposal, is_closed, is_open};
 use hb_wire::Vote;
 
 // Whether a desk owes nothing, by the votes that it has cast and those that it has heard, of all epochs, whatever was
@@ -56,31 +55,6 @@ fn owes_closing(config: &Config, epoch: u8, own: &[Vote], heard: &[Heard]) -> bo
     ensures { result ≡ owes_closing config.now epoch own.now heard.now }
 {
     !is_closed(epoch, own) && is_open(epoch, own) && are_known(config.n(), epoch, heard)
-}
-
-fn has_proposal(epoch: u8, own: &[Vote]) -> bool
-    ensures { result ≡ list_any (is_any_proposal epoch) own.now }
-{
-    own.iter().any(|vote| matches!(vote, Vote::Propose { epoch: other, .. } if *other == epoch))
-}
-
-fn has_no_more(epoch: u8, own: &[Vote]) -> bool
-    ensures { result ≡ list_any (is_no_more epoch) own.now }
-{
-    own.iter().any(|vote| matches!(vote, Vote::NoMore { epoch: other } if *other == epoch))
-}
-
-fn is_closed(epoch: u8, own: &[Vote]) -> bool
-    ensures { result ≡ list_any (is_any_closing epoch) own.now }
-{
-    own.iter().any(|vote| matches!(vote, Vote::Closed { epoch: other, .. } if *other == epoch))
-}
-
-// Whether an epoch is open: it is the first, or the one before is closed.
-fn is_open(epoch: u8, own: &[Vote]) -> bool
-    ensures { result ≡ is_open epoch own.now }
-{
-    epoch == 0 || is_closed(epoch - 1, own)
 }
 
 // The bit that this vote says the lane has decided.

@@ -1,12 +1,11 @@
 ghost use Rattle.std.specs.Prelude.{◌≡◌, ℕ, ◌<◌, ◌==◌, ◌↔◌, false, map, length, slice_index_or, IsTrue, IfOk};
 ghost use Rattle.std.specs.List.{list_any};
-ghost use Rattle.net_script.specs.Delivery.{fits, is_any_or, shape_of};
 ghost use Rattle.hb_rules.specs.Report.{is_drop, comes_to, works, IsReceived};
 ghost use Rattle.quiet_check.specs.Receipts.{AreReceived, HasReceived, is_sent, IsMarkedAt, AreMarked};
 
 use hb_rules::{End, Report, works};
 use hb_wire::{Post, reaches};
-use net_script::{Link, Script, Shape};
+use net_script::{Shape, shape_by};
 use std::alloc::{AllocError, Global};
 
 // Whether all posts that an actor has received have come to it.
@@ -38,47 +37,13 @@ fn comes_to(report: &Report, post: &Post, end: &End, number: usize) -> bool
     ensures { result ≡ comes_to report.now.config report.now.script post.now end.now.node end.now.actor number }
 {
     reaches(report.config.n(), post, end.node, end.actor)
-        && !is_dropped(&report.script, post.from, end.node, number)
-}
-
-// Whether a post from the one node to the other is dropped, by the first rule that fits it. A history of a report may have
-// more posts than a run.
-fn is_dropped(script: &Script, from: u8, to: u8, number: usize) -> bool
-    ensures { result ≡ is_drop (shape_of script.now.links.items from to number) }
-{
-    if from == to {
-        return false;
-    }
-    for link in &script.links {
-        if fits(link, from, to, number) {
-            return is_drop(link.shape);
-        }
-    }
-    false
+        && !is_drop(shape_by(report.script.links.as_slice(), post.from, end.node, number))
 }
 
 fn is_drop(shape: Shape) -> bool
     ensures { result ≡ is_drop shape }
 {
     matches!(shape, Shape::Drop)
-}
-
-fn fits(link: &Link, from: u8, to: u8, number: usize) -> bool
-    ensures { result ≡ fits link.now from to number }
-{
-    is_any_or(link.from, from)
-        && is_any_or(link.to, to)
-        && link.every != 0
-        && number % link.every as usize == link.at as usize
-}
-
-fn is_any_or(named: Option<u8>, node: u8) -> bool
-    ensures { result ≡ is_any_or named node }
-{
-    match named {
-        None => true,
-        Some(named) => named == node,
-    }
 }
 
 // For each post whether its sender lies or works.

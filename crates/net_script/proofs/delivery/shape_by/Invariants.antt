@@ -1,6 +1,6 @@
 use Rattle.std.proofs.Common.{◌≡◌, drop}
 use Rattle.net_script.specs.Delivery.{first_shape}
-use Rattle.observer.proofs.beside.is_dropped.Given as goal
+use Rattle.net_script.proofs.delivery.shape_by.Given as goal
 
 -- the rules that are left decide as all do
 abbrev pub invariant-loop-link : goal.invariant-loop-link

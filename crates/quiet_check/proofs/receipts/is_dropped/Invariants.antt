@@ -1,8 +1,0 @@
-use Rattle.std.proofs.Common.{◌≡◌, drop}
-use Rattle.net_script.specs.Delivery.{first_shape}
-use Rattle.quiet_check.proofs.receipts.is_dropped.Given as goal
-
--- the rules that are left decide as all do
-abbrev pub invariant-loop-link : goal.invariant-loop-link
-invariant-loop-link l =
-    first_shape (drop l.link-index l.script.links.items) l.from l.to l.number ≡ first_shape l.script.links.items l.from l.to l.number
