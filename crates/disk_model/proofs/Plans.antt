@@ -301,3 +301,16 @@ met_by_small off number call stops stops' planned planned' stop fails met none s
     ∙ ap (λ (n : ℕ). list_any (λ x. x == n) planned) e1)
     ∙ sym (cond-true (nat_lt number (2 ^ 32)) (met_at (stop_at number stops) (list_any (λ x. x == number) planned)) Nothing (lt-ltb number (2 ^ 32) small))
     ∙ ap (λ (o : Option Leave). met_by o number stops planned) (sym none)
+
+-- the power goes off only where it fails
+pub power_by : {T : Type 0} (met : Met) (done cut_off : Halves) (old new : MemoryState) (result : Result T DiskFault)
+    → AnswersAs met done cut_off old new result → (IsErrOf result Failed → ⊥) → (supply_of new).off ≡ (supply_of old).off
+power_by Nothing done cut_off old new result answers well = ap (λ (d : MemoryState). (supply_of d).off) answers.1
+power_by Fault done cut_off old new result answers well = absurd (well answers.0)
+power_by (Stops leave) done cut_off old new result answers well = absurd (well answers.0)
+power_by Off done cut_off old new result answers well = absurd (well answers.0)
+
+pub write_power : {T : Type 0} (done : Halves) (old new : MemoryState) (result : Result T DiskFault)
+    → AnswersOrMemory done done old new result → (IsErrOf result Failed → ⊥) → (supply_of new).off ≡ (supply_of old).off
+write_power done old new result (inl answers) well = power_by (met_of old) done done old new result answers well
+write_power done old new result (inr none) well = ap (λ (d : MemoryState). (supply_of d).off) none.1

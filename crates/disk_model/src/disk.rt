@@ -51,7 +51,7 @@ impl<T: Drop> From<AllocFailed<T>> for DiskFault {
 /// Between two syncs each range that was written or cut off, and all past the old end, may hold any bytes after a
 /// crash, and the length may be any between the least and the greatest since the sync. Other bytes stay. After a sync
 /// that succeeded a crash leaves what a read gives. After a call that failed a crash leaves what one during that call
-/// may leave, so nothing that might have been left before is lost.
+/// may leave, so nothing that might have been left before is lost. The power goes off only at a call that answers `Failed`.
 pub trait Disk {
     /// The bytes that a read gives.
     ghost seen: { Self → Image };
@@ -84,6 +84,7 @@ pub trait Disk {
         ensures time { Elapses (moment self.old) (moment self.new) (left_since self.old) (left_since self.new) (may_leave self.new) }
         ensures cause { HasCauseOf is_failed (faults self.old) (faults self.new) result }
         ensures explained { IsErrOf result DiskFault.Failed → explains self.new }
+        ensures power { (IsErrOf result DiskFault.Failed → ⊥) → (supply self.new).off ≡ (supply self.old).off }
         ensures supply { Draws (supply self.old) (supply self.new) };
 
     /// Writes over the bytes of a half from an offset on, and past its end. Until a sync, a crash may leave any bytes
@@ -97,6 +98,7 @@ pub trait Disk {
         ensures time { Elapses (moment self.old) (moment self.new) (left_since self.old) (left_since self.new) (may_leave self.new) }
         ensures cause { HasCauseOf is_failed (faults self.old) (faults self.new) result }
         ensures explained { IsErrOf result DiskFault.Failed → explains self.new }
+        ensures power { (IsErrOf result DiskFault.Failed → ⊥) → (supply self.new).off ≡ (supply self.old).off }
         ensures supply { Draws (supply self.old) (supply self.new) };
 
     /// Cuts a half to a length.
@@ -108,6 +110,7 @@ pub trait Disk {
         ensures time { Elapses (moment self.old) (moment self.new) (left_since self.old) (left_since self.new) (may_leave self.new) }
         ensures cause { HasCauseOf is_failed (faults self.old) (faults self.new) result }
         ensures explained { IsErrOf result DiskFault.Failed → explains self.new }
+        ensures power { (IsErrOf result DiskFault.Failed → ⊥) → (supply self.new).off ≡ (supply self.old).off }
         ensures supply { Draws (supply self.old) (supply self.new) };
 
     /// Makes both halves durable: after it a crash leaves what a read gives. One that fails leaves pending what was.
@@ -119,6 +122,7 @@ pub trait Disk {
         ensures time { Elapses (moment self.old) (moment self.new) (left_since self.old) (left_since self.new) (may_leave self.new) }
         ensures cause { HasCauseOf is_failed (faults self.old) (faults self.new) result }
         ensures explained { IsErrOf result DiskFault.Failed → explains self.new }
+        ensures power { (IsErrOf result DiskFault.Failed → ⊥) → (supply self.new).off ≡ (supply self.old).off }
         ensures supply { Draws (supply self.old) (supply self.new) };
 
     /// This moment is one of those since an earlier one.

@@ -248,6 +248,7 @@ impl Disk for MemoryDisk {
         ensures time { Elapses (length self.old.past) (length self.new.past) (LeftSince self.old) (LeftSince self.new) (HalvesMayLeave self.new.halves) }
         ensures cause { HasCauseOf is_failed self.old.faults self.new.faults result }
         ensures explained { IsErrOf result DiskFault.Failed → IsNamed (supply_of self.new) }
+        ensures power { (IsErrOf result DiskFault.Failed → ⊥) → (supply_of self.new).off ≡ (supply_of self.old).off }
         ensures supply { Draws (supply_of self.old) (supply_of self.new) }
 
         // It fails exactly where the plan names the call or the power is off.
@@ -267,6 +268,7 @@ impl Disk for MemoryDisk {
         ensures time { Elapses (length self.old.past) (length self.new.past) (LeftSince self.old) (LeftSince self.new) (HalvesMayLeave self.new.halves) }
         ensures cause { HasCauseOf is_failed self.old.faults self.new.faults result }
         ensures explained { IsErrOf result DiskFault.Failed → IsNamed (supply_of self.new) }
+        ensures power { (IsErrOf result DiskFault.Failed → ⊥) → (supply_of self.new).off ≡ (supply_of self.old).off }
         ensures supply { Draws (supply_of self.old) (supply_of self.new) }
 
         // The same, unless no memory is left. A write that is stopped counts as done.
@@ -285,6 +287,7 @@ impl Disk for MemoryDisk {
         ensures time { Elapses (length self.old.past) (length self.new.past) (LeftSince self.old) (LeftSince self.new) (HalvesMayLeave self.new.halves) }
         ensures cause { HasCauseOf is_failed self.old.faults self.new.faults result }
         ensures explained { IsErrOf result DiskFault.Failed → IsNamed (supply_of self.new) }
+        ensures power { (IsErrOf result DiskFault.Failed → ⊥) → (supply_of self.new).off ≡ (supply_of self.old).off }
         ensures supply { Draws (supply_of self.old) (supply_of self.new) }
 
         // As `read`. A cut that is stopped counts as done.
@@ -302,6 +305,7 @@ impl Disk for MemoryDisk {
         ensures time { Elapses (length self.old.past) (length self.new.past) (LeftSince self.old) (LeftSince self.new) (HalvesMayLeave self.new.halves) }
         ensures cause { HasCauseOf is_failed self.old.faults self.new.faults result }
         ensures explained { IsErrOf result DiskFault.Failed → IsNamed (supply_of self.new) }
+        ensures power { (IsErrOf result DiskFault.Failed → ⊥) → (supply_of self.new).off ≡ (supply_of self.old).off }
         ensures supply { Draws (supply_of self.old) (supply_of self.new) }
 
         // As `read`. One that fails leaves pending what was.

@@ -46,6 +46,20 @@ pub record IsOnAgain (old new : ActorView) : Type 0 where
   pub restarts : new.restarts ≡ old.restarts + 1
   pub got : new.got ≡ []
 
+-- its disk has not failed, and has its power as before
+pub record IsCalm (old new : ActorView) : Type 0 where
+  pub no_fault : new.faults ≡ old.faults
+  pub power : new.supply.off ≡ old.supply.off
+
+-- its disk has not failed, and has kept its power if it was switched on again
+pub record IsCalmAgain (old new : ActorView) : Type 0 where
+  pub no_fault : new.faults ≡ old.faults
+  pub power : new.restarts ≡ old.restarts + 1 → new.supply.off ≡ false
+
+-- each vote that the actor had cast it has cast once more
+pub record AreCastAgain (t : Terms) (old new : List Post) : Type 0 where
+  pub each : (vote : Vote) → 1 ≤ count vote (cast_in t old) → count vote (cast_in t new) ≡ count vote (cast_in t old) + 1
+
 -- each vote stands so often at most among what the actor has cast
 pub record IsFew (t : Terms) (seen : List Post) (most : ℕ) : Type 0 where
   pub each : (vote : Vote) → count vote (cast_in t seen) ≤ most

@@ -6,7 +6,7 @@ ghost use Rattle.hb_rules.specs.Ledger.{IsPrefix};
 ghost use Rattle.hb_rules.specs.Book.{Watched};
 ghost use Rattle.hb_rules.specs.Same.{firsts};
 ghost use Rattle.hb_rules.specs.Terms.{AreProper, cast_in};
-ghost use Rattle.hb_rules.specs.Actor.{ActorView, budget, Goes, IsStillOff, IsOnAgain, IsFew, OwesNothing, ReachesActor, AreSeen, Told};
+ghost use Rattle.hb_rules.specs.Actor.{ActorView, budget, Goes, IsStillOff, IsOnAgain, IsFew, OwesNothing, ReachesActor, AreSeen, Told, IsCalm, IsCalmAgain, AreCastAgain};
 
 use crate::book::Book;
 use crate::outbox::Outbox;
@@ -18,7 +18,7 @@ use thiserror::Error;
 /// Why an actor ended, or was stopped.
 #[derive(Clone, Copy, Debug, PartialEq, Eq, Error)]
 pub enum ActorFault {
-    /// Its disk failed.
+    /// Its disk failed. With any other fault the disk has not failed, and has its power as before.
     #[error("the journal failed")]
     Journal,
     /// The book was full when it had a vote to post.
@@ -97,6 +97,7 @@ pub trait Actor<B: Book>: Drop {
         ensures bound { budget (view self.now).restarts (view self.now).supply ≤ most_stops }
         ensures fresh { (view self.now).fresh ≡ true → ((view self.now).got ≡ []) × ((view self.now).restarts ≡ 0) }
         ensures seen { (view self.now).live ≡ true → AreSeen (view self.now).terms (B.seen (seat self.now)) (view self.now).got }
+        ensures power { (view self.now).live ≡ true → (view self.now).supply.off ≡ false }
         ensures idle { (view self.now).live ≡ true → OwesNothing (view self.now).terms (B.seen (seat self.now)) (view self.now).got };
 
     /// A copy of post k of the book: None exactly where fewer posts stand. It may be called in any state, and changes
@@ -131,6 +132,7 @@ pub trait Actor<B: Book>: Drop {
         ensures full { IsErrOf result ActorFault.Full → length (B.seen (seat self.new)) ≡ most_posts }
         ensures journal { IfErr result (λ fault. fault ≡ ActorFault.Journal
             → Rose (view self.old).faults (view self.new).faults × IsNamed (view self.new).supply) }
+        ensures calm { (IsErrOf result ActorFault.Journal → ⊥) → IsCalm (view self.old) (view self.new) }
         ensures got { (view self.new).got ≡ [] }
         ensures restarts { (view self.new).restarts ≡ (view self.old).restarts };
 
@@ -158,6 +160,7 @@ pub trait Actor<B: Book>: Drop {
         ensures full { IsErrOf result ActorFault.Full → length (B.seen (seat self.new)) ≡ most_posts }
         ensures journal { IfErr result (λ fault. fault ≡ ActorFault.Journal
             → Rose (view self.old).faults (view self.new).faults × IsNamed (view self.new).supply) }
+        ensures calm { (IsErrOf result ActorFault.Journal → ⊥) → IsCalm (view self.old) (view self.new) }
         ensures got { OnOk result ((view self.new).got ≡ (view self.old).got ++ k ∷ []) }
         ensures kept { ((view self.new).got ≡ (view self.old).got) ⊎ ((view self.new).got ≡ (view self.old).got ++ k ∷ []) }
         ensures restarts { (view self.new).restarts ≡ (view self.old).restarts };
@@ -180,6 +183,8 @@ pub trait Actor<B: Book>: Drop {
         ensures full { IsErrOf result ActorFault.Full → length (B.seen (seat self.new)) ≡ most_posts }
         ensures journal { IfErr result (λ fault. fault ≡ ActorFault.Journal
             → Rose (view self.old).faults (view self.new).faults × IsNamed (view self.new).supply) }
+        ensures calm { (IsErrOf result ActorFault.Journal → ⊥) → IsCalmAgain (view self.old) (view self.new) }
+        ensures again { OnOk result (AreCastAgain (view self.old).terms (B.seen (seat self.old)) (B.seen (seat self.new))) }
         ensures on { OnOk result (IsOnAgain (view self.old) (view self.new)) }
         ensures failed { IsErrOf result ActorFault.Journal → IsOnAgain (view self.old) (view self.new) }
         ensures either { IsStillOff (view self.old) (view self.new) ⊎ IsOnAgain (view self.old) (view self.new) };

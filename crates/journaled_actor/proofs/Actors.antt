@@ -153,6 +153,11 @@ safe_back seen may_leave old new t posts left only safe image may =
 
 -- ---- an actor after a call
 
+-- a call that succeeded was not told that the disk failed
+pub not_failed : {T : Type 0} (result : Result T ActorFault) → is_ok result ≡ true → IsErrOf result Journal → ⊥
+not_failed (Ok x) ok failed = cc (failed)
+not_failed (Err e) ok failed = cc (ok)
+
 -- others posted
 pub open_watched : (t : Terms) (old new : List Post) (text : List ℕ) (stands : List Vote → List Hearing → Type 0) (got : List ℕ) → IsPrefix old new
     → cast_in t new ≡ cast_in t old → AreSeen t old got → IsOpen t old text stands (heard_got t old got) → IsOpen t new text stands (heard_got t new got)
@@ -168,8 +173,8 @@ open_watched t old new text stands got prefix same seen here =
 pub kept_by : (t u : Terms) (c d : Numbers) (i j x y : ℕ) (seen : List Post) (left : Image → Type 0) (supply : Supply) (is_open : Terms → Type 0)
     (live : Bool) (got : List ℕ) (restarts : ℕ) → u ≡ t → IsOf t c i x → (d ≡ c) × (j ≡ i) × (y ≡ x) → AreLawful t → IsSafe t seen left
     → IsFew t seen (1 + restarts) → budget restarts supply ≤ most_stops → AreSeen t seen got → (live ≡ true → is_open t)
-    → IsKept u d j y seen left supply (is_open u) false live got restarts
-kept_by t u c d i j x y seen left supply is_open live got restarts same is still lawful safe few bound received opened =
+    → (live ≡ true → supply.off ≡ false) → IsKept u d j y seen left supply (is_open u) false live got restarts
+kept_by t u c d i j x y seen left supply is_open live got restarts same is still lawful safe few bound received opened on =
     subst (λ (v : Terms). IsKept v d j y seen left supply (is_open v) false live got restarts) (sym same) (record {
       is = is_still is still;
       lawful = lawful;
@@ -179,6 +184,8 @@ kept_by t u c d i j x y seen left supply is_open live got restarts same is still
       received = received;
       fresh = λ begun. absurd (cc (begun));
       live = opened;
+      fresh_on = λ begun. absurd (cc (begun));
+      live_on = on;
     })
 
 -- what was received before, or one post more
@@ -208,6 +215,8 @@ kept_watched t c d i j x y old new left supply usable text stands fresh live got
       received = seen_longer t old new got prefix kept.received;
       fresh = λ begun. ((kept.fresh begun).0, (kept.fresh begun).1, same ∙ (kept.fresh begun).2);
       live = λ lives. ((kept.live lives).0, open_watched t old new text stands got prefix same kept.received (kept.live lives).1);
+      fresh_on = kept.fresh_on;
+      live_on = kept.live_on;
     }
 
 -- nobody posted

@@ -11,9 +11,9 @@ use Rattle.hb_wire.specs.declared.post.Post.{Post}
 use Rattle.hb_wire.proofs.Equality.{one_vote}
 use Rattle.hb_rules.specs.Actor.{IsFew}
 use Rattle.hb_rules.specs.Hearing.{Hearing}
-use Rattle.hb_rules.specs.Same.{same_vote, count}
+use Rattle.hb_rules.specs.Same.{same_vote, count, firsts}
 use Rattle.hb_rules.specs.Terms.{Terms, AreCastable, AreVotes, cast_in, heard_all}
-use Rattle.journaled_actor.specs.Kept.{IsAll, CastSome}
+use Rattle.journaled_actor.specs.Kept.{Covers, IsAll, CastSome}
 use Rattle.hb_rules.proofs.SameRules.{new_vote}
 use Rattle.hb_rules.proofs.Firsts.{same_firsts}
 
@@ -117,3 +117,44 @@ few_new t old new text votes due most all are some one few = record {
         omega (arith, few.each vote, total vote, taken_less vote due some.count, due_once vote, stands_once vote votes there)
     by vote false was =
         omega (arith, one, total vote, count_none vote (cast_in t old) was, taken_less vote due some.count, due_once vote)
+
+stood : (vote : Vote) (votes : List Vote) → 1 ≤ count vote votes → list_any (same_vote vote) votes ≡ true
+stood vote votes some = by (list_any (same_vote vote) votes) refl
+  where
+    by : (b : Bool) → list_any (same_vote vote) votes ≡ b → list_any (same_vote vote) votes ≡ true
+    by true is = is
+    by false is = absurd (omega (arith, some, count_none vote votes is))
+
+-- what was cast is not cast again by votes that were not
+pub once_cast : (t : Terms) (old new : List Post) (text : List ℕ) (votes due : List Vote) → IsAll t old text votes → AreVotes t old (votes ++ due)
+    → CastSome t old new due → (vote : Vote) → 1 ≤ count vote (cast_in t old) → count vote (cast_in t new) ≡ count vote (cast_in t old)
+once_cast t old new text votes due all are some vote stands =
+    let there : list_any (same_vote vote) votes ≡ true =
+    sym (ap (list_any (same_vote vote)) all.complete) ∙ (same_firsts (cast_in t old)).tests (same_vote vote) ∙ stood vote (cast_in t old) stands in
+    omega (
+      arith,
+      ap (λ (xs : List Vote). count vote xs) some.cast,
+      count-append vote (cast_in t old) (take some.count due),
+      taken_less vote due some.count,
+      count-append vote votes due,
+      castable_once t (heard_all t old) [] (votes ++ due) vote are.castable,
+      one_most (list_any (same_vote vote) []),
+      stands_once vote votes there,
+    )
+
+-- each that was cast is cast once more by all votes of the journal
+pub cast_again : (t : Terms) (old new : List Post) (votes : List Vote) → Covers t old votes → cast_in t new ≡ cast_in t old ++ votes
+    → (vote : Vote) → 1 ≤ count vote (cast_in t old) → count vote (cast_in t new) ≡ count vote (cast_in t old) + 1
+cast_again t old new votes covers whole vote stands =
+    let there : list_any (same_vote vote) votes ≡ true = ap (list_any (same_vote vote)) covers.posted.is
+    ∙ list_any-append (same_vote vote) (firsts (cast_in t old)) covers.posted.rest
+    ∙ ap (λ (b : Bool). b || list_any (same_vote vote) covers.posted.rest)
+    ((same_firsts (cast_in t old)).tests (same_vote vote) ∙ stood vote (cast_in t old) stands) in
+    omega (
+      arith,
+      ap (λ (xs : List Vote). count vote xs) whole,
+      count-append vote (cast_in t old) votes,
+      castable_once t (heard_all t old) [] votes vote covers.are.castable,
+      one_most (list_any (same_vote vote) []),
+      stands_once vote votes there,
+    )

@@ -1,5 +1,5 @@
 -- One vote more of votes that are posted in turn.
-use Rattle.std.proofs.Common.{◌≡◌, ℕ, ◌<◌, ◌+◌, ◌⊎◌, inl, inr, List, [], ◌∷◌, ◌++◌, length, take, drop, get_or, Result, Err, refl, sym, subst}
+use Rattle.std.proofs.Common.{◌≡◌, ℕ, ◌<◌, ◌+◌, ◌⊎◌, inl, inr, List, [], ◌∷◌, ◌++◌, length, take, drop, get_or, Result, Err, refl, sym, ap, ◌∙◌, ◌≤◌, subst}
 use Rattle.hb_base.specs.Limits.{most_posts}
 use Rattle.hb_base.specs.Numbers.{Numbers}
 use Rattle.hb_wire.specs.declared.vote.Vote.{Vote}
@@ -9,7 +9,8 @@ use Rattle.hb_rules.specs.declared.actor.ActorFault.TheVariants.{Journal, Full, 
 use Rattle.hb_rules.specs.Actor.{Told}
 use Rattle.hb_rules.specs.Book.{post_of, Watched, Posted}
 use Rattle.hb_rules.specs.History.{HasSpelling, IsAllowed}
-use Rattle.hb_rules.specs.Terms.{Terms}
+use Rattle.std.proofs.lemmas.List.{take_all}
+use Rattle.hb_rules.specs.Terms.{Terms, cast_in}
 use Rattle.journaled_actor.specs.Kept.{IsOf, Turn, CastSome}
 use Rattle.journaled_actor.specs.Payload.{AreWritten}
 use Rattle.journaled_actor.proofs.Payloads.{next_taken, next_left, holds_at}
@@ -66,3 +67,9 @@ module _ {t : Terms} {c : Numbers} {i x : ℕ} (is : IsOf t c i x) {old mid : Li
 pub cast_some : {t : Terms} {old new : List Post} {votes : List Vote} {k : ℕ} {before after : List ℕ} → IsPosting t old new votes k before after
     → CastSome t old new votes
 cast_some {k = k} so_far = record { count = k; cast = so_far.cast }
+
+-- and once all are done
+pub cast_whole : {t : Terms} {old new : List Post} {votes : List Vote} {k : ℕ} {before after : List ℕ} → length votes ≤ k
+    → IsPosting t old new votes k before after → cast_in t new ≡ cast_in t old ++ votes
+cast_whole {t = t} {old = old} {votes = votes} {k = k} all so_far =
+    so_far.cast ∙ ap (λ (xs : List Vote). cast_in t old ++ xs) (take_all k votes all)

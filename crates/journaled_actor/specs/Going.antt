@@ -5,6 +5,7 @@ use Rattle.hb_base.specs.Limits.{most_posts}
 use Rattle.hb_base.specs.Numbers.{Numbers}
 use Rattle.hb_base.specs.Outside.{Rose}
 use Rattle.hb_wire.specs.declared.post.Post.{Post}
+use Rattle.vote_journal.specs.Runs.{IsCalm}
 use Rattle.hb_rules.specs.declared.actor.ActorFault.{ActorFault}
 use Rattle.hb_rules.specs.declared.actor.ActorFault.TheVariants.{Journal, Full, Memory}
 use Rattle.hb_rules.specs.Actor.{Told}
@@ -22,8 +23,10 @@ pub record SeatGoes {S K T : Type 0} (config : S → Numbers) (node actor : S �
   pub told : (IsErrOf result Memory → ⊥) → Told t (seen old) (seen new) out numbers
   pub full : IsErrOf result Full → length (seen new) ≡ most_posts
 
--- The disk was used: its power and its faults went on, and where its fault is the cause it has failed, and explains it.
+-- The disk was used: its power and its faults went on, and where its fault is the cause it has failed, and explains it; else
+-- it has not failed, and has its power as before.
 pub record DiskGoes {D T : Type 0} (supply : D → Supply) (faults : D → ℕ) (explains : D → Type 0) (old new : D) (result : Result T ActorFault) : Type 0 where
   pub draws : Draws (supply old) (supply new)
   pub no_fewer : faults old ≤ faults new
   pub failed : IsErrOf result Journal → Rose (faults old) (faults new) × explains new
+  pub calm : (IsErrOf result Journal → ⊥) → IsCalm faults supply old new

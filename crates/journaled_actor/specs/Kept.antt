@@ -1,6 +1,6 @@
 -- What an actor keeps in its journal: the votes that it may have posted, and maybe more. The letters: t are the actor's
 -- terms, seen is what its seat has seen.
-use Rattle.std.specs.Prelude.{◌≡◌, ℕ, ◌+◌, ◌≤◌, Bool, true, List, [], ◌++◌, length, take}
+use Rattle.std.specs.Prelude.{◌≡◌, ℕ, ◌+◌, ◌≤◌, Bool, true, false, List, [], ◌++◌, length, take}
 use Rattle.hb_base.specs.Numbers.{Numbers}
 use Rattle.hb_base.specs.Limits.{most_stops}
 use Rattle.disk_model.specs.Image.{Image}
@@ -65,7 +65,8 @@ pub record CastSome (t : Terms) (old new : List Post) (votes : List Vote) : Type
   pub cast : cast_in t new ≡ cast_in t old ++ take count votes
 
 -- What holds of an actor in every state: whatever a crash leaves, it has what was cast; nothing was cast more often than
--- once for each time that the actor began; and while it works, `is_open` holds.
+-- once for each time that the actor began; and while it works, `is_open` holds. Before it is started, and while it works, its
+-- disk is on.
 pub record IsKept (t : Terms) (config : Numbers) (node actor : ℕ) (seen : List Post) (may_leave : Image → Type 0) (supply : Supply)
     (is_open : Type 0) (is_fresh is_live : Bool) (got : List ℕ) (restarts : ℕ) : Type 0 where
   pub is : IsOf t config node actor
@@ -76,6 +77,8 @@ pub record IsKept (t : Terms) (config : Numbers) (node actor : ℕ) (seen : List
   pub received : AreSeen t seen got
   pub fresh : is_fresh ≡ true → (got ≡ []) × (restarts ≡ 0) × (cast_in t seen ≡ [])
   pub live : is_live ≡ true → is_open
+  pub fresh_on : is_fresh ≡ true → supply.off ≡ false
+  pub live_on : is_live ≡ true → supply.off ≡ false
 
 -- the parts of an actor that clauses see
 pub record ActorParts (S D C : Type 0) : Type 0 where

@@ -1,8 +1,9 @@
 //! Beginning from a journal.
 ghost use Rattle.std.specs.Prelude.{◌≡◌, ◌≤◌, ◌+◌, ℕ, [], OnOk};
 ghost use Rattle.hb_wire.specs.declared.vote.Vote.{Vote};
-ghost use Rattle.hb_rules.specs.Actor.{IsFew};
-ghost use Rattle.hb_rules.specs.Terms.{AreLawful};
+ghost use Rattle.hb_rules.specs.Actor.{IsFew, AreCastAgain};
+ghost use Rattle.hb_rules.specs.Same.{count};
+ghost use Rattle.hb_rules.specs.Terms.{AreLawful, cast_in};
 ghost use Rattle.vote_journal.specs.Text.{text_of};
 ghost use Rattle.vote_journal.specs.Usable.{disk_of};
 ghost use Rattle.journaled_actor.specs.Folding.{IsReady};
@@ -40,6 +41,8 @@ fn begin<B: Book, D: Disk, C: Core>(
     ensures safe { IsSafe (C.terms core.old) (B.seen seat.new) (D.may_leave (disk_of journal.new)) }
     ensures ready { OnOk result (IsReady D.seen D.may_leave journal.new) }
     ensures opened { OnOk result (IsOpen (C.terms core.old) (B.seen seat.new) (text_of (D.seen (disk_of journal.new))) (C.stands core.new) []) }
+    ensures once { (vote : Vote) → 1 ≤ count vote (cast_in (C.terms core.old) (B.seen seat.old))
+        → count vote (cast_in (C.terms core.old) (B.seen seat.new)) ≡ count vote (cast_in (C.terms core.old) (B.seen seat.old)) }
     ensures few { (most : ℕ) → 1 ≤ most → IsFew (C.terms core.old) (B.seen seat.old) most → IsFew (C.terms core.old) (B.seen seat.new) most }
     ensures disk { DiskGoes D.supply D.faults D.explains (disk_of journal.old) (disk_of journal.new) result }
 {
@@ -67,6 +70,7 @@ pub(crate) fn take_up<B: Book, D: Disk, C: Core>(
     ensures safe { IsSafe (C.terms core.old) (B.seen seat.new) (D.may_leave (disk_of journal.new)) }
     ensures ready { OnOk result (IsReady D.seen D.may_leave journal.new) }
     ensures opened { OnOk result (IsOpen (C.terms core.old) (B.seen seat.new) (text_of (D.seen (disk_of journal.new))) (C.stands core.new) []) }
+    ensures again { OnOk result (AreCastAgain (C.terms core.old) (B.seen seat.old) (B.seen seat.new)) }
     ensures few { (most : ℕ) → IsFew (C.terms core.old) (B.seen seat.old) most → IsFew (C.terms core.old) (B.seen seat.new) (most + 1) }
     ensures disk { DiskGoes D.supply D.faults D.explains (disk_of journal.old) (disk_of journal.new) result }
 {

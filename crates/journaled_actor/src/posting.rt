@@ -66,6 +66,7 @@ pub(crate) fn post_all<B: Book, C: Core>(
     ensures all { OnOk result ((before : List Vote) → Turn (C.terms core.now) (B.seen seat.old) before votes.now
         → firsts (cast_in (C.terms core.now) (B.seen seat.new)) ≡ before ++ votes.now) }
     ensures cast { CastSome (C.terms core.now) (B.seen seat.old) (B.seen seat.new) votes.now }
+    ensures whole { OnOk result (cast_in (C.terms core.now) (B.seen seat.new) ≡ cast_in (C.terms core.now) (B.seen seat.old) ++ votes.now) }
     ensures other { IsErrOf result ActorFault.Journal → ⊥ }
 {
     for vote in votes {

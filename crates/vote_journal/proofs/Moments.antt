@@ -1,12 +1,12 @@
 -- How what is said of a disk goes on from call to call.
-use Rattle.std.proofs.Common.{◌≡◌, ◌≤◌, inl, inr, ⊎_elim, ℕ, true, false, refl, ◌∙◌, arith, sym, subst, Result, Ok, Err, IfErr, IsErrAnd}
+use Rattle.std.proofs.Common.{◌≡◌, ◌≤◌, inl, inr, ⊎_elim, ℕ, true, false, refl, ◌∙◌, arith, sym, ap, subst, Result, Ok, Err, IfErr, IsErrAnd}
 use Rattle.std.proofs.lemmas.Bool.{cases_Bool, both_ways}
 use Rattle.disk_model.specs.Image.{Image}
 use Rattle.disk_model.specs.Disk.{Elapses}
 use Rattle.disk_model.specs.Supply.{Supply, Draws}
 use Rattle.vote_journal.specs.declared.fault.JournalFault.{JournalFault}
 use Rattle.vote_journal.specs.declared.fault.JournalFault.TheVariants.{Memory}
-use Rattle.vote_journal.specs.Runs.{Runs, HasReason, IsStep}
+use Rattle.vote_journal.specs.Runs.{Runs, HasReason, IsCalm, IsStep}
 
 draws_again : (a b c : Supply) → Draws a b → Draws b c → Draws a c
 draws_again a b c x y = record {
@@ -89,24 +89,35 @@ stood moment left_since faults supply disk P here = record {
   draws = draws_same (supply disk);
 }
 
+pub calm_same : {D : Type 0} (faults : D → ℕ) (supply : D → Supply) (disk : D) → IsCalm faults supply disk disk
+calm_same faults supply disk = record { no_fault = refl; power = refl }
+
+pub calm_again : {D : Type 0} (faults : D → ℕ) (supply : D → Supply) (a b c : D) → IsCalm faults supply a b → IsCalm faults supply b c
+    → IsCalm faults supply a c
+calm_again faults supply a b c x y = record { no_fault = y.no_fault ∙ x.no_fault; power = y.power ∙ x.power }
+
 failed_later : {T D : Type 0} (faults : D → ℕ) (explains : D → Type 0) (old mid new : D) (result : Result T JournalFault) → faults old ≤ faults mid
     → IfErr result (HasReason faults explains mid new) → IfErr result (HasReason faults explains old new)
 failed_later faults explains old mid new (Ok value) stays reason = tt
 failed_later faults explains old mid new (Err fault) stays reason =
     record { rose = λ is. omega (arith, stays, reason.rose is); explained = reason.explained }
 
+pub same_fault : {T : Type 0} {a b : JournalFault} → ◌≡◌ {A = Result T JournalFault} (Err a) (Err b) → a ≡ b
+same_fault h = cc (h)
+
 module _ {D : Type 0} {seen : D → Image} {may_leave : D → Image → Type 0} {moment : D → ℕ} {left_since : D → ℕ → Image → Type 0}
     {faults : D → ℕ} {supply : D → Supply} {explains : D → Type 0} where
   -- a step that is refused for want of memory
   pub unfed : {T : Type 0} {old new : D} {P : Image → Type 0} (result : Result T JournalFault) → IsErrAnd result (λ fault. fault ≡ Memory)
-      → Runs moment left_since faults supply old new P
+      → Runs moment left_since faults supply old new P → IsCalm faults supply old new
       → IsStep seen may_leave moment left_since faults supply explains old new P result
-  unfed (Ok value) is runs = absurd is
-  unfed (Err fault) is runs = record {
+  unfed (Ok value) is runs calm = absurd is
+  unfed (Err fault) is runs calm = record {
     durable = tt;
     runs = runs;
     failed = record { rose = λ failed. absurd (cc (is, failed)); explained = λ failed. absurd (cc (is, failed)) };
     no_other = λ foreign. cc (is, foreign);
+    calm = λ well. calm;
   }
 
   -- a step that is refused as its first part was
@@ -120,22 +131,30 @@ module _ {D : Type 0} {seen : D → Image} {may_leave : D → Image → Type 0} 
     runs = weaker step.runs p;
     failed = subst (HasReason faults explains old new) (sym is) step.failed;
     no_other = λ foreign. step.no_other (sym is ∙ foreign);
+    calm = λ well. step.calm (λ failed. well (ap (λ (f : JournalFault). Err f) (is ∙ same_fault failed)));
   }
 
   -- a step that is done as its first part was
   pub weaker_step : {T U : Type 0} {old new : D} {P Q : Image → Type 0} {value : T} {value' : U}
       → IsStep seen may_leave moment left_since faults supply explains old new P (Ok value) → ((c : Image) → P c → Q c)
       → IsStep seen may_leave moment left_since faults supply explains old new Q (Ok value')
-  weaker_step step p = record { durable = step.durable; runs = weaker step.runs p; failed = tt; no_other = tt }
+  weaker_step step p = record { durable = step.durable; runs = weaker step.runs p; failed = tt; no_other = tt; calm = λ well. step.calm (λ failed. absurd (cc (failed))) }
 
   -- a step after calls that went well
   pub and_then : {T : Type 0} {old mid new : D} {P Q R : Image → Type 0} {result : Result T JournalFault}
-      → Runs moment left_since faults supply old mid P → IsStep seen may_leave moment left_since faults supply explains mid new Q result
+      → Runs moment left_since faults supply old mid P → IsCalm faults supply old mid
+      → IsStep seen may_leave moment left_since faults supply explains mid new Q result
       → ((c : Image) → P c → R c) → ((c : Image) → Q c → R c)
       → IsStep seen may_leave moment left_since faults supply explains old new R result
-  and_then {old = old} {mid = mid} {new = new} {result = result} runs step p q = record {
+  and_then {old = old} {mid = mid} {new = new} {result = result} runs calm step p q = record {
     durable = step.durable;
     runs = more_calls runs step.runs p q;
     failed = failed_later faults explains old mid new result runs.faults_stay step.failed;
     no_other = step.no_other;
+    calm = λ well. calm_again faults supply old mid new calm (step.calm well);
   }
+
+  -- a step that went well
+  pub done_calm : {T : Type 0} {old new : D} {P : Image → Type 0} {value : T}
+      → IsStep seen may_leave moment left_since faults supply explains old new P (Ok value) → IsCalm faults supply old new
+  done_calm step = step.calm (λ failed. absurd (cc (failed)))

@@ -6,7 +6,7 @@ use Rattle.hb_wire.specs.declared.vote.Vote.{Vote}
 use Rattle.hb_rules.specs.Terms.{Terms}
 use Rattle.journaled_actor.specs.Going.{SeatGoes}
 use Rattle.journaled_actor.specs.Kept.{IsOf, IsSafe, CastSome}
-use Rattle.journaled_actor.proofs.Counts.{few_new}
+use Rattle.journaled_actor.proofs.Counts.{few_new, once_cast}
 use Rattle.journaled_actor.proofs.Going.{seat_still, disk_still}
 use Rattle.journaled_actor.proofs.Left.{safe_all, begins, open_cast}
 use Rattle.journaled_actor.proofs.beginning.begin.Goals as goal
@@ -25,6 +25,7 @@ returns-in_err-rebuild g c =
       safe = safe_all t posts c.args.votes.now c.requires.ready c.requires.all;
       ready = tt;
       opened = tt;
+      once = λ vote stands. refl;
       few = λ most one few. few;
       disk = disk_still (λ h. cc (h));
     })
@@ -67,6 +68,9 @@ returns g c =
       ready = did.ready;
       opened = on_ok_weaker c.cast.result (λ all. open_cast t u new (text_of (d.seen (disk_of c.cast.new.journal))) (g.C.Core.stands c.rebuild.new.self) votes due []
           made.terms c.requires.lawful due_is made.stands (all votes may.0 may.1)) did.all;
+      once =
+          let may_t = begins t t old text votes due refl c.requires.lawful c.requires.all due_is in
+          once_cast t old new text votes due c.requires.all may_t.1 (subst (λ (v : Terms). CastSome v old new due) made.terms did.cast);
       few = λ most one few.
           let may_t = begins t t old text votes due refl c.requires.lawful c.requires.all due_is in
           few_new t old new text votes due most c.requires.all may_t.1 (subst (λ (v : Terms). CastSome v old new due) made.terms did.cast) one few;

@@ -5,9 +5,9 @@ use Rattle.vote_journal.specs.Text.{text_of}
 use Rattle.vote_journal.specs.Usable.{disk_of}
 use Rattle.journaled_actor.specs.Kept.{IsAll, Covers}
 use Rattle.journaled_actor.specs.Payload.{payload, AreWritten}
-use Rattle.journaled_actor.proofs.Counts.{few_again}
+use Rattle.journaled_actor.proofs.Counts.{few_again, cast_again}
 use Rattle.journaled_actor.proofs.Going.{is_still, seat_still, seat_then, disk_then, disk_done, disk_again, other_still}
-use Rattle.journaled_actor.proofs.Left.{safe_covered, few_more}
+use Rattle.journaled_actor.proofs.Left.{always_ok, safe_covered, few_more}
 use Rattle.hb_rules.proofs.Turns.{turn_begins, votes_longer}
 use Rattle.journaled_actor.proofs.beginning.take_up.Goals as goal
 
@@ -26,6 +26,7 @@ returns-in_err-votes g c =
       safe = did.safe posts c.requires.safe;
       ready = tt;
       opened = tt;
+      again = tt;
       few = λ most few. few_more t posts most few;
       disk = disk_again did.disk;
     })
@@ -58,6 +59,7 @@ returns-in_err-post_all g c =
       safe = safe_covered t new votes read.ready (read.text ∙ ap payload (sym c.deref.ensures.value)) (did.covers [] (turn_begins t old votes covers));
       ready = tt;
       opened = tt;
+      again = tt;
       few = λ most few. few_again t old old new votes most covers.are did.cast few;
       disk = disk_done read.disk did.other;
     })
@@ -100,6 +102,11 @@ returns g c =
       safe = begun.safe;
       ready = begun.ready;
       opened = begun.opened;
+      again = always_ok c.begin.result (record {
+        each = λ vote stands.
+            let more = cast_again t old (g.B.Book.seen c.post_all.new.seat) votes covers did.whole vote stands in
+            begun.once vote (omega (arith, more)) ∙ more;
+      });
       few = λ most few. begun.few (most + 1) (omega arith) (few_again t old old (g.B.Book.seen c.post_all.new.seat) votes most covers.are did.cast few);
       disk = disk_then read.disk begun.disk;
     }

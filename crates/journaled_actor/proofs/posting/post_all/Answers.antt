@@ -2,7 +2,7 @@ use Rattle.std.proofs.Common.{refl, ◌∙◌, arith}
 use Rattle.std.proofs.lemmas.Result.{err_from_is_err_and}
 use Rattle.journaled_actor.proofs.Going.{is_still, moves_on}
 use Rattle.journaled_actor.proofs.Posted.{posting_begins, posting_covers, posting_done}
-use Rattle.journaled_actor.proofs.Nexts.{next_spelled, next_allowed, next_posted, next_failed, next_told, cast_some}
+use Rattle.journaled_actor.proofs.Nexts.{next_spelled, next_allowed, next_posted, next_failed, next_told, cast_some, cast_whole}
 use Rattle.journaled_actor.proofs.posting.post_all.Goals as goal
 
 pub loop-vote-init : goal.loop-vote-init
@@ -54,6 +54,7 @@ returns-in_err-post_one g c =
       covers = λ done turn. posting_covers (g.C.Core.terms c.args.core.now) (b.seen c.args.seat.now) (b.seen c.post_one.new.seat) c.args.votes.now came.count c.args.out.now came.out came.is done turn;
       all = tt;
       cast = cast_some came.is;
+      whole = tt;
       other = did.other;
     })
 
@@ -72,5 +73,6 @@ returns g c =
       covers = λ done turn. posting_covers (g.C.Core.terms c.args.core.now) (g.B.Book.seen c.args.seat.now) (g.B.Book.seen c.loop-vote.seat) c.args.votes.now c.loop-vote.vote-index c.args.out.now c.loop-vote.out here.3 done turn;
       all = λ done turn. posting_done (g.C.Core.terms c.args.core.now) (g.B.Book.seen c.args.seat.now) (g.B.Book.seen c.loop-vote.seat) c.args.votes.now c.loop-vote.vote-index c.args.out.now c.loop-vote.out (omega arith) here.3 done turn;
       cast = cast_some here.3;
+      whole = cast_whole (omega arith) here.3;
       other = λ h. absurd (cc (h));
     }

@@ -2,7 +2,7 @@ use Rattle.std.proofs.Common.{refl}
 use Rattle.disk_model.specs.Area.{after_cut}
 use Rattle.disk_model.specs.Halves.{on_half}
 use Rattle.disk_model.specs.Memory.{met_of}
-use Rattle.disk_model.proofs.Plans.{cause_by, explained_by, draws_by, cut_by, cut_kept_by}
+use Rattle.disk_model.proofs.Plans.{cause_by, explained_by, power_by, draws_by, cut_by, cut_kept_by}
 use Rattle.disk_model.proofs.memory.MemoryDiskDisk.cut.Goals as goal
 
 pub returns-clause-crash : goal.returns-clause-crash
@@ -16,6 +16,11 @@ returns-clause-kept c = cut_kept_by (met_of c.args.self.now) c.args.half c.args.
 pub returns-clause-explained : goal.returns-clause-explained
 returns-clause-explained c = explained_by (met_of c.args.self.now) (on_half c.args.half (after_cut c.args.len) c.args.self.now.halves)
     (on_half c.args.half (after_cut c.args.len) c.args.self.now.halves) c.args.self.now c.cut_as_planned.new.self c.cut_as_planned.result refl
+    c.cut_as_planned.ensures.exact
+
+pub returns-clause-power : goal.returns-clause-power
+returns-clause-power c = power_by (met_of c.args.self.now) (on_half c.args.half (after_cut c.args.len) c.args.self.now.halves)
+    (on_half c.args.half (after_cut c.args.len) c.args.self.now.halves) c.args.self.now c.cut_as_planned.new.self c.cut_as_planned.result
     c.cut_as_planned.ensures.exact
 
 pub returns-clause-supply : goal.returns-clause-supply

@@ -1,7 +1,7 @@
 use Rattle.std.proofs.Common.{refl}
 use Rattle.disk_model.specs.Halves.{settled}
 use Rattle.disk_model.specs.Memory.{met_of}
-use Rattle.disk_model.proofs.Plans.{cause_by, explained_by, draws_by, durable_by}
+use Rattle.disk_model.proofs.Plans.{cause_by, explained_by, power_by, draws_by, durable_by}
 use Rattle.disk_model.proofs.memory.MemoryDiskDisk.sync.Goals as goal
 
 pub returns-clause-durable : goal.returns-clause-durable
@@ -11,6 +11,10 @@ returns-clause-durable c = durable_by (met_of c.args.self.now) c.args.self.now c
 pub returns-clause-explained : goal.returns-clause-explained
 returns-clause-explained c = explained_by (met_of c.args.self.now) (settled c.args.self.now.halves) c.args.self.now.halves c.args.self.now
     c.sync_as_planned.new.self c.sync_as_planned.result refl c.sync_as_planned.ensures.exact
+
+pub returns-clause-power : goal.returns-clause-power
+returns-clause-power c = power_by (met_of c.args.self.now) (settled c.args.self.now.halves) c.args.self.now.halves c.args.self.now
+    c.sync_as_planned.new.self c.sync_as_planned.result c.sync_as_planned.ensures.exact
 
 pub returns-clause-supply : goal.returns-clause-supply
 returns-clause-supply c = draws_by (met_of c.args.self.now) (settled c.args.self.now.halves) c.args.self.now.halves c.args.self.now

@@ -1,6 +1,6 @@
 use Rattle.disk_model.specs.Area.{after_write}
 use Rattle.disk_model.specs.Halves.{on_half}
-use Rattle.disk_model.proofs.Plans.{write_cause, write_explained, write_draws, write_by, write_kept_by}
+use Rattle.disk_model.proofs.Plans.{write_cause, write_explained, write_power, write_draws, write_by, write_kept_by}
 use Rattle.disk_model.proofs.memory.MemoryDiskDisk.write_at.Goals as goal
 
 pub returns-clause-crash : goal.returns-clause-crash
@@ -13,6 +13,10 @@ returns-clause-kept c = write_kept_by c.args.half c.args.at c.args.bytes.now c.a
 
 pub returns-clause-explained : goal.returns-clause-explained
 returns-clause-explained c = write_explained (on_half c.args.half (after_write c.args.at c.args.bytes.now) c.args.self.now.halves) c.args.self.now
+    c.write_as_planned.new.self c.write_as_planned.result c.write_as_planned.ensures.exact
+
+pub returns-clause-power : goal.returns-clause-power
+returns-clause-power c = write_power (on_half c.args.half (after_write c.args.at c.args.bytes.now) c.args.self.now.halves) c.args.self.now
     c.write_as_planned.new.self c.write_as_planned.result c.write_as_planned.ensures.exact
 
 pub returns-clause-supply : goal.returns-clause-supply

@@ -1,4 +1,4 @@
-use Rattle.std.proofs.Common.{◌≤◌, refl, sym, arith}
+use Rattle.std.proofs.Common.{◌≡◌, false, ◌≤◌, refl, sym, arith}
 use Rattle.hb_base.specs.Limits.{most_stops}
 use Rattle.hb_rules.specs.Actor.{AreSeen, budget}
 use Rattle.journaled_actor.specs.Kept.{IsSafe}
@@ -21,4 +21,6 @@ invariant_of-result g c =
       received = along (sym c.new.ensures.items) (AreSeen t posts) (λ k stands. absurd (omega (arith, stands.1)));
       fresh = λ begun. (c.new.ensures.items, refl, c.requires.unused);
       live = λ live. absurd (cc (live));
+      fresh_on = λ fresh. along (sym c.shut.ensures) (λ disk. (d.supply disk).off ≡ false) c.requires.on;
+      live_on = λ live. absurd (cc (live));
     }

@@ -1,4 +1,4 @@
-use Rattle.std.proofs.Common.{◌≡◌, [], true, ◌≤◌, ◌+◌}
+use Rattle.std.proofs.Common.{◌≡◌, [], true, false, ◌≤◌, ◌+◌}
 use Rattle.hb_base.specs.Limits.{most_stops}
 use Rattle.vote_journal.specs.Text.{text_of}
 use Rattle.vote_journal.specs.Usable.{disk_of}
@@ -26,6 +26,7 @@ returns g c =
       bound = along c.self.view_is (λ a. budget a.restarts (d.supply a.disk) ≤ most_stops) holds.bound;
       fresh = along c.self.view_is (λ a. a.fresh ≡ true → (a.got ≡ []) × (a.restarts ≡ 0)) (λ fresh. ((holds.fresh fresh).0, (holds.fresh fresh).1));
       seen = along c.self.view_is (λ a. a.live ≡ true → AreSeen (t a.core) (b.seen a.seat) a.got) (λ live. holds.received);
+      power = along c.self.view_is (λ a. a.live ≡ true → (d.supply a.disk).off ≡ false) holds.live_on;
       idle = along c.self.view_is (λ a. a.live ≡ true → OwesNothing (t a.core) (b.seen a.seat) a.got) (λ live.
           owes_nothing (t i.core) (b.seen i.seat) (text_of (d.seen (disk_of i.journal))) (g.C.Core.stands i.core)
           (heard_got (t i.core) (b.seen i.seat) i.got.items) holds.lawful (holds.live live).1);

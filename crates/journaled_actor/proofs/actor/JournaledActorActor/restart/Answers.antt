@@ -1,17 +1,17 @@
-use Rattle.std.proofs.Common.{◌≡◌, ℕ, ◌+◌, ◌≤◌, inl, inr, true, false, List, [], refl, sym, ◌∙◌, arith}
+use Rattle.std.proofs.Common.{◌≡◌, ℕ, ◌+◌, ◌≤◌, inl, inr, true, false, List, [], OnOk, ap, refl, sym, ◌∙◌, arith}
 use Rattle.hb_base.specs.Outside.{Rose}
 use Rattle.std.proofs.lemmas.Result.{err_from_is_err_and}
 use Rattle.vote_journal.specs.Text.{text_of}
 use Rattle.vote_journal.specs.Usable.{disk_of}
 use Rattle.journaled_actor.specs.Folding.{IsReady}
-use Rattle.disk_model.specs.Supply.{Draws}
-use Rattle.hb_rules.specs.Actor.{AreSeen, Goes, IsStillOff, IsOnAgain, budget}
+use Rattle.disk_model.specs.Supply.{Supply, Draws}
+use Rattle.hb_rules.specs.Actor.{AreSeen, Goes, IsStillOff, IsOnAgain, IsCalmAgain, AreCastAgain, budget}
 use Rattle.hb_base.specs.Limits.{most_stops}
 use Rattle.hb_rules.specs.Ledger.{IsPrefix}
 use Rattle.hb_rules.specs.Terms.{Terms, heard_got}
 use Rattle.journaled_actor.specs.Going.{SeatGoes}
 use Rattle.journaled_actor.specs.Kept.{IsSafe, IsOpen, actor_view}
-use Rattle.journaled_actor.proofs.Actors.{along, from, when_ok, ok_is, err_is, if_fault, budget_again, goes_by, goes_again, few_within, safe_back, kept_by}
+use Rattle.journaled_actor.proofs.Actors.{along, from, not_failed, when_ok, ok_is, err_is, if_fault, budget_again, goes_by, goes_again, few_within, safe_back, kept_by}
 use Rattle.journaled_actor.proofs.Crashes.{supply_same}
 use Rattle.journaled_actor.proofs.Left.{always_ok}
 use Rattle.journaled_actor.proofs.Posted.{prefix_refl}
@@ -35,7 +35,7 @@ invariant_of-self g c =
     false i.got.items i.restarts refl holds.is (refl, refl, refl) holds.lawful
     (along (sym same) (λ disk. IsSafe t now (d.may_leave disk)) holds.safe) holds.few
     (along (sym same) (λ disk. budget i.restarts (d.supply disk) ≤ most_stops) holds.bound) holds.received
-    (λ live. absurd (cc (live)))
+    (λ live. absurd (cc (live))) (λ live. absurd (cc (live)))
 
 pub returns-in_err-switch_on : goal.returns-in_err-switch_on
 returns-in_err-switch_on g c =
@@ -61,6 +61,11 @@ returns-in_err-switch_on g c =
       told = λ no. absurd (no refl);
       full = λ h. absurd (cc (h));
       journal = λ h. absurd (cc (h));
+      calm = λ _. from (actor_view t d.supply d.faults) IsCalmAgain c.self.view_is (record {
+        no_fault = along (sym same) (λ disk. d.faults disk ≡ d.faults (disk_of i.journal)) refl;
+        power = λ more. absurd (omega (arith, more));
+      });
+      again = tt;
       on = tt;
       failed = λ h. absurd (cc (h));
       either = inl (from (actor_view t d.supply d.faults) IsStillOff c.self.view_is (record {
@@ -114,6 +119,8 @@ invariant_of-self-2 g c =
       along (sym none) (λ (ks : List ℕ). IsOpen t now (text_of (d.seen (disk_of journal))) (g.C.Core.stands c.take_up-begun.new.core) (heard_got t now ks))
           (when_ok c.take_up-begun.result _ did.opened ok),
     ))
+    (λ live. (did.disk.calm (not_failed c.take_up-begun.result (sym c.is_ok-self-inside.ensures.value ∙ live))).power
+    ∙ ap (λ (s : Supply). s.off) on.supply)
 
 pub returns : goal.returns
 returns g c =
@@ -144,6 +151,12 @@ returns g c =
             (along on.faults (λ (n : ℕ). Rose n (d.faults (disk_of c.take_up-begun.new.journal))) (did.disk.failed is).0),
         g.met.D.Power.named (disk_of c.take_up-begun.new.journal) (did.disk.failed is).1,
       ));
+      calm = λ well. from (actor_view t d.supply d.faults) IsCalmAgain c.self.view_is (record {
+        no_fault = (did.disk.calm well).no_fault ∙ on.faults;
+        power = λ _. (did.disk.calm well).power ∙ ap (λ (s : Supply). s.off) on.supply;
+      });
+      again = along c.self.view_is (λ a. OnOk c.take_up-begun.result
+          (AreCastAgain (t a.core) (b.seen a.seat) (b.seen c.take_up-begun.new.seat))) did.again;
       on = always_ok c.take_up-begun.result again;
       failed = λ is. again;
       either = inr again;

@@ -1,6 +1,8 @@
-use Rattle.std.proofs.Common.{◌∙◌, ap, length, arith, List, ℕ}
+use Rattle.std.proofs.Common.{◌∙◌, ap, length, arith, List, ℕ, Err}
 use Rattle.std.specs.List.{concat}
 use Rattle.vote_journal.specs.Text.{blocks}
+use Rattle.vote_journal.specs.declared.fault.JournalFault.{JournalFault}
+use Rattle.vote_journal.proofs.Moments.{same_fault}
 use Rattle.vote_journal.proofs.Arranges.{opens, arranged_text, live_text}
 use Rattle.vote_journal.proofs.Foreign.{sound_ours}
 use Rattle.vote_journal.proofs.journal.Journal.reopen.Goals as goal
@@ -35,3 +37,6 @@ returns-in-Err-clause-no_foreign g c = λ sound is. absurd (cc (c.in-Err.ensures
 pub returns-in-Ok-clause-cut : goal.returns-in-Ok-clause-cut
 returns-in-Ok-clause-cut g c = λ sound.
     (opens c.in-Ok.opened.live (g.D.Disk.seen c.args.self.now.disk) (g.D.Disk.seen c.open.new.disk) c.in-Ok.ensures.live (c.in-Ok.ensures.arranged sound)).cut
+
+pub returns-in-Err-clause-calm : goal.returns-in-Err-clause-calm
+returns-in-Err-clause-calm g c = λ well. c.in-Err.ensures.calm (λ failed. well (ap (λ (f : JournalFault). Err f) (same_fault failed)))
