@@ -4,3 +4,4 @@ pub mod Deals
 pub mod Mailing
 pub mod Hearings
 pub mod Sendings
+pub mod Turnings

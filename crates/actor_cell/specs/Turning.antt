@@ -37,6 +37,19 @@ arrival_found s (Some post) i x k =
 abbrev pub arrival : Script → PlayerView → ℕ → Arrival
 arrival s p k = arrival_found s (slice_get p.seat.seen k) p.seat.node p.seat.actor k
 
+-- whether a post that was looked at arrives, and whether it does so late
+abbrev pub arrives : Option Arrival → Bool
+arrives None = false
+arrives (Some arrivals.Aside) = false
+arrives (Some arrivals.Prompt) = true
+arrives (Some arrivals.Late) = true
+
+abbrev pub is_late : Option Arrival → Bool
+is_late None = false
+is_late (Some arrivals.Aside) = false
+is_late (Some arrivals.Prompt) = false
+is_late (Some arrivals.Late) = true
+
 -- ---- what an actor does
 
 -- the same seat
@@ -109,6 +122,7 @@ pub record IsLost (old new : PlayerView) (before after : Sent) : Type 0 where
 pub record IsHeard (s : Script) (k : ℕ) (old new : PlayerView) (before after : Sent) : Type 0 where
   pub comes : IsReceived s.config s new.seat.seen new.seat.node new.seat.actor k
   pub seat : IsSameSeat old new
+  pub seen : IsPrefix old.seat.seen new.seat.seen
   pub received : new.fate ≡ Running → HasReceived k old.view new.view
   pub sent : HasSent s old new before after
 

@@ -1,7 +1,7 @@
 //! How posts arrive at an actor.
 
 ghost use Rattle.std.specs.Prelude.{◌≡◌};
-ghost use Rattle.actor_cell.specs.Turning.{arrival_found, by_lateness};
+ghost use Rattle.actor_cell.specs.Turning.{arrival_found, by_lateness, arrives, is_late};
 
 use hb_wire::Post;
 use net_script::{Script, Shape, shape};
@@ -48,5 +48,25 @@ fn by_lateness(shape: Shape) -> Arrival
         Shape::Once | Shape::Twice => Arrival::Prompt,
         Shape::Late => Arrival::Late,
         Shape::Drop => Arrival::Aside,
+    }
+}
+
+// Whether a post that was looked at arrives.
+pub(crate) fn arrives(found: &Option<Arrival>) -> bool
+    ensures { result ≡ arrives found.now }
+{
+    match found {
+        Some(Arrival::Prompt) | Some(Arrival::Late) => true,
+        Some(Arrival::Aside) | None => false,
+    }
+}
+
+// Whether it arrives late.
+pub(crate) fn is_late(found: &Option<Arrival>) -> bool
+    ensures { result ≡ is_late found.now }
+{
+    match found {
+        Some(Arrival::Late) => true,
+        Some(Arrival::Prompt) | Some(Arrival::Aside) | None => false,
     }
 }

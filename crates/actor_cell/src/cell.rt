@@ -2,6 +2,7 @@
 
 use crate::held::Held;
 use crate::naming::Naming;
+use crate::served::Served;
 use hb_base::Gate;
 use hb_rules::{Actor, Book};
 use std::alloc::Global;
@@ -25,5 +26,10 @@ impl<'b, B: Book + Drop, A: Actor<B>, J: Naming<B>> Cell<'b, B, A, J> {
     pub fn into_held(self) -> Held<'b, B, A, J> {
         let Cell { lock } = self;
         lock.into_inner()
+    }
+
+    /// One `Held::turn` under the lock, which it waits for.
+    pub fn serve<R: Wait, G: Gate>(&self, rt: &R, alloc: Global, gate: &G) -> Served {
+        self.lock.lock(rt).turn(rt, alloc, gate)
     }
 }

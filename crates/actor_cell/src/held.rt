@@ -1,22 +1,35 @@
 //! What lies under the lock of an actor.
 
-ghost use Rattle.std.specs.Prelude.{◌≡◌, ℕ, [], true, false};
+ghost use Rattle.std.specs.Prelude.{◌≡◌, ℕ, ◌<◌, ◌++◌, true, false, List, [], ◌∷◌, length, IfSome, IfNone, MatchOption};
+ghost use Rattle.std.specs.List.{AllByRecursion};
+ghost use Rattle.mailbox.specs.Interleaving.{HasAll};
+ghost use Rattle.hb_rules.specs.declared.report.Fate.TheVariants.{Running, Memory};
+ghost use Rattle.hb_rules.specs.Report.{IsReceived};
 ghost use Rattle.actor_cell.specs.Marks.{is_marked};
 ghost use Rattle.actor_cell.specs.Boxes.{place_of};
 ghost use Rattle.actor_cell.specs.Passes.{ArePassesOf};
 ghost use Rattle.actor_cell.specs.Held.{player_at, IsHeld};
+ghost use Rattle.actor_cell.specs.Mail.{ArePut, IsSameTaker, deliveries, sent_of};
+ghost use Rattle.actor_cell.specs.Turning.{turning, arrival, IsShown, TookOnly, IsServed, IsDelivered, Delivers, ServesBack, ServesNew, Turned};
 ghost use Rattle.step_driver.specs.Delivering.{IsPlayer};
 
+use crate::arrival::{Arrival, arrives, is_late};
 use crate::boxes::Boxes;
+use crate::hearing::{hear, look};
 use crate::mail::Mail;
 use crate::marks::Marks;
 use crate::naming::Naming;
 use crate::passes::Passes;
-use hb_rules::{Actor, Book, Fate};
+use crate::sending::send_all;
+use crate::served::Served;
+use hb_base::Gate;
+use hb_rules::{Actor, Book, Fate, Outbox};
 use net_script::Script;
 use std::alloc::Global;
 use std::collections::VecDeque;
 use std::marker::{Model, PhantomData};
+use std::sync::Wait;
+use step_driver::is_running;
 
 /// An actor of a correct node with all that it needs among threads: a handle of the book, the script, its mailbox and its passes to
 /// those of the others, and the numbers of late posts that it holds back. Clauses see a `HeldView`.
@@ -102,5 +115,177 @@ impl<'b, B: Book + Drop, A: Actor<B>, J: Naming<B>> Held<'b, B, A, J> {
             of: _,
         } = self;
         (actor, fate, noted)
+    }
+
+    /// One turn: takes at most one number, and lets the actor hear its post. It takes the numbers of its mailbox first. One whose post is
+    /// late is moved to those held back, and the turn goes on; where the mailbox is empty, the first of these is taken. A post
+    /// that does not stand, does not reach the actor or is dropped on its way is thrown away. Under the lock the gate is entered
+    /// once for each number that is taken, after its post was looked at.
+    ///
+    /// An actor that a stop leaves without power is restarted at once. Want of memory ends it, and so does a fault of the journal
+    /// that leaves the power on, or a full book. The numbers of its new posts are put into the mailboxes of all whom they reach: one that
+    /// is dropped not at all, one that comes twice twice. Whose mailbox refuses one is noted. Of an actor that ends in
+    /// this turn nothing more is sent.
+    pub fn turn<R: Wait, G: Gate>(&mut self, rt: &R, alloc: Global, gate: &G) -> Served
+        ensures script { self.new.script ≡ self.old.script }
+        ensures turned { Turned self.old.script result (turning B.config B.node B.actor B.seen A.seat A.view self.old) (turning B.config B.node B.actor B.seen A.seat A.view self.new) }
+    {
+        if !is_running(self.fate) {
+            return Served::Ended;
+        }
+        for _ in rt.forever() {
+            match self.take(rt) {
+                None => return self.serve_back(rt, alloc, gate),
+                Some(k) => {
+                    if self.serve_new(rt, alloc, gate, k) {
+                        return Served::Did;
+                    }
+                }
+            }
+        }
+        unreachable!()
+    }
+
+    // Takes the oldest number from the mailbox.
+    fn take<R: Wait>(&mut self, rt: &R) -> Option<u32>
+        ensures rest { self.new ≡ record self.old { mail = self.new.mail } }
+        ensures empty { IfNone result (HasAll self.old.mail.passes.take.joined self.old.mail.passes.take.taken) }
+        ensures taken { MatchOption result (TookOnly self.old.mail self.new.mail []) (λ k. TookOnly self.old.mail self.new.mail (k ∷ [])) }
+    {
+        self.mail.take(rt)
+    }
+
+    // Serves the first number of those held back, where the mailbox was empty.
+    fn serve_back<R: Wait, G: Gate>(&mut self, rt: &R, alloc: Global, gate: &G) -> Served
+        requires running { self.old.fate ≡ Running }
+        ensures script { self.new.script ≡ self.old.script }
+        ensures served { ServesBack self.old.script result (turning B.config B.node B.actor B.seen A.seat A.view self.old) (turning B.config B.node B.actor B.seen A.seat A.view self.new) }
+    {
+        match self.back.pop_front() {
+            None => Served::Idle,
+            Some(k) => {
+                self.serve(rt, alloc, gate, k);
+                Served::Did
+            }
+        }
+    }
+
+    // Serves a number that was held back and is not any more.
+    fn serve<R: Wait, G: Gate>(&mut self, rt: &R, alloc: Global, gate: &G, k: u32)
+        requires running { self.old.fate ≡ Running }
+        ensures script { self.new.script ≡ self.old.script }
+        ensures served { IsServed self.old.script k (turning B.config B.node B.actor B.seen A.seat A.view self.old) (turning B.config B.node B.actor B.seen A.seat A.view self.new) }
+    {
+        let found = self.look(k);
+        self.deliver(rt, alloc, gate, k, found);
+    }
+
+    // Serves a number from the mailbox, unless its post is late: then it is held back, and the answer is false.
+    fn serve_new<R: Wait, G: Gate>(&mut self, rt: &R, alloc: Global, gate: &G, k: u32) -> bool
+        requires running { self.old.fate ≡ Running }
+        ensures script { self.new.script ≡ self.old.script }
+        ensures served { ServesNew self.old.script k result (turning B.config B.node B.actor B.seen A.seat A.view self.old) (turning B.config B.node B.actor B.seen A.seat A.view self.new) }
+    {
+        let found = self.look(k);
+        if is_late(&found) {
+            return self.serve_late(gate, k);
+        }
+        self.deliver(rt, alloc, gate, k, found);
+        true
+    }
+
+    // How the post with this number arrives. Where there is no memory to look, the actor has ended.
+    fn look(&mut self, k: u32) -> Option<Arrival>
+        requires running { self.old.fate ≡ Running }
+        ensures rest { (self.new.script ≡ self.old.script) × (self.new.mail ≡ self.old.mail) × (self.new.back ≡ self.old.back) }
+        ensures shown { IsShown (player_at B.config B.node B.actor B.seen A.seat A.view self.old.actor self.old.fate) (player_at B.config B.node B.actor B.seen A.seat A.view self.new.actor self.new.fate) }
+        ensures arrival { MatchOption result (self.new.fate ≡ Memory) (λ found. (self.new.fate ≡ Running)
+            × (found ≡ arrival self.old.script (player_at B.config B.node B.actor B.seen A.seat A.view self.new.actor self.new.fate) k)) }
+    {
+        match look(self.script, &mut self.book, &mut self.actor, k) {
+            Ok(arrival) => Some(arrival),
+            Err(_) => {
+                self.fate = Fate::Memory;
+                None
+            }
+        }
+    }
+
+    // Holds back a number. Where there is no memory for that, the actor ends, the number counts as taken, and the answer is true.
+    fn serve_late<G: Gate>(&mut self, gate: &G, k: u32) -> bool
+        requires running { self.old.fate ≡ Running }
+        ensures rest { (self.new.actor ≡ self.old.actor) × (self.new.script ≡ self.old.script) × (self.new.mail ≡ self.old.mail) }
+        ensures held { result ≡ false → (self.new.fate ≡ Running) × (self.new.back ≡ self.old.back ++ k ∷ []) }
+        ensures lost { result ≡ true → (self.new.fate ≡ Memory) × (self.new.back ≡ self.old.back) }
+    {
+        if self.back.push_back(k).is_ok() {
+            return false;
+        }
+        self.fate = Fate::Memory;
+        self.enter(gate);
+        true
+    }
+
+    // Enters the gate as this actor.
+    fn enter<G: Gate>(&self, gate: &G) {
+        gate.enter(self.actor.node(), self.actor.actor());
+    }
+
+    // Enters the gate, and lets the actor hear the post with this number if it arrives.
+    fn deliver<R: Wait, G: Gate>(
+        &mut self,
+        rt: &R,
+        alloc: Global,
+        gate: &G,
+        k: u32,
+        found: Option<Arrival>,
+    )
+        requires found { IfSome found (λ how. (self.old.fate ≡ Running)
+            × (how ≡ arrival self.old.script (player_at B.config B.node B.actor B.seen A.seat A.view self.old.actor self.old.fate) k)) }
+        ensures script { self.new.script ≡ self.old.script }
+        ensures delivered { Delivers self.old.script k found (turning B.config B.node B.actor B.seen A.seat A.view self.old) (turning B.config B.node B.actor B.seen A.seat A.view self.new) }
+    {
+        self.enter(gate);
+        if arrives(&found) {
+            self.hear(rt, alloc, k);
+        }
+    }
+
+    // Lets the actor hear the post with this number, and sends what comes of it.
+    fn hear<R: Wait>(&mut self, rt: &R, alloc: Global, k: u32)
+        requires running { self.old.fate ≡ Running }
+        requires comes { IsReceived self.old.script.config self.old.script (B.seen (A.seat self.old.actor)) (B.node (A.seat self.old.actor)) (B.actor (A.seat self.old.actor)) k }
+        ensures script { self.new.script ≡ self.old.script }
+        ensures delivered { IsDelivered self.old.script k (turning B.config B.node B.actor B.seen A.seat A.view self.old) (turning B.config B.node B.actor B.seen A.seat A.view self.new) }
+    {
+        let mut out = Outbox::new(alloc);
+        self.fate = hear(alloc, &mut self.book, &mut self.actor, k, &mut out);
+        if is_running(self.fate) {
+            self.send(rt, &out);
+        }
+    }
+
+    // Puts the numbers of these posts of the actor. Where there is no memory to read one, the actor ends.
+    fn send<R: Wait>(&mut self, rt: &R, out: &Outbox)
+        requires running { self.old.fate ≡ Running }
+        requires stand { AllByRecursion (λ k. k < length (B.seen (A.seat self.old.actor))) out.now }
+        ensures rest { (self.new.script ≡ self.old.script) × (self.new.back ≡ self.old.back) }
+        ensures shown { IsShown (player_at B.config B.node B.actor B.seen A.seat A.view self.old.actor self.old.fate) (player_at B.config B.node B.actor B.seen A.seat A.view self.new.actor self.new.fate) }
+        ensures taker { IsSameTaker self.old.mail self.new.mail }
+        ensures sent { (front rest : List ℕ) × (out.now ≡ front ++ rest) × (self.new.fate ≡ Running → rest ≡ [])
+            × ArePut self.old.script.config (deliveries self.old.script.config self.old.script (B.seen (A.seat self.new.actor)) front)
+            (sent_of self.old.mail) (sent_of self.new.mail) }
+    {
+        match send_all(
+            rt,
+            self.script,
+            &mut self.book,
+            &mut self.actor,
+            &mut self.mail,
+            out.numbers(),
+        ) {
+            Ok(()) => {}
+            Err(_) => self.fate = Fate::Memory,
+        }
     }
 }

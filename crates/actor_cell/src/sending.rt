@@ -4,7 +4,7 @@ ghost use Rattle.std.specs.Prelude.{◌≡◌, ℕ, ◌<◌, ◌++◌, [], List,
 ghost use Rattle.std.specs.List.{AllByRecursion};
 ghost use Rattle.hb_rules.specs.declared.report.Fate.TheVariants.{Running};
 ghost use Rattle.actor_cell.specs.Held.{player_at};
-ghost use Rattle.actor_cell.specs.Mail.{AreSent, of_found, deliveries};
+ghost use Rattle.actor_cell.specs.Mail.{AreSent, IsSameTaker, of_found, deliveries};
 ghost use Rattle.actor_cell.specs.Turning.{IsShown};
 
 use crate::mail::Mail;
@@ -30,6 +30,7 @@ pub(crate) fn send_all<R: Wait, B: Book, A: Actor<B>>(
     ensures moved { B.moved (B.node (A.seat actor.old)) (B.actor (A.seat actor.old)) book.old book.new }
     ensures shown { IsShown (player_at B.config B.node B.actor B.seen A.seat A.view actor.old Running)
         (player_at B.config B.node B.actor B.seen A.seat A.view actor.new Running) }
+    ensures taker { IsSameTaker mail.old mail.new }
     ensures all { OnOk result (AreSent script.now.config (deliveries script.now.config script.now (B.seen (A.seat actor.new)) numbers.now) mail.old mail.new) }
     ensures some { OnErr result ((front rest : List ℕ) × (numbers.now ≡ front ++ rest)
         × AreSent script.now.config (deliveries script.now.config script.now (B.seen (A.seat actor.new)) front) mail.old mail.new) }
@@ -56,6 +57,7 @@ fn send_one<R: Wait, B: Book, A: Actor<B>>(
     ensures moved { B.moved (B.node (A.seat actor.old)) (B.actor (A.seat actor.old)) book.old book.new }
     ensures shown { IsShown (player_at B.config B.node B.actor B.seen A.seat A.view actor.old Running)
         (player_at B.config B.node B.actor B.seen A.seat A.view actor.new Running) }
+    ensures taker { IsSameTaker mail.old mail.new }
     ensures sent { OnOk result (AreSent script.now.config (of_found script.now.config script.now (slice_get (B.seen (A.seat actor.new)) k) k) mail.old mail.new) }
     ensures none { OnErr result (mail.new ≡ mail.old) }
 {

@@ -4,6 +4,7 @@ use Rattle.hb_rules.specs.declared.report.Fate.TheVariants.{Running}
 use Rattle.actor_cell.specs.Held.{player_at}
 use Rattle.actor_cell.specs.Mail.{MailView, AreSent, deliveries}
 use Rattle.actor_cell.proofs.Hearings.{IsShown-then, moved_on, shown_longer, OnErr-any}
+use Rattle.actor_cell.proofs.Mailing.{IsSameTaker-then}
 use Rattle.actor_cell.proofs.Sendings.{deliveries-more, deliveries-kept, AreStanding-so_far, take_rest}
 use Rattle.actor_cell.proofs.sending.send_all.Goals as goal
 
@@ -48,3 +49,6 @@ loop-k-preserved g c =
           (deliveries-more s.config s p.seat.seen q.seat.seen front (get_or c.args.numbers.now c.loop-k.k-index 0) c.args.mail.now c.loop-k.mail c.send_one.new.mail
           (shown_longer p q c.send_one.ensures.shown) stand c.loop-k.invariant.sent c.in_ok-send_one.ensures.sent);
     }
+
+pub returns-in_err-send_one-clause-taker : goal.returns-in_err-send_one-clause-taker
+returns-in_err-send_one-clause-taker g c = IsSameTaker-then c.args.mail.now c.loop-k.mail c.send_one.new.mail c.loop-k.invariant.sent.taker c.send_one.ensures.taker
