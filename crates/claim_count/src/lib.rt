@@ -1,4 +1,4 @@
-//! From how many nodes a claim was heard.
+//! Claims that were heard: from how many nodes, and where a lane heard them.
 #![tactic(auto)]
 
 mod count;
