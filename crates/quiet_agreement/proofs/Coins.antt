@@ -57,7 +57,7 @@ kept_all : (root : List ℕ) (n m : ℕ) (xs shares : List HeardShare) → has_s
 kept_all root n m [] shares has = has
 kept_all root n m (a ∷ xs) shares has = kept_all root n m xs (with_heard root n shares a) (kept_share root n m shares a has)
 
-taken_all : (root : List ℕ) (n : ℕ) (xs shares : List HeardShare) (a : HeardShare) → Contains xs a → is_good root n a ≡ true
+pub taken_all : (root : List ℕ) (n : ℕ) (xs shares : List HeardShare) (a : HeardShare) → Contains xs a → is_good root n a ≡ true
     → has_share_of (fold (with_heard root n) shares xs) a.node ≡ true
 taken_all root n [] shares a stands good = absurd (omega (arith, stands.1))
 taken_all root n (x ∷ xs) shares a stands good =
@@ -86,7 +86,7 @@ one_node (suc n) k = elim (cases_lt k n) [
     by true none = omega arith
     by false none = omega arith
 
-few_nodes : (n : ℕ) (shares : List HeardShare) → count_nodes n (λ m. has_share_of shares m) ≤ length shares
+pub few_nodes : (n : ℕ) (shares : List HeardShare) → count_nodes n (λ m. has_share_of shares m) ≤ length shares
 few_nodes n [] =
     let none : count_nodes n (λ m. has_share_of [] m) ≡ 0 = count_nodes-none n (λ m. has_share_of [] m) (λ m. refl) in
     omega (arith, none)

@@ -1,0 +1,2 @@
+mod KnownCoins
+mod Allowed
