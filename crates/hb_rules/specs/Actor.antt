@@ -47,12 +47,12 @@ pub record IsOnAgain (old new : ActorView) : Type 0 where
   pub got : new.got ≡ []
 
 -- its disk has not failed, and has its power as before
-pub record IsCalm (old new : ActorView) : Type 0 where
+pub record IsUnfailed (old new : ActorView) : Type 0 where
   pub no_fault : new.faults ≡ old.faults
   pub power : new.supply.off ≡ old.supply.off
 
 -- its disk has not failed, and has kept its power if it was switched on again
-pub record IsCalmAgain (old new : ActorView) : Type 0 where
+pub record IsUnfailedAgain (old new : ActorView) : Type 0 where
   pub no_fault : new.faults ≡ old.faults
   pub power : new.restarts ≡ old.restarts + 1 → new.supply.off ≡ false
 

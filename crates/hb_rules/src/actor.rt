@@ -6,7 +6,7 @@ ghost use Rattle.hb_rules.specs.Ledger.{IsPrefix};
 ghost use Rattle.hb_rules.specs.Book.{Watched};
 ghost use Rattle.hb_rules.specs.Same.{firsts};
 ghost use Rattle.hb_rules.specs.Terms.{AreProper, cast_in};
-ghost use Rattle.hb_rules.specs.Actor.{ActorView, budget, Goes, IsStillOff, IsOnAgain, IsFew, OwesNothing, ReachesActor, AreSeen, Told, IsCalm, IsCalmAgain, AreCastAgain};
+ghost use Rattle.hb_rules.specs.Actor.{ActorView, budget, Goes, IsStillOff, IsOnAgain, IsFew, OwesNothing, ReachesActor, AreSeen, Told, IsUnfailed, IsUnfailedAgain, AreCastAgain};
 
 use crate::book::Book;
 use crate::outbox::Outbox;
@@ -132,7 +132,7 @@ pub trait Actor<B: Book>: Drop {
         ensures full { IsErrOf result ActorFault.Full → length (B.seen (seat self.new)) ≡ most_posts }
         ensures journal { IfErr result (λ fault. fault ≡ ActorFault.Journal
             → Rose (view self.old).faults (view self.new).faults × IsNamed (view self.new).supply) }
-        ensures calm { (IsErrOf result ActorFault.Journal → ⊥) → IsCalm (view self.old) (view self.new) }
+        ensures unfailed { (IsErrOf result ActorFault.Journal → ⊥) → IsUnfailed (view self.old) (view self.new) }
         ensures got { (view self.new).got ≡ [] }
         ensures restarts { (view self.new).restarts ≡ (view self.old).restarts };
 
@@ -160,7 +160,7 @@ pub trait Actor<B: Book>: Drop {
         ensures full { IsErrOf result ActorFault.Full → length (B.seen (seat self.new)) ≡ most_posts }
         ensures journal { IfErr result (λ fault. fault ≡ ActorFault.Journal
             → Rose (view self.old).faults (view self.new).faults × IsNamed (view self.new).supply) }
-        ensures calm { (IsErrOf result ActorFault.Journal → ⊥) → IsCalm (view self.old) (view self.new) }
+        ensures unfailed { (IsErrOf result ActorFault.Journal → ⊥) → IsUnfailed (view self.old) (view self.new) }
         ensures got { OnOk result ((view self.new).got ≡ (view self.old).got ++ k ∷ []) }
         ensures kept { ((view self.new).got ≡ (view self.old).got) ⊎ ((view self.new).got ≡ (view self.old).got ++ k ∷ []) }
         ensures restarts { (view self.new).restarts ≡ (view self.old).restarts };
@@ -183,7 +183,7 @@ pub trait Actor<B: Book>: Drop {
         ensures full { IsErrOf result ActorFault.Full → length (B.seen (seat self.new)) ≡ most_posts }
         ensures journal { IfErr result (λ fault. fault ≡ ActorFault.Journal
             → Rose (view self.old).faults (view self.new).faults × IsNamed (view self.new).supply) }
-        ensures calm { (IsErrOf result ActorFault.Journal → ⊥) → IsCalmAgain (view self.old) (view self.new) }
+        ensures unfailed { (IsErrOf result ActorFault.Journal → ⊥) → IsUnfailedAgain (view self.old) (view self.new) }
         ensures again { OnOk result (AreCastAgain (view self.old).terms (B.seen (seat self.old)) (B.seen (seat self.new))) }
         ensures on { OnOk result (IsOnAgain (view self.old) (view self.new)) }
         ensures failed { IsErrOf result ActorFault.Journal → IsOnAgain (view self.old) (view self.new) }

@@ -5,8 +5,8 @@ use Rattle.disk_model.specs.Supply.{Supply, Draws}
 use Rattle.hb_base.specs.Numbers.{Numbers}
 use Rattle.hb_base.specs.Outside.{Rose}
 use Rattle.hb_wire.specs.declared.post.Post.{Post}
-use Rattle.vote_journal.specs.Runs.{HasReason, IsCalm}
-use Rattle.vote_journal.proofs.Moments.{calm_same, calm_again, same_fault}
+use Rattle.vote_journal.specs.Runs.{HasReason, IsUnfailed}
+use Rattle.vote_journal.proofs.Moments.{unfailed_same, unfailed_again, same_fault}
 use Rattle.vote_journal.specs.declared.fault.JournalFault.{JournalFault}
 use Rattle.vote_journal.specs.declared.fault.JournalFault.TheVariants.{Failed, NotAJournal, Memory as JournalMemory}
 use Rattle.hb_rules.specs.declared.actor.ActorFault.{ActorFault}
@@ -91,7 +91,7 @@ module _ {D : Type 0} {supply : D → Supply} {faults : D → ℕ} {explains : D
     draws = draws_trans (supply a) (supply b) (supply c) one.draws two.draws;
     no_fewer = omega (arith, one.no_fewer, two.no_fewer);
     failed = λ is. (rose_later (faults a) (faults b) (faults c) one.no_fewer (two.failed is).0, (two.failed is).1);
-    calm = λ well. calm_again faults supply a b c (one.calm (λ h. absurd (cc (h)))) (two.calm well);
+    unfailed = λ well. unfailed_again faults supply a b c (one.unfailed (λ h. absurd (cc (h)))) (two.unfailed well);
   }
 
   pub disk_still : {T : Type 0} {disk : D} {result : Result T ActorFault} → (IsErrOf result Journal → ⊥) → DiskGoes supply faults explains disk disk result
@@ -99,19 +99,19 @@ module _ {D : Type 0} {supply : D → Supply} {faults : D → ℕ} {explains : D
     draws = supply_same (supply disk);
     no_fewer = omega arith;
     failed = λ is. absurd (not_failed is);
-    calm = λ well. calm_same faults supply disk;
+    unfailed = λ well. unfailed_same faults supply disk;
   }
 
   -- the journal's fault is the actor's
   pub disk_failed : {T U : Type 0} {old new : D} {fault : JournalFault} → Draws (supply old) (supply new) → faults old ≤ faults new
       → HasReason faults explains old new fault → (fault ≡ NotAJournal → ⊥)
-      → ((◌≡◌ {A = Result U JournalFault} (Err fault) (Err Failed) → ⊥) → IsCalm faults supply old new)
+      → ((◌≡◌ {A = Result U JournalFault} (Err fault) (Err Failed) → ⊥) → IsUnfailed faults supply old new)
       → DiskGoes {T = T} supply faults explains old new (Err (actor_fault fault))
-  disk_failed {old = old} {new = new} {fault = fault} draws no_fewer reason known calm = record {
+  disk_failed {old = old} {new = new} {fault = fault} draws no_fewer reason known unfailed = record {
     draws = draws;
     no_fewer = no_fewer;
     failed = λ is. by fault refl (same_error is);
-    calm = λ well. calm (λ is. well (ap (λ (f : JournalFault). Err (actor_fault f)) (same_fault is)));
+    unfailed = λ well. unfailed (λ is. well (ap (λ (f : JournalFault). Err (actor_fault f)) (same_fault is)));
   }
     where
       same_error : {T : Type 0} {a b : ActorFault} → ◌≡◌ {A = Result T ActorFault} (Err a) (Err b) → a ≡ b
@@ -125,7 +125,7 @@ module _ {D : Type 0} {supply : D → Supply} {faults : D → ℕ} {explains : D
 -- a call on the disk, and one after it that does not touch it
 pub disk_done : {D T U : Type 0} {supply : D → Supply} {faults : D → ℕ} {explains : D → Type 0} {old new : D} {x : T} {result : Result U ActorFault}
     → DiskGoes supply faults explains old new (Ok x) → (IsErrOf result Journal → ⊥) → DiskGoes supply faults explains old new result
-disk_done one not_failed = record { draws = one.draws; no_fewer = one.no_fewer; failed = λ is. absurd (not_failed is); calm = λ well. one.calm (λ h. absurd (cc (h))) }
+disk_done one not_failed = record { draws = one.draws; no_fewer = one.no_fewer; failed = λ is. absurd (not_failed is); unfailed = λ well. one.unfailed (λ h. absurd (cc (h))) }
 
 pub fault_not_full : {T : Type 0} (fault : JournalFault) → ◌≡◌ {A = Result T ActorFault} (Err (actor_fault fault)) (Err Full) → ⊥
 fault_not_full Failed h = cc (h)
@@ -146,5 +146,5 @@ disk_again one = record {
   draws = one.draws;
   no_fewer = one.no_fewer;
   failed = λ is. one.failed (ap (λ (f : ActorFault). Err f) (same_end is));
-  calm = λ well. one.calm (λ is. well (ap (λ (f : ActorFault). Err f) (same_end is)));
+  unfailed = λ well. one.unfailed (λ is. well (ap (λ (f : ActorFault). Err f) (same_end is)));
 }

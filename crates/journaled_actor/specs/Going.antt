@@ -5,7 +5,7 @@ use Rattle.hb_base.specs.Limits.{most_posts}
 use Rattle.hb_base.specs.Numbers.{Numbers}
 use Rattle.hb_base.specs.Outside.{Rose}
 use Rattle.hb_wire.specs.declared.post.Post.{Post}
-use Rattle.vote_journal.specs.Runs.{IsCalm}
+use Rattle.vote_journal.specs.Runs.{IsUnfailed}
 use Rattle.hb_rules.specs.declared.actor.ActorFault.{ActorFault}
 use Rattle.hb_rules.specs.declared.actor.ActorFault.TheVariants.{Journal, Full, Memory}
 use Rattle.hb_rules.specs.Actor.{Told}
@@ -29,4 +29,4 @@ pub record DiskGoes {D T : Type 0} (supply : D → Supply) (faults : D → ℕ) 
   pub draws : Draws (supply old) (supply new)
   pub no_fewer : faults old ≤ faults new
   pub failed : IsErrOf result Journal → Rose (faults old) (faults new) × explains new
-  pub calm : (IsErrOf result Journal → ⊥) → IsCalm faults supply old new
+  pub unfailed : (IsErrOf result Journal → ⊥) → IsUnfailed faults supply old new

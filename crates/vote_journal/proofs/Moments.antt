@@ -6,7 +6,7 @@ use Rattle.disk_model.specs.Disk.{Elapses}
 use Rattle.disk_model.specs.Supply.{Supply, Draws}
 use Rattle.vote_journal.specs.declared.fault.JournalFault.{JournalFault}
 use Rattle.vote_journal.specs.declared.fault.JournalFault.TheVariants.{Memory}
-use Rattle.vote_journal.specs.Runs.{Runs, HasReason, IsCalm, IsStep}
+use Rattle.vote_journal.specs.Runs.{Runs, HasReason, IsUnfailed, IsStep}
 
 draws_again : (a b c : Supply) → Draws a b → Draws b c → Draws a c
 draws_again a b c x y = record {
@@ -89,12 +89,12 @@ stood moment left_since faults supply disk P here = record {
   draws = draws_same (supply disk);
 }
 
-pub calm_same : {D : Type 0} (faults : D → ℕ) (supply : D → Supply) (disk : D) → IsCalm faults supply disk disk
-calm_same faults supply disk = record { no_fault = refl; power = refl }
+pub unfailed_same : {D : Type 0} (faults : D → ℕ) (supply : D → Supply) (disk : D) → IsUnfailed faults supply disk disk
+unfailed_same faults supply disk = record { no_fault = refl; power = refl }
 
-pub calm_again : {D : Type 0} (faults : D → ℕ) (supply : D → Supply) (a b c : D) → IsCalm faults supply a b → IsCalm faults supply b c
-    → IsCalm faults supply a c
-calm_again faults supply a b c x y = record { no_fault = y.no_fault ∙ x.no_fault; power = y.power ∙ x.power }
+pub unfailed_again : {D : Type 0} (faults : D → ℕ) (supply : D → Supply) (a b c : D) → IsUnfailed faults supply a b → IsUnfailed faults supply b c
+    → IsUnfailed faults supply a c
+unfailed_again faults supply a b c x y = record { no_fault = y.no_fault ∙ x.no_fault; power = y.power ∙ x.power }
 
 failed_later : {T D : Type 0} (faults : D → ℕ) (explains : D → Type 0) (old mid new : D) (result : Result T JournalFault) → faults old ≤ faults mid
     → IfErr result (HasReason faults explains mid new) → IfErr result (HasReason faults explains old new)
@@ -109,15 +109,15 @@ module _ {D : Type 0} {seen : D → Image} {may_leave : D → Image → Type 0} 
     {faults : D → ℕ} {supply : D → Supply} {explains : D → Type 0} where
   -- a step that is refused for want of memory
   pub unfed : {T : Type 0} {old new : D} {P : Image → Type 0} (result : Result T JournalFault) → IsErrAnd result (λ fault. fault ≡ Memory)
-      → Runs moment left_since faults supply old new P → IsCalm faults supply old new
+      → Runs moment left_since faults supply old new P → IsUnfailed faults supply old new
       → IsStep seen may_leave moment left_since faults supply explains old new P result
-  unfed (Ok value) is runs calm = absurd is
-  unfed (Err fault) is runs calm = record {
+  unfed (Ok value) is runs unfailed = absurd is
+  unfed (Err fault) is runs unfailed = record {
     durable = tt;
     runs = runs;
     failed = record { rose = λ failed. absurd (cc (is, failed)); explained = λ failed. absurd (cc (is, failed)) };
     no_other = λ foreign. cc (is, foreign);
-    calm = λ well. calm;
+    unfailed = λ well. unfailed;
   }
 
   -- a step that is refused as its first part was
@@ -131,30 +131,30 @@ module _ {D : Type 0} {seen : D → Image} {may_leave : D → Image → Type 0} 
     runs = weaker step.runs p;
     failed = subst (HasReason faults explains old new) (sym is) step.failed;
     no_other = λ foreign. step.no_other (sym is ∙ foreign);
-    calm = λ well. step.calm (λ failed. well (ap (λ (f : JournalFault). Err f) (is ∙ same_fault failed)));
+    unfailed = λ well. step.unfailed (λ failed. well (ap (λ (f : JournalFault). Err f) (is ∙ same_fault failed)));
   }
 
   -- a step that is done as its first part was
   pub weaker_step : {T U : Type 0} {old new : D} {P Q : Image → Type 0} {value : T} {value' : U}
       → IsStep seen may_leave moment left_since faults supply explains old new P (Ok value) → ((c : Image) → P c → Q c)
       → IsStep seen may_leave moment left_since faults supply explains old new Q (Ok value')
-  weaker_step step p = record { durable = step.durable; runs = weaker step.runs p; failed = tt; no_other = tt; calm = λ well. step.calm (λ failed. absurd (cc (failed))) }
+  weaker_step step p = record { durable = step.durable; runs = weaker step.runs p; failed = tt; no_other = tt; unfailed = λ well. step.unfailed (λ failed. absurd (cc (failed))) }
 
   -- a step after calls that went well
   pub and_then : {T : Type 0} {old mid new : D} {P Q R : Image → Type 0} {result : Result T JournalFault}
-      → Runs moment left_since faults supply old mid P → IsCalm faults supply old mid
+      → Runs moment left_since faults supply old mid P → IsUnfailed faults supply old mid
       → IsStep seen may_leave moment left_since faults supply explains mid new Q result
       → ((c : Image) → P c → R c) → ((c : Image) → Q c → R c)
       → IsStep seen may_leave moment left_since faults supply explains old new R result
-  and_then {old = old} {mid = mid} {new = new} {result = result} runs calm step p q = record {
+  and_then {old = old} {mid = mid} {new = new} {result = result} runs unfailed step p q = record {
     durable = step.durable;
     runs = more_calls runs step.runs p q;
     failed = failed_later faults explains old mid new result runs.faults_stay step.failed;
     no_other = step.no_other;
-    calm = λ well. calm_again faults supply old mid new calm (step.calm well);
+    unfailed = λ well. unfailed_again faults supply old mid new unfailed (step.unfailed well);
   }
 
   -- a step that went well
-  pub done_calm : {T : Type 0} {old new : D} {P : Image → Type 0} {value : T}
-      → IsStep seen may_leave moment left_since faults supply explains old new P (Ok value) → IsCalm faults supply old new
-  done_calm step = step.calm (λ failed. absurd (cc (failed)))
+  pub done_unfailed : {T : Type 0} {old new : D} {P : Image → Type 0} {value : T}
+      → IsStep seen may_leave moment left_since faults supply explains old new P (Ok value) → IsUnfailed faults supply old new
+  done_unfailed step = step.unfailed (λ failed. absurd (cc (failed)))

@@ -21,7 +21,7 @@ pub record HasReason {D : Type 0} (faults : D → ℕ) (explains : D → Type 0)
   pub explained : fault ≡ Failed → explains new
 
 -- the disk has not failed, and has its power as before
-pub record IsCalm {D : Type 0} (faults : D → ℕ) (supply : D → Supply) (old new : D) : Type 0 where
+pub record IsUnfailed {D : Type 0} (faults : D → ℕ) (supply : D → Supply) (old new : D) : Type 0 where
   pub no_fault : faults new ≡ faults old
   pub power : (supply new).off ≡ (supply old).off
 
@@ -35,7 +35,7 @@ pub record IsStep {T D : Type 0} (seen : D → Image) (may_leave : D → Image �
   pub runs : Runs moment left_since faults supply old new P
   pub failed : IfErr result (HasReason faults explains old new)
   pub no_other : IfErr result (λ fault. fault ≡ NotAJournal → ⊥)
-  pub calm : (IsErrOf result Failed → ⊥) → IsCalm faults supply old new
+  pub unfailed : (IsErrOf result Failed → ⊥) → IsUnfailed faults supply old new
 
 -- what might have been left before, or a sound image of this text, in so many entries at most
 abbrev pub LeftOrSays : (Image → Type 0) → List ℕ → ℕ → Image → Type 0

@@ -3,7 +3,7 @@ ghost use Rattle.std.specs.Prelude.{◌≡◌, ◌+◌, ◌-◌, ◌^◌, ◌<�
 ghost use Rattle.std.specs.List.{concat};
 ghost use Rattle.disk_model.specs.Disk.{Only, LeavesOnly};
 ghost use Rattle.disk_model.specs.Supply.{Draws};
-ghost use Rattle.vote_journal.specs.Runs.{Runs, HasReason, IsCalm, IsStep, IsUntouched, LeftOrSays};
+ghost use Rattle.vote_journal.specs.Runs.{Runs, HasReason, IsUnfailed, IsStep, IsUntouched, LeftOrSays};
 ghost use Rattle.vote_journal.specs.Text.{text_of, live_entries, both_have_entries, is_foreign, IsSound, SaysOnly, SaysMaybe};
 
 use crate::JournalFault;
@@ -68,7 +68,7 @@ impl<D: Disk> Journal<D> {
         ensures failed { IfErr result (λ refused. HasReason D.faults D.explains disk refused.0 refused.1) }
 
         // The disk fails and loses its power only where that is told.
-        ensures calm { (IfErr result (λ refused. refused.1 ≢ JournalFault.Failed)) → IsCalm D.faults D.supply disk (disk_after result) }
+        ensures unfailed { (IfErr result (λ refused. refused.1 ≢ JournalFault.Failed)) → IsUnfailed D.faults D.supply disk (disk_after result) }
     {
         let mut journal = Journal::shut(alloc, disk);
         match journal.reopen() {
@@ -123,7 +123,7 @@ impl<D: Disk> Journal<D> {
             (LeftOrSays (D.may_leave (disk_of self.old)) (text_of (D.seen (disk_of self.old))) (length (live_entries (D.seen (disk_of self.old))))) }
         ensures supply { Draws (D.supply (disk_of self.old)) (D.supply (disk_of self.new)) }
         ensures failed { IfErr result (HasReason D.faults D.explains (disk_of self.old) (disk_of self.new)) }
-        ensures calm { (IsErrOf result JournalFault.Failed → ⊥) → IsCalm D.faults D.supply (disk_of self.old) (disk_of self.new) }
+        ensures unfailed { (IsErrOf result JournalFault.Failed → ⊥) → IsUnfailed D.faults D.supply (disk_of self.old) (disk_of self.new) }
     {
         match open(self.alloc, &mut self.disk) {
             Ok(opened) => {

@@ -4,7 +4,7 @@ ghost use Rattle.std.specs.List.{concat};
 ghost use Rattle.disk_model.specs.Image.{half_of, other};
 ghost use Rattle.disk_model.specs.Disk.{Only, LeavesOnly};
 ghost use Rattle.disk_model.specs.Supply.{Draws};
-ghost use Rattle.vote_journal.specs.Runs.{Runs, HasReason, IsCalm, IsStep, IsUntouched, LeftOrSays};
+ghost use Rattle.vote_journal.specs.Runs.{Runs, HasReason, IsUnfailed, IsStep, IsUntouched, LeftOrSays};
 ghost use Rattle.vote_journal.specs.Text.{HasBytes, half_entries, is_foreign, blocks, live_half, live_by, live_entries, text_of, is_some_entry};
 ghost use Rattle.vote_journal.specs.Text.{IsSound, SaysOnly};
 ghost use Rattle.vote_journal.specs.Steps.{IsFoundIn, MayArrange, Arranged, arranged};
@@ -69,7 +69,7 @@ fn survey<D: Disk>(alloc: Global, disk: &mut D) -> Result<Findings, JournalFault
     ensures ours { OnOk result ((is_foreign (D.seen disk.old).a || is_foreign (D.seen disk.old).b) ≡ false) }
     ensures foreign_durable { IfErr result (λ fault. fault ≡ JournalFault.NotAJournal → Only (D.seen disk.new) (D.may_leave disk.new)) }
     ensures failed { IfErr result (HasReason D.faults D.explains disk.old disk.new) }
-    ensures calm { (IsErrOf result JournalFault.Failed → ⊥) → IsCalm D.faults D.supply disk.old disk.new }
+    ensures unfailed { (IsErrOf result JournalFault.Failed → ⊥) → IsUnfailed D.faults D.supply disk.old disk.new }
     ensures runs { Runs D.moment D.left_since D.faults D.supply disk.old disk.new (D.may_leave disk.old) }
 {
     disk.sync()?;
@@ -133,7 +133,7 @@ pub(crate) fn open<D: Disk>(alloc: Global, disk: &mut D) -> Result<Opened, Journ
         → (D.seen disk.new ≡ D.seen disk.old) × LeavesOnly D.moment D.left_since disk.old disk.new (D.may_leave disk.old) }
     ensures supply { Draws (D.supply disk.old) (D.supply disk.new) }
     ensures failed { IfErr result (HasReason D.faults D.explains disk.old disk.new) }
-    ensures calm { (IsErrOf result JournalFault.Failed → ⊥) → IsCalm D.faults D.supply disk.old disk.new }
+    ensures unfailed { (IsErrOf result JournalFault.Failed → ⊥) → IsUnfailed D.faults D.supply disk.old disk.new }
 {
     let found = survey(alloc, disk)?;
     let live = live_of(&found.a.entries, &found.b.entries);

@@ -4,7 +4,7 @@ use Rattle.journaled_actor.proofs.Crashes.{left_now}
 use Rattle.journaled_actor.proofs.Going.{disk_failed, disk_still, fault_not_full}
 use Rattle.journaled_actor.proofs.Left.{says_maybe, added_few}
 use Rattle.journaled_actor.proofs.Safe.{usable_says, entries_say}
-use Rattle.vote_journal.proofs.Moments.{done_calm}
+use Rattle.vote_journal.proofs.Moments.{done_unfailed}
 use Rattle.journaled_actor.proofs.casting.keep.Goals as goal
 
 pub record-requires : goal.record-requires
@@ -22,7 +22,7 @@ returns-in-Ok g c =
       entries = did.entries;
       text = did.text;
       images = λ image may. left_now d.may_leave d.moment d.left_since g.met.D.Disk.counts_now (disk_of c.args.journal.now) (disk_of c.record.new.journal) _ did.step.runs.moments image may;
-      disk = record { draws = did.step.runs.draws; no_fewer = did.step.runs.faults_stay; failed = λ h. absurd (cc (h)); calm = λ _. done_calm did.step };
+      disk = record { draws = did.step.runs.draws; no_fewer = did.step.runs.faults_stay; failed = λ h. absurd (cc (h)); unfailed = λ _. done_unfailed did.step };
       other = λ h. cc (h);
     }
 
@@ -35,7 +35,7 @@ returns-in-Err g c =
       entries = tt;
       text = tt;
       images = λ image may. left_now d.may_leave d.moment d.left_since g.met.D.Disk.counts_now (disk_of c.args.journal.now) (disk_of c.record.new.journal) _ did.step.runs.moments image may;
-      disk = disk_failed did.step.runs.draws did.step.runs.faults_stay did.step.failed did.step.no_other did.step.calm;
+      disk = disk_failed did.step.runs.draws did.step.runs.faults_stay did.step.failed did.step.no_other did.step.unfailed;
       other = fault_not_full c.in-Err.fault;
     })
 

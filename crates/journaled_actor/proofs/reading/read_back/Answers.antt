@@ -30,7 +30,7 @@ returns-in-Err g c =
       text = tt;
       ready = tt;
       written = tt;
-      disk = disk_failed runs.draws runs.faults_stay did.failed (did.no_foreign sound) did.calm;
+      disk = disk_failed runs.draws runs.faults_stay did.failed (did.no_foreign sound) did.unfailed;
       other = fault_not_full c.in-Err.fault;
     })
 
@@ -53,7 +53,7 @@ returns-in_err-text g c =
       text = tt;
       ready = tt;
       written = tt;
-      disk = record { draws = runs.draws; no_fewer = runs.faults_stay; failed = λ h. absurd (cc (h)); calm = λ _. did.calm (λ h. absurd (cc (h))) };
+      disk = record { draws = runs.draws; no_fewer = runs.faults_stay; failed = λ h. absurd (cc (h)); unfailed = λ _. did.unfailed (λ h. absurd (cc (h))) };
       other = λ h. cc (h);
     })
 
@@ -76,7 +76,7 @@ returns-in_err-read_votes g c =
       text = tt;
       ready = tt;
       written = tt;
-      disk = record { draws = runs.draws; no_fewer = runs.faults_stay; failed = λ h. absurd (cc (h)); calm = λ _. did.calm (λ h. absurd (cc (h))) };
+      disk = record { draws = runs.draws; no_fewer = runs.faults_stay; failed = λ h. absurd (cc (h)); unfailed = λ _. did.unfailed (λ h. absurd (cc (h))) };
       other = λ h. cc (h);
     })
 
@@ -107,6 +107,6 @@ returns g c =
         few = few_same _ _ _ _ (ap length (did.same sound)) (did.text sound) (c.requires.safe.1 (d.seen old) (m.seen_may_stay old)).few;
       };
       written = subst (λ (n : Numbers). AreWritten n c.in_ok-read_votes.field-0.items) c.config.ensures found.written;
-      disk = record { draws = runs.draws; no_fewer = runs.faults_stay; failed = λ h. absurd (cc (h)); calm = λ _. did.calm (λ h. absurd (cc (h))) };
+      disk = record { draws = runs.draws; no_fewer = runs.faults_stay; failed = λ h. absurd (cc (h)); unfailed = λ _. did.unfailed (λ h. absurd (cc (h))) };
       other = λ h. cc (h);
     }

@@ -1,7 +1,7 @@
 use Rattle.std.proofs.Common.{refl, sym, ◌∙◌, arith}
 use Rattle.std.proofs.lemmas.Result.{on_ok_weaker}
 use Rattle.vote_journal.specs.Usable.{disk_of, entries_in_journal}
-use Rattle.vote_journal.proofs.Moments.{stood, calm_same}
+use Rattle.vote_journal.proofs.Moments.{stood, unfailed_same}
 use Rattle.journaled_actor.proofs.Left.{full_is, folded_full, folded_not}
 use Rattle.journaled_actor.proofs.Safe.{usable_says}
 use Rattle.journaled_actor.proofs.recording.fold_if_full.Goals as goal
@@ -37,6 +37,6 @@ returns-else-is_full g c =
             (λ image since. usable_says d.seen d.may_leave j c.requires image (g.met.D.Disk.only_now (disk_of j) image since));
         failed = tt;
         no_other = tt;
-        calm = λ _. calm_same d.faults d.supply (disk_of j);
+        unfailed = λ _. unfailed_same d.faults d.supply (disk_of j);
       };
     }

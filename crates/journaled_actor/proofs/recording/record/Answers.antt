@@ -1,7 +1,7 @@
 use Rattle.std.proofs.Common.{arith, length, sym, ◌+◌, ◌∷◌, ◌++◌, [], ℕ, List, ap, ◌∙◌, subst}
 use Rattle.std.proofs.lemmas.Result.{on_ok_weaker}
 use Rattle.vote_journal.specs.Text.{live_entries, SaysMaybe}
-use Rattle.vote_journal.proofs.Moments.{refused, and_then, done_calm}
+use Rattle.vote_journal.proofs.Moments.{refused, and_then, done_unfailed}
 use Rattle.journaled_actor.proofs.Left.{says_maybe, maybe_most}
 use Rattle.journaled_actor.proofs.Safe.{live_is}
 use Rattle.journaled_actor.specs.Folding.{folded_if_full}
@@ -22,7 +22,7 @@ returns g c =
       usable = did.usable;
       entries = on_ok_weaker c.append.result (λ added. added ∙ ap (λ (es : List (List ℕ)). es ++ c.args.entry.now ∷ []) folded.entries) did.added;
       text = on_ok_weaker c.append.result (λ text. text ∙ ap (λ (xs : List ℕ). xs ++ c.args.entry.now) folded.text) did.text;
-      step = and_then folded.step.runs (done_calm folded.step) did.step (λ image says. says_maybe _ c.args.entry.now _ _ image (omega arith) says)
+      step = and_then folded.step.runs (done_unfailed folded.step) did.step (λ image says. says_maybe _ c.args.entry.now _ _ image (omega arith) says)
           (λ image says. maybe_most _ c.args.entry.now _ _ image (omega (arith, many))
           (subst (λ (text : List ℕ). SaysMaybe text c.args.entry.now (length (live_entries mid) + 1) image) folded.text says));
     }

@@ -4,7 +4,7 @@ use Rattle.disk_model.specs.declared.disk.Half.{Half}
 use Rattle.disk_model.specs.Image.{Image, half_of, other}
 use Rattle.vote_journal.specs.Text.{half_entries, HoldsEntries}
 use Rattle.vote_journal.specs.Steps.{MayGain, Folded}
-use Rattle.vote_journal.proofs.Moments.{done_calm, calm_again, unfed, weaker, refused, more_calls, and_then}
+use Rattle.vote_journal.proofs.Moments.{done_unfailed, unfailed_again, unfed, weaker, refused, more_calls, and_then}
 use Rattle.vote_journal.proofs.Folds.{none_held, none_gate, folds_here, fold_gain, fold_lose, folded}
 use Rattle.vote_journal.proofs.fold.fold_disk.Goals as goal
 
@@ -23,7 +23,7 @@ returns-in_err-frame_into-clause-step g c =
     let none : HoldsEntries (half_of (other c.args.live) old) [] = subst (λ (h : Half). HoldsEntries (half_of h old) []) c.requires.spare c.requires.none in
     unfed c.from_residual-in_err-frame_into.result c.from_residual-in_err-frame_into.ensures.1
     (weaker c.read_text.ensures.step.runs (λ image is. folds_here c.args.live old image entries c.requires.live none is))
-    (done_calm c.in_ok-read_text.ensures.step)
+    (done_unfailed c.in_ok-read_text.ensures.step)
 
 pub frame_into-requires-clause-short : goal.frame_into-requires-clause-short
 frame_into-requires-clause-short g c =
@@ -51,7 +51,7 @@ returns-in_err-add_entry-clause-step g c =
     let entries : List (List ℕ) = half_entries (half_of c.args.live old) in
     let none : HoldsEntries (half_of (other c.args.live) old) [] = subst (λ (h : Half). HoldsEntries (half_of h old) []) c.requires.spare c.requires.none in
     let text = c.deref-2.ensures.value ∙ c.in_ok-read_text.ensures.text in
-    and_then c.read_text.ensures.step.runs (done_calm c.in_ok-read_text.ensures.step)
+    and_then c.read_text.ensures.step.runs (done_unfailed c.in_ok-read_text.ensures.step)
     (refused c.from_residual-in_err-add_entry.result c.from_residual-in_err-add_entry.ensures.1 c.in_err-add_entry.ensures.step (λ image may. may))
     (λ image is. folds_here c.args.live old image entries c.requires.live none is)
     (λ image may. fold_gain c.args.live c.args.spare old image entries c.deref-2.result.now c.requires.spare c.requires.live c.requires.none text
@@ -76,8 +76,8 @@ returns-clause-step g c =
     c.requires.some
     (subst (λ (i : Image). MayGain c.args.spare (half_entries (half_of c.args.spare i)) c.deref-2.result.now (half_of (other c.args.spare) i) image)
     c.read_text.ensures.seen may)))
-    (calm_again g.D.Disk.faults g.D.Disk.supply c.args.disk.now c.read_text.new.disk c.add_entry.new.disk (done_calm c.in_ok-read_text.ensures.step)
-    (done_calm c.in_ok-add_entry.ensures.step))
+    (unfailed_again g.D.Disk.faults g.D.Disk.supply c.args.disk.now c.read_text.new.disk c.add_entry.new.disk (done_unfailed c.in_ok-read_text.ensures.step)
+    (done_unfailed c.in_ok-add_entry.ensures.step))
     c.retire.ensures.step (λ image says. says)
     (fold_lose c.args.live c.args.spare old mid entries c.deref-2.result.now c.requires.spare c.requires.live c.requires.none text c.requires.some added kept)
 

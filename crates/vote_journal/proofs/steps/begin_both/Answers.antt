@@ -14,7 +14,7 @@ returns-in_err-write_at-2-clause-step g c =
           one.time one.cause.later one.supply two.time two.cause.later two.supply;
       failed = search rules;
       no_other = search rules;
-      calm = search rules;
+      unfailed = search rules;
     }
 
 pub returns-clause-step : goal.returns-clause-step

@@ -2,7 +2,7 @@ use Rattle.std.proofs.Common.{inl, inr, subst}
 use Rattle.std.proofs.lemmas.Result.{IfOk-weaker}
 use Rattle.disk_model.specs.Image.{Image}
 use Rattle.disk_model.specs.Disk.{Cut, OnHalf}
-use Rattle.vote_journal.proofs.Moments.{refused, and_then, done_calm}
+use Rattle.vote_journal.proofs.Moments.{refused, and_then, done_unfailed}
 use Rattle.vote_journal.proofs.Gains.{shut_is}
 use Rattle.vote_journal.proofs.steps.retire.Goals as goal
 
@@ -18,5 +18,5 @@ returns-clause-shut g c =
 
 pub returns-clause-step : goal.returns-clause-step
 returns-clause-step g c =
-    and_then c.shut_gate.ensures.step.runs (done_calm c.in_ok-shut_gate.ensures.step) c.cut_through.ensures.step (λ image torn. inl torn)
+    and_then c.shut_gate.ensures.step.runs (done_unfailed c.in_ok-shut_gate.ensures.step) c.cut_through.ensures.step (λ image torn. inl torn)
     (λ image cut. inr (subst (λ (mid : Image). OnHalf c.args.half (Cut 9) mid image) c.in_ok-shut_gate.ensures.written cut))

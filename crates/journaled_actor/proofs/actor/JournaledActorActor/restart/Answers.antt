@@ -5,7 +5,7 @@ use Rattle.vote_journal.specs.Text.{text_of}
 use Rattle.vote_journal.specs.Usable.{disk_of}
 use Rattle.journaled_actor.specs.Folding.{IsReady}
 use Rattle.disk_model.specs.Supply.{Supply, Draws}
-use Rattle.hb_rules.specs.Actor.{AreSeen, Goes, IsStillOff, IsOnAgain, IsCalmAgain, AreCastAgain, budget}
+use Rattle.hb_rules.specs.Actor.{AreSeen, Goes, IsStillOff, IsOnAgain, IsUnfailedAgain, AreCastAgain, budget}
 use Rattle.hb_base.specs.Limits.{most_stops}
 use Rattle.hb_rules.specs.Ledger.{IsPrefix}
 use Rattle.hb_rules.specs.Terms.{Terms, heard_got}
@@ -61,7 +61,7 @@ returns-in_err-switch_on g c =
       told = λ no. absurd (no refl);
       full = λ h. absurd (cc (h));
       journal = λ h. absurd (cc (h));
-      calm = λ _. from (actor_view t d.supply d.faults) IsCalmAgain c.self.view_is (record {
+      unfailed = λ _. from (actor_view t d.supply d.faults) IsUnfailedAgain c.self.view_is (record {
         no_fault = along (sym same) (λ disk. d.faults disk ≡ d.faults (disk_of i.journal)) refl;
         power = λ more. absurd (omega (arith, more));
       });
@@ -119,7 +119,7 @@ invariant_of-self-2 g c =
       along (sym none) (λ (ks : List ℕ). IsOpen t now (text_of (d.seen (disk_of journal))) (g.C.Core.stands c.take_up-begun.new.core) (heard_got t now ks))
           (when_ok c.take_up-begun.result _ did.opened ok),
     ))
-    (λ live. (did.disk.calm (not_failed c.take_up-begun.result (sym c.is_ok-self-inside.ensures.value ∙ live))).power
+    (λ live. (did.disk.unfailed (not_failed c.take_up-begun.result (sym c.is_ok-self-inside.ensures.value ∙ live))).power
     ∙ ap (λ (s : Supply). s.off) on.supply)
 
 pub returns : goal.returns
@@ -151,9 +151,9 @@ returns g c =
             (along on.faults (λ (n : ℕ). Rose n (d.faults (disk_of c.take_up-begun.new.journal))) (did.disk.failed is).0),
         g.met.D.Power.named (disk_of c.take_up-begun.new.journal) (did.disk.failed is).1,
       ));
-      calm = λ well. from (actor_view t d.supply d.faults) IsCalmAgain c.self.view_is (record {
-        no_fault = (did.disk.calm well).no_fault ∙ on.faults;
-        power = λ _. (did.disk.calm well).power ∙ ap (λ (s : Supply). s.off) on.supply;
+      unfailed = λ well. from (actor_view t d.supply d.faults) IsUnfailedAgain c.self.view_is (record {
+        no_fault = (did.disk.unfailed well).no_fault ∙ on.faults;
+        power = λ _. (did.disk.unfailed well).power ∙ ap (λ (s : Supply). s.off) on.supply;
       });
       again = along c.self.view_is (λ a. OnOk c.take_up-begun.result
           (AreCastAgain (t a.core) (b.seen a.seat) (b.seen c.take_up-begun.new.seat))) did.again;

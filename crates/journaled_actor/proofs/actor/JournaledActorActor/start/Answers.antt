@@ -3,7 +3,7 @@ use Rattle.hb_base.specs.Outside.{Rose}
 use Rattle.vote_journal.specs.Text.{text_of}
 use Rattle.vote_journal.specs.Usable.{disk_of}
 use Rattle.journaled_actor.specs.Folding.{IsReady}
-use Rattle.hb_rules.specs.Actor.{Goes, IsCalm}
+use Rattle.hb_rules.specs.Actor.{Goes, IsUnfailed}
 use Rattle.hb_rules.specs.Terms.{Terms, heard_got}
 use Rattle.journaled_actor.specs.Going.{SeatGoes}
 use Rattle.journaled_actor.specs.Kept.{IsOpen, actor_view}
@@ -43,7 +43,7 @@ invariant_of-self g c =
       along (sym fresh.0) (λ (got : List ℕ). IsOpen t now (text_of (d.seen (disk_of journal))) (g.C.Core.stands c.take_up-begun.new.core) (heard_got t now got))
           (when_ok c.take_up-begun.result _ did.opened ok),
     ))
-    (λ live. (did.disk.calm (not_failed c.take_up-begun.result (sym c.is_ok-self-inside.ensures.value ∙ live))).power
+    (λ live. (did.disk.unfailed (not_failed c.take_up-begun.result (sym c.is_ok-self-inside.ensures.value ∙ live))).power
     ∙ holds.fresh_on (along (sym c.self.view_is) (λ a. a.fresh ≡ true) c.requires.fresh))
 
 pub returns : goal.returns
@@ -70,8 +70,8 @@ returns g c =
         along c.self.view_is (λ a. Rose (d.faults a.disk) (d.faults (disk_of c.take_up-begun.new.journal))) (did.disk.failed is).0,
         g.met.D.Power.named (disk_of c.take_up-begun.new.journal) (did.disk.failed is).1,
       ));
-      calm = λ well. from (actor_view t d.supply d.faults) IsCalm c.self.view_is
-          (record { no_fault = (did.disk.calm well).no_fault; power = (did.disk.calm well).power });
+      unfailed = λ well. from (actor_view t d.supply d.faults) IsUnfailed c.self.view_is
+          (record { no_fault = (did.disk.unfailed well).no_fault; power = (did.disk.unfailed well).power });
       got = fresh.0;
       restarts = along c.self.view_is (λ a. i.restarts ≡ a.restarts) refl;
     }

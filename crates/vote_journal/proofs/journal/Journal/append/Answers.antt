@@ -1,7 +1,7 @@
 use Rattle.std.proofs.Common.{◌≡◌, ◌∷◌, ◌++◌, [], ◌∙◌, ap, refl, sym, subst, List, ℕ, length, arith}
 use Rattle.disk_model.specs.Image.{half_of, other}
 use Rattle.vote_journal.specs.Text.{half_entries, HoldsEntries}
-use Rattle.vote_journal.proofs.Moments.{stood, unfed, calm_same, refused, weaker_step}
+use Rattle.vote_journal.proofs.Moments.{stood, unfed, unfailed_same, refused, weaker_step}
 use Rattle.vote_journal.proofs.Blocks.{holds_has}
 use Rattle.vote_journal.proofs.Says.{gain_says, seen_maybe, text_is, concat_more, gate_more, count_more, bytes_more}
 use Rattle.vote_journal.proofs.journal.Journal.append.Goals as goal
@@ -12,7 +12,7 @@ returns-in_err-framed-clause-step g c =
     let u = c.requires.usable in
     unfed c.from_residual.result c.from_residual.ensures.1 (stood g.D.Disk.moment g.D.Disk.left_since g.D.Disk.faults g.D.Disk.supply j.disk _
     (λ image since. seen_maybe j.live (g.D.Disk.seen j.disk) image _ c.args.entry.now u.live u.spare
-    (u.durable image (g.met.D.Disk.only_now j.disk image since)))) (calm_same g.D.Disk.faults g.D.Disk.supply j.disk)
+    (u.durable image (g.met.D.Disk.only_now j.disk image since)))) (unfailed_same g.D.Disk.faults g.D.Disk.supply j.disk)
 
 pub returns-in_err-add_entry-clause-step : goal.returns-in_err-add_entry-clause-step
 returns-in_err-add_entry-clause-step g c =

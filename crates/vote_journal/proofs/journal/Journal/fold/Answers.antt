@@ -2,7 +2,7 @@ use Rattle.std.proofs.Common.{◌∙◌, ◌∷◌, [], ap, length, arith, List,
 use Rattle.std.specs.List.{concat}
 use Rattle.std.proofs.lemmas.List.{length-append}
 use Rattle.vote_journal.specs.Text.{blocks}
-use Rattle.vote_journal.proofs.Moments.{stood, unfed, calm_same}
+use Rattle.vote_journal.proofs.Moments.{stood, unfed, unfailed_same}
 use Rattle.vote_journal.proofs.Folds.{folds_here, fold_opens}
 use Rattle.vote_journal.proofs.journal.Journal.fold.Goals as goal
 
@@ -12,7 +12,7 @@ returns-in_err-half-clause-step g c =
     let u = c.requires.usable in
     unfed c.from_residual.result c.from_residual.ensures.1 (stood g.D.Disk.moment g.D.Disk.left_since g.D.Disk.faults g.D.Disk.supply j.disk _
     (λ image since. folds_here j.live (g.D.Disk.seen j.disk) image _ u.live u.spare (u.durable image (g.met.D.Disk.only_now j.disk image since))))
-    (calm_same g.D.Disk.faults g.D.Disk.supply j.disk)
+    (unfailed_same g.D.Disk.faults g.D.Disk.supply j.disk)
 
 pub returns-in_err-text-clause-step : goal.returns-in_err-text-clause-step
 returns-in_err-text-clause-step g c =
@@ -21,7 +21,7 @@ returns-in_err-text-clause-step g c =
     unfed c.from_residual-in_err-text.result c.from_residual-in_err-text.ensures.1
     (stood g.D.Disk.moment g.D.Disk.left_since g.D.Disk.faults g.D.Disk.supply j.disk _
     (λ image since. folds_here j.live (g.D.Disk.seen j.disk) image _ u.live u.spare (u.durable image (g.met.D.Disk.only_now j.disk image since))))
-    (calm_same g.D.Disk.faults g.D.Disk.supply j.disk)
+    (unfailed_same g.D.Disk.faults g.D.Disk.supply j.disk)
 
 pub returns-in_err-framed-clause-step : goal.returns-in_err-framed-clause-step
 returns-in_err-framed-clause-step g c =
@@ -30,7 +30,7 @@ returns-in_err-framed-clause-step g c =
     unfed c.from_residual-in_err-framed.result c.from_residual-in_err-framed.ensures.1
     (stood g.D.Disk.moment g.D.Disk.left_since g.D.Disk.faults g.D.Disk.supply j.disk _
     (λ image since. folds_here j.live (g.D.Disk.seen j.disk) image _ u.live u.spare (u.durable image (g.met.D.Disk.only_now j.disk image since))))
-    (calm_same g.D.Disk.faults g.D.Disk.supply j.disk)
+    (unfailed_same g.D.Disk.faults g.D.Disk.supply j.disk)
 
 pub returns-clause-one : goal.returns-clause-one
 returns-clause-one g c =

@@ -38,5 +38,5 @@ pub returns-in-Ok-clause-cut : goal.returns-in-Ok-clause-cut
 returns-in-Ok-clause-cut g c = λ sound.
     (opens c.in-Ok.opened.live (g.D.Disk.seen c.args.self.now.disk) (g.D.Disk.seen c.open.new.disk) c.in-Ok.ensures.live (c.in-Ok.ensures.arranged sound)).cut
 
-pub returns-in-Err-clause-calm : goal.returns-in-Err-clause-calm
-returns-in-Err-clause-calm g c = λ well. c.in-Err.ensures.calm (λ failed. well (ap (λ (f : JournalFault). Err f) (same_fault failed)))
+pub returns-in-Err-clause-unfailed : goal.returns-in-Err-clause-unfailed
+returns-in-Err-clause-unfailed g c = λ well. c.in-Err.ensures.unfailed (λ failed. well (ap (λ (f : JournalFault). Err f) (same_fault failed)))
