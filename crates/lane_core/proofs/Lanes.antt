@@ -24,7 +24,7 @@ use Rattle.rbc_core.specs.Broadcast as broadcast
 use Rattle.aba_core.specs.State as agreement
 use Rattle.lane_core.specs.declared.cores.Cores.{Cores}
 use Rattle.lane_core.specs.Cores.{StandFor, IsUntouched, StandsAt, HearsOne}
-use Rattle.lane_core.specs.Lane.{LaneView, slots_at, cores_at, is_open, AreAtEpoch, StaysAt, ArePlaced, Stands, Hears, Sets, Opens, HearsAt, IsOpenFor, HasRoom, AreRecovered}
+use Rattle.lane_core.specs.Lane.{LaneView, slots_at, cores_at, is_open, AreAtEpoch, StaysAt, ArePlaced, Stands, Hears, Sets, Opens, HearsAt, IsOpenFor, HasRoom, AreRecovered, KeepsStanding}
 use Rattle.lane_core.proofs.Parts.{broadcast_inside, agreement_inside, heard_broadcast_inside, read_agreement_inside, heard_agreement_inside, broadcast_slots-parts, agreement_slots-parts}
 
 -- ---- lists of which an epoch looks at the same
@@ -142,6 +142,14 @@ pub ArePlaced-same : (c : Numbers) (i j : ℕ) (old new : List (Option Cores)) �
     → ArePlaced c i j new
 ArePlaced-same c i j old new placed same = record {
   each = λ k. subst (λ (place : Option Cores). AreAtEpoch c i j k place) (sym (same k)) (placed.each k);
+}
+
+-- a lane of which no epoch has changed
+pub kept_places : (l : LaneView) (epochs : List (Option Cores)) → ((k : ℕ) → cores_at epochs k ≡ cores_at l.epochs k)
+    → KeepsStanding l (record l { epochs = epochs })
+kept_places l epochs same = λ own heard stands. record {
+  idle = stands.idle;
+  each = λ e below. subst (λ (place : Option Cores). StandsAt e place own heard) (sym (same e)) (stands.each e below);
 }
 
 -- cores stand at a place that is there

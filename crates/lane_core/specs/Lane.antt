@@ -63,6 +63,10 @@ pub record Hears (old new : LaneView) (h : Hearing) (before after : List Vote) :
   pub stands : (own : List Vote) (heard : List Hearing) → Stands old own heard
       → Stands new (own ++ votes) (heard ++ h ∷ [])
 
+-- it stands for whatever it stood for
+abbrev pub KeepsStanding : LaneView → LaneView → Type 0
+KeepsStanding old new = (own : List Vote) (heard : List Hearing) → Stands old own heard → Stands new own heard
+
 -- ---- parts of the calls
 
 -- for how many votes the agreement of an epoch asks for room

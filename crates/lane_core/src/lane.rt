@@ -11,7 +11,7 @@ ghost use Rattle.hb_rules.specs.Slots.{IsIdle};
 ghost use Rattle.hb_rules.specs.Terms.{AreSpelled};
 ghost use Rattle.rbc_core.specs.Broadcast.{IsShort};
 ghost use Rattle.lane_core.specs.Cores.{is_for_broadcast, StandsAt};
-ghost use Rattle.lane_core.specs.Lane.{slots_at, cores_at, is_open, AreAtEpoch, StaysAt, IsSameLane, Stands, Hears, IsOpenFor, HearsAt, HasRoom, Sets, Opens, AreRecovered, room_at};
+ghost use Rattle.lane_core.specs.Lane.{slots_at, cores_at, is_open, AreAtEpoch, StaysAt, IsSameLane, Stands, Hears, IsOpenFor, HearsAt, HasRoom, Sets, Opens, AreRecovered, KeepsStanding, room_at};
 
 use crate::cores::Cores;
 use coin_deal::Deal;
@@ -89,9 +89,10 @@ impl LaneCore {
     }
 
     /// Hears a vote that node `from` has cast, and adds the votes that it makes due: those of its epoch's broadcast, and then
-    /// those of the agreement. A vote of an epoch that the run does not have makes nothing due. Want of memory adds no vote;
-    /// the state is of no use then. Where something of the epoch was cast or heard, only a vote of the broadcast, or a
-    /// proposal, can want memory, if there is room for all votes of the agreement of one epoch.
+    /// those of the agreement. A vote of an epoch that the run does not have makes nothing due. Room for all votes of the
+    /// agreement of one epoch is reserved before anything changes. Want of memory adds no vote. Where a vote of the
+    /// broadcast, or a proposal, wants memory, the state is of no use then; else it stands for what it stood for. Where
+    /// something of the epoch was cast or heard, only such a vote can want memory, if there was that room.
     pub fn hear_vote(
         &mut self,
         alloc: Global,
@@ -103,6 +104,7 @@ impl LaneCore {
         requires short { IsShort vote.now }
         ensures ok { OnOk result (Hears self.old self.new (hearing from vote.now) due.old.votes due.new.votes) }
         ensures due { OnErr result (due.new.votes ≡ due.old.votes) }
+        ensures kept { is_for_broadcast vote.now ≡ false → OnErr result (KeepsStanding self.old self.new) }
         ensures same { IsSameLane self.old self.new }
         ensures known { self.old.lane < self.old.config.n }
         ensures room { is_open self.old (epoch_of vote.now) ≡ true → is_for_broadcast vote.now ≡ false → room_at self.old ≤ due.old.spare → IsOk result }
@@ -111,14 +113,23 @@ impl LaneCore {
         if epoch >= self.config.epochs() {
             return Ok(());
         }
+        due.reserve(self.room())?;
         self.make_cores(alloc, epoch)?;
         self.hear_open(alloc, from, vote, due)
     }
 
-    // Sees to it that there are cores of an epoch.
+    // How many votes the agreement of an epoch makes due at most.
+    fn room(&self) -> u32
+        ensures { result ≡ room_at self.now }
+    {
+        7 * self.config.rounds() as u32 + 1
+    }
+
+    // Sees to it that there are cores of an epoch. Want of memory leaves what the state stands for.
     fn make_cores(&mut self, alloc: Global, epoch: u8) -> Result<(), AllocError>
         requires { epoch < self.old.config.epochs }
         ensures ok { OnOk result (Opens self.old self.new epoch) }
+        ensures kept { OnErr result (KeepsStanding self.old self.new) }
         ensures same { IsSameLane self.old self.new }
         ensures room { is_open self.old epoch ≡ true → IsOk result }
         ensures still { is_open self.old epoch ≡ true → self.new ≡ self.old }

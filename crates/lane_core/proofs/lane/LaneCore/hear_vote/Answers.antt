@@ -1,7 +1,8 @@
-use Rattle.std.proofs.Common.{◌≤◌, ℕ, subst, arith}
+use Rattle.std.proofs.Common.{◌≤◌, ℕ, List, subst, arith}
 use Rattle.hb_wire.specs.Votes.{epoch_of}
 use Rattle.hb_rules.specs.Hearing.{hearing}
-use Rattle.lane_core.specs.Lane.{LaneView, Opens}
+use Rattle.lane_core.specs.Lane.{LaneView, Opens, Hears}
+use Rattle.hb_wire.specs.declared.vote.Vote.{Vote}
 use Rattle.lane_core.proofs.Results.{on_ok}
 use Rattle.lane_core.proofs.Lanes.{Hears-outside, Hears-opened}
 use Rattle.lane_core.proofs.lane.LaneCore.hear_vote.Goals as goal
@@ -15,7 +16,9 @@ returns-then-epoch-epochs-clause-ok c =
 pub returns-clause-ok : goal.returns-clause-ok
 returns-clause-ok c =
     on_ok c.hear_open.result _ _
+    (λ hears. subst (λ (before : List Vote). Hears c.args.self.now c.hear_open.new.self (hearing c.args.from c.args.vote.now) before c.hear_open.new.due.votes)
+    c.reserve.ensures.votes
     (Hears-opened c.args.self.now c.make_cores.new.self c.hear_open.new.self (epoch_of c.args.vote.now) (hearing c.args.from c.args.vote.now)
-    c.args.due.now.votes c.hear_open.new.due.votes
-    (subst (λ (k : ℕ). Opens c.args.self.now c.make_cores.new.self k) c.epoch-epoch.ensures c.in_ok-make_cores.ensures.ok))
+    c.reserve.new.self.votes c.hear_open.new.due.votes
+    (subst (λ (k : ℕ). Opens c.args.self.now c.make_cores.new.self k) c.epoch-epoch.ensures c.in_ok-make_cores.ensures.ok) hears))
     c.hear_open.ensures.ok

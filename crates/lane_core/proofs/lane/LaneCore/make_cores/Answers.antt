@@ -1,8 +1,8 @@
 use Rattle.std.proofs.Common.{◌≡◌, ◌<◌, true, false, Option, sym, subst, ◌∙◌}
 use Rattle.lane_core.specs.declared.cores.Cores.{Cores}
-use Rattle.lane_core.specs.Lane.{LaneView, is_open, AreAtEpoch, Opens}
-use Rattle.lane_core.proofs.Results.{on_ok, either_way}
-use Rattle.lane_core.proofs.Lanes.{ArePlaced-stay, ArePlaced-same, Opens-made, Opens-open}
+use Rattle.lane_core.specs.Lane.{LaneView, is_open, AreAtEpoch, Opens, KeepsStanding}
+use Rattle.lane_core.proofs.Results.{on_ok, on_err, either_way}
+use Rattle.lane_core.proofs.Lanes.{ArePlaced-stay, ArePlaced-same, Opens-made, Opens-open, kept_places}
 use Rattle.lane_core.proofs.lane.LaneCore.make_cores.Goals as goal
 
 pub returns-then-is_open-clause-ok : goal.returns-then-is_open-clause-ok
@@ -38,3 +38,12 @@ returns-clause-ok c =
     (subst (λ (l : LaneView). is_open l c.args.epoch ≡ false) (sym c.self.view_is) (sym c.is_open.ensures ∙ c.if-is_open.false))
     c.in_ok-cores.ensures.stands sets))
     c.put.ensures.ok
+
+pub returns-clause-kept : goal.returns-clause-kept
+returns-clause-kept c =
+    let l : LaneView =
+    record { config = c.self.inside.config; node = c.self.inside.node; lane = c.self.inside.lane; epochs = c.self.inside.epochs.items } in
+    on_err c.put.result _ _
+    (λ same. subst (λ (old : LaneView). KeepsStanding old (record l { epochs = c.put.new.epochs.items })) c.self.view_is
+    (kept_places l c.put.new.epochs.items same))
+    c.put.ensures.err
