@@ -3,8 +3,10 @@
 
 mod audit;
 mod judge;
+mod laws;
 mod verdict;
 
 pub use audit::judge_all;
 pub use judge::Judge;
+pub use laws::verdict_laws;
 pub use verdict::Verdict;

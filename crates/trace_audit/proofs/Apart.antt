@@ -1,0 +1,49 @@
+-- Verdicts where no two strings that were hashed share a digest.
+use Rattle.std.proofs.Common.{◌≡◌, ℕ, ◌+◌, List, ◌++◌, length, take, drop, Contains, ap, sym, subst}
+use Rattle.std.proofs.lemmas.List.{take-append-drop}
+use Rattle.hb_base.specs.Numbers.{Numbers}
+use Rattle.hb_wire.specs.declared.vote.Vote.TheVariants.{Val, Echo, Coin, Propose}
+use Rattle.hb_wire.specs.declared.post.Post.{Post}
+use Rattle.hb_rules.specs.Code.{data_count}
+use Rattle.hb_rules.specs.Hearing.{said_in}
+use Rattle.hb_rules.specs.History.{IsLegal}
+use Rattle.hb_rules.specs.Strings.{IsHashed, NoCollision}
+use Rattle.hb_rules.proofs.Addressed.{IsLegal-front}
+use Rattle.hb_rules.proofs.Among.{AreEchoes-grows}
+use Rattle.hb_rules.proofs.Cast.{cast_stays}
+use Rattle.hb_rules.proofs.Said.{said-stays}
+use Rattle.trace_audit.specs.Verdicts.{IsVerdict}
+use Rattle.trace_audit.specs.declared.verdict.Verdict.{Verdict}
+use Rattle.trace_audit.specs.declared.verdict.Verdict.TheVariants.{Legal, Illegal}
+
+-- what counts as hashed after some posts counts after more
+hashed_later : (c : Numbers) (history more : List Post) (string : List ℕ) → IsHashed c history string → IsHashed c (history ++ more) string
+hashed_later c history more string (IsHashed.dealt found) = IsHashed.dealt found
+hashed_later c history more string (IsHashed.proposed a e value shards correct stands encoding found) =
+    IsHashed.proposed a e value shards correct (cast_stays c a c.n history more (Propose e value) stands) encoding found
+hashed_later c history more string (IsHashed.sent a x e target root shard branch stands found) =
+    IsHashed.sent a x e target root shard branch (cast_stays c a x history more (Val e target root shard branch) stands) found
+hashed_later c history more string (IsHashed.echoed a x e root shard branch stands found) =
+    IsHashed.echoed a x e root shard branch (cast_stays c a x history more (Echo e root shard branch) stands) found
+hashed_later c history more string (IsHashed.shown a x e r share salt branch stands found) =
+    IsHashed.shown a x e r share salt branch (cast_stays c a x history more (Coin e r share salt branch) stands) found
+hashed_later c history more string (IsHashed.rebuilt j e root got shards lane echoes rebuilt found) =
+    IsHashed.rebuilt j e root got shards lane
+    (AreEchoes-grows c.n (data_count c) e root (said_in c j history) (said_in c j (history ++ more)) got (said-stays c j history more) echoes) rebuilt found
+
+-- where no two strings of a history share a digest, none of its beginning do
+pub apart_before : (c : Numbers) (history more : List Post) → NoCollision c (history ++ more) → NoCollision c history
+apart_before c history more premise = record {
+  apart = λ one other first second same.
+      premise.apart one other (hashed_later c history more one first) (hashed_later c history more other second) same;
+}
+
+-- there a legal history has one verdict
+pub legal_verdict : (c : Numbers) (history : List Post) (verdict : Verdict) → NoCollision c history → IsVerdict c history verdict → IsLegal c history
+    → verdict ≡ Legal (length history)
+legal_verdict c history (Legal posts) premise is legal = ap (λ (k : ℕ). Legal k) is.1
+legal_verdict c history (Illegal k) premise is legal =
+    let front : List Post = take (k + 1) history in
+    let all : history ≡ front ++ drop (k + 1) history = sym (take-append-drop (k + 1) history) in
+    absurd (is.with_it (apart_before c front (drop (k + 1) history) (subst (NoCollision c) all premise))
+    (IsLegal-front c front (drop (k + 1) history) (subst (IsLegal c) all legal)))
