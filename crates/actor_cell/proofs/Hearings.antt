@@ -99,6 +99,9 @@ journal_of faults.Journal off may = refl
 journal_of faults.Full off may = absurd (cc (may))
 journal_of faults.Memory off may = absurd (cc (may))
 
+pub restarts_after_journal : (fault : ActorFault) (off told : Bool) → told ≡ may_restart fault off → told ≡ true → fault ≡ faults.Journal
+restarts_after_journal fault off told is may = journal_of fault off (sym is ∙ may)
+
 not_memory : (fault : ActorFault) → fault ≡ faults.Journal → fault ≡ faults.Memory → ⊥
 not_memory fault is other = cc (is, other)
 
