@@ -4,7 +4,11 @@ ghost use Rattle.std.specs.Thread.{IsSync};
 ghost use Rattle.actor_cell.specs.Passes.{ArePassesOf};
 
 use super::*;
-use hb_base::{Config, NodeSet};
+use crate::arrival::arrival_found;
+use crate::mail::Mail;
+use hb_base::{Bytes, Config, NodeSet};
+use hb_wire::{Post, To};
+use net_script::{Link, Order, Script, Shape};
 use std::alloc::{AllocError, Global};
 use std::sync::Wait;
 use std::test::*;
@@ -190,5 +194,94 @@ fn marks(rt: HostRuntime) -> Result<(), Fail> {
     assert!(rt; !copy.has(0, 16));
     assert!(rt; !copy.has(16, 16));
     assert!(rt; !copy.has(0, 17));
+    Ok(())
+}
+
+// A run of these nodes in which each post comes twice to node 1, not at all to node 2, and late from node 3 to node 0.
+fn script_of(alloc: Global, config: Config) -> Result<Script, AllocError> {
+    let rules: [(Option<u8>, u8, Shape); 3] = [
+        (Some(3), 0, Shape::Late),
+        (None, 1, Shape::Twice),
+        (None, 2, Shape::Drop),
+    ];
+    let mut links = Vec::new(alloc);
+    for (from, to, shape) in rules {
+        links.push(Link {
+            from,
+            to: Some(to),
+            every: 1,
+            at: 0,
+            shape,
+        })?;
+    }
+    Ok(Script {
+        config,
+        workers: 1,
+        order: Order::Fifo,
+        submit: Vec::new(alloc),
+        liars: Vec::new(alloc),
+        links,
+        plans: Vec::new(alloc),
+    })
+}
+
+// A post of lane 2 of a node to lane 2 of all nodes.
+fn post_of(alloc: Global, from: u8) -> Result<Post, AllocError> {
+    Ok(Post {
+        from,
+        actor: 2,
+        to: To::All,
+        bytes: Bytes::copy(alloc, b"?")?,
+    })
+}
+
+// Two numbers are taken by the passes at a place, and no third.
+fn takes_two<R: Wait>(rt: &R, boxes: &Boxes, all: &mut Vec<Passes>, at: usize) -> [Option<u32>; 3]
+    requires passes { All (ArePassesOf boxes.now) all.old.items }
+    ensures passes { All (ArePassesOf boxes.now) all.new.items }
+{
+    let one = take(rt, boxes, all, at);
+    let two = take(rt, boxes, all, at);
+    let three = take(rt, boxes, all, at);
+    [one, two, three]
+}
+
+#[test]
+fn sends_by_shape(rt: HostRuntime) -> Result<(), Fail> {
+    let config = four().expect(&rt, "a config");
+    let script = script_of(rt.alloc(), config)?;
+    let (boxes, mut all) = Boxes::new(rt.alloc(), &config)?;
+    let own = take_out(&boxes, &mut all).expect(&rt, "passes");
+    let mut mail = Mail::new(&boxes, own);
+    let post = post_of(rt.alloc(), 0)?;
+    mail.send(&rt, &script, &post, 7);
+    // Lane 2 of the nodes 0, 1 and 2, and node 3, whose passes send.
+    assert_eq!(rt; takes_two(&rt, &boxes, &mut all, 2), [Some(7), None, None]);
+    assert_eq!(rt;
+        takes_two(&rt, &boxes, &mut all, NODE_1 + 2),
+        [Some(7), Some(7), None]
+    );
+    assert_eq!(rt;
+        takes_two(&rt, &boxes, &mut all, NODE_1 + 7),
+        [None, None, None]
+    );
+    assert_eq!(rt; mail.take(&rt), Some(7));
+    assert_eq!(rt; mail.take(&rt), None);
+    assert!(rt; !mail.noted().has(0, 2) && !mail.noted().has(1, 2));
+    Ok(())
+}
+
+#[test]
+fn arrivals(rt: HostRuntime) -> Result<(), Fail> {
+    let config = four().expect(&rt, "a config");
+    let script = script_of(rt.alloc(), config)?;
+    let own = Some(post_of(rt.alloc(), 0)?);
+    let lie = Some(post_of(rt.alloc(), 3)?);
+    assert_eq!(rt; arrival_found(&script, &own, 0, 2, 7), Arrival::Prompt);
+    assert_eq!(rt; arrival_found(&script, &own, 0, 1, 7), Arrival::Aside);
+    assert_eq!(rt; arrival_found(&script, &own, 1, 2, 7), Arrival::Prompt);
+    assert_eq!(rt; arrival_found(&script, &own, 2, 2, 7), Arrival::Aside);
+    assert_eq!(rt; arrival_found(&script, &lie, 0, 2, 7), Arrival::Late);
+    assert_eq!(rt; arrival_found(&script, &None, 0, 2, 7), Arrival::Aside);
     Ok(())
 }
