@@ -81,12 +81,12 @@ pub record Sent : Type 0 where
 abbrev pub sent_of : MailView → Sent
 sent_of mail = record { puts = puts_of mail.passes; noted = mail.noted }
 
--- the number is in the list of the pass for the mailbox of that actor, and in no other
+-- the number was added to the list of the pass for the mailbox of that actor, and to no other
 pub record IsPut (c : Numbers) (d : Delivery) (old new : Sent) : Type 0 where
   pub puts : new.puts ≡ with_put (place_of c d.node d.actor) d.number old.puts
   pub noted : new.noted ≡ old.noted
 
--- the mailbox refused the number, and the actor was noted
+-- the number was not put, and the actor was noted
 pub record IsRefusedBy (d : Delivery) (old new : Sent) : Type 0 where
   pub puts : new.puts ≡ old.puts
   pub noted : (i x : ℕ) → is_marked new.noted i x ≡ (((i == d.node) && (x == d.actor)) || is_marked old.noted i x)
@@ -102,7 +102,7 @@ pub record IsSameTaker (old new : MailView) : Type 0 where
   pub place : new.passes.place ≡ old.passes.place
   pub take : new.passes.take ≡ old.passes.take
 
--- these were put, and nothing was taken
+-- each of these was put or not put and its actor noted, and nothing was taken
 pub record AreSent (c : Numbers) (ds : List Delivery) (old new : MailView) : Type 0 where
   pub taker : IsSameTaker old new
   pub put : ArePut c ds (sent_of old) (sent_of new)

@@ -58,7 +58,7 @@ pub record IsSameSeat (old new : PlayerView) : Type 0 where
   pub node : new.seat.node ≡ old.seat.node
   pub actor : new.seat.actor ≡ old.seat.actor
 
--- an actor was shown more of the history, by posts of others, and nothing else happened to it, but for its fate
+-- an actor was shown more of the history, by posts of others, and nothing else happened to it; of its fate nothing is said
 pub record IsShown (old new : PlayerView) : Type 0 where
   pub seat : IsSameSeat old new
   pub view : new.view ≡ old.view
@@ -105,7 +105,7 @@ pub record HasSent (s : Script) (old new : PlayerView) (before after : Sent) : T
 
 -- ---- what becomes of the number that a turn takes
 
--- its post does not stand, does not reach the actor or is dropped, and it was thrown away
+-- its post does not stand in what the actor has seen, does not reach the actor or is dropped, and it was thrown away
 pub record IsThrownAway (s : Script) (k : ℕ) (old new : PlayerView) (before after : Sent) : Type 0 where
   pub shown : IsShown old new
   pub fate : new.fate ≡ old.fate
@@ -156,12 +156,13 @@ pub record HoldsBack (s : Script) (moved : List ℕ) (old new : Turning) : Type 
   pub mail : TookOnly old.mail new.mail moved
   pub back : new.back ≡ old.back ++ moved
 
--- A post that arrives is delivered, late or not; for any other nothing happens. None: there was no memory to read it.
+-- a post was delivered
 pub record IsDelivered (s : Script) (k : ℕ) (old new : Turning) : Type 0 where
   pub heard : IsHeard s k old.player new.player (sent_of old.mail) (sent_of new.mail)
   pub taker : IsSameTaker old.mail new.mail
   pub back : new.back ≡ old.back
 
+-- A post that arrives is delivered, late or not; for any other nothing happens. None: there was no memory to read it.
 abbrev pub Delivers : Script → ℕ → Option Arrival → Turning → Turning → Type 0
 Delivers s k None old new = new ≡ old
 Delivers s k (Some arrivals.Aside) old new = new ≡ old

@@ -20,8 +20,8 @@ use std::alloc::{AllocError, Global};
 /// all choices of f + 1 good shares give one coin, and it looks at the first f + 1 that were heard. Votes of other epochs and parts may
 /// be among those that were cast and heard. Err where there is no memory; all but a share of a coin takes none.
 ///
-/// Time is linear in the number of votes; an estimate of a later round and a decision check f + 1 shares, a decision those of each
-/// round in which the lane picked the bit alone.
+/// Time is linear in the number of votes; an estimate of a later round checks the shares of the round before, a decision those of
+/// each round in which the lane picked the bit alone.
 pub fn may_agree(
     alloc: Global,
     deal: &Deal,

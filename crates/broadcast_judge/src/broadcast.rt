@@ -20,8 +20,8 @@ use std::alloc::{AllocError, Global};
 /// branches of the Echoes that were heard have been checked before, so that no look at them checks them again. Err where there is no
 /// memory.
 ///
-/// Time is linear in the number of votes, times n for a Ready or a Delivered where liars name many roots to correct nodes' Readies;
-/// a Val encodes the value, a Ready and a Delivered rebuild one.
+/// Time is linear in the number of votes; a Delivered takes so much for each Ready of a correct node that was heard, until one is
+/// of its root. A Val encodes the value, a Ready and a Delivered rebuild one.
 pub fn may_broadcast(
     alloc: Global,
     lane: &Lane,
