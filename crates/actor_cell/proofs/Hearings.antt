@@ -1,24 +1,23 @@
 -- The calls of one actor, over any kind of book.
-use Rattle.std.proofs.Common.{◌≡◌, ◌⊎◌, ℕ, ◌+◌, ◌<◌, ◌≤◌, Bool, true, false, inl, inr, List, [], ◌∷◌, ◌++◌, length, Contains, refl, sym, ap, ◌∙◌, subst, arith, Result, Ok, Err, OnErr, IsErrOf}
+use Rattle.std.proofs.Common.{◌≡◌, ◌⊎◌, ℕ, ◌+◌, ◌≤◌, Bool, true, false, inl, inr, List, [], ◌∷◌, ◌++◌, length, Contains, refl, sym, ap, ◌∙◌, subst, arith, Result, Ok, Err, OnErr, IsErrOf}
 use Rattle.std.proofs.lemmas.List.{append-nil, append_assoc}
 use Rattle.std.proofs.lemmas.List.Elements.{Contains-push_cases}
 use Rattle.hb_base.specs.Numbers.{Numbers}
 use Rattle.hb_base.specs.Limits.{most_posts}
-use Rattle.hb_wire.specs.declared.post.Post.{Post}
 use Rattle.disk_model.specs.Supply.{IsNamed}
 use Rattle.hb_rules.specs.declared.actor.ActorFault.{ActorFault}
 use Rattle.hb_rules.specs.declared.actor.ActorFault.TheVariants as faults
 use Rattle.hb_rules.specs.declared.report.Fate.{Fate}
 use Rattle.hb_rules.specs.declared.report.Fate.TheVariants.{Running}
 use Rattle.hb_rules.specs.Actor.{ActorView, Goes, IsStillOff, IsOnAgain, Told}
-use Rattle.hb_rules.specs.Book.{SeatView, Watched}
+use Rattle.hb_rules.specs.Book.{Watched}
 use Rattle.hb_rules.specs.Ledger.{IsPrefix}
 use Rattle.journaled_actor.proofs.Posted.{told_refl, told_trans, told_watched}
 use Rattle.step_driver.specs.Places.{PlayerView}
 use Rattle.step_driver.specs.Delivering.{HasFate}
 use Rattle.step_driver.specs.Playing.{IsRefused, Explains, fate_of, may_restart}
 use Rattle.step_driver.proofs.Playing.{HasFate-fault}
-use Rattle.actor_cell.specs.Turning.{IsSameSeat, IsShown, Keeps, Recovers, Hears, HasReceived}
+use Rattle.actor_cell.specs.Turning.{IsSameSeat, IsShown, Keeps, Recovers, Hears}
 
 pub Contains-none : {A : Type 0} (xs : List A) (x : A) → xs ≡ [] → Contains xs x → ⊥
 Contains-none xs x none stands = omega (arith, stands.1, ap length none)

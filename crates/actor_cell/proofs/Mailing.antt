@@ -1,11 +1,11 @@
 -- Numbers that are put one after another.
-use Rattle.std.proofs.Common.{◌≡◌, ◌⊎◌, ℕ, zero, suc, ◌+◌, Bool, true, false, List, [], ◌∷◌, ◌++◌, refl, sym, ap, ◌∙◌, subst, arith}
+use Rattle.std.proofs.Common.{◌≡◌, ℕ, ◌+◌, List, [], ◌∷◌, ◌++◌, refl, sym, ap, ◌∙◌, subst}
 use Rattle.std.specs.List.{flat_map, range_with_len}
 use Rattle.std.proofs.lemmas.List.{append-nil}
 use Rattle.std.proofs.lemmas.Grind.{flat_map-append}
 use Rattle.hb_base.specs.Numbers.{Numbers}
 use Rattle.actor_cell.specs.Boxes.{BoxesView}
-use Rattle.actor_cell.specs.Mail.{MailView, Delivery, Sent, sent_of, IsPut, IsRefusedBy, ArePut, IsSameTaker, AreSent}
+use Rattle.actor_cell.specs.Mail.{MailView, Delivery, Sent, sent_of, ArePut, IsSameTaker, AreSent}
 use Rattle.actor_cell.proofs.Places.{range_more}
 
 pub ArePut-then : (c : Numbers) (ds es : List Delivery) (old mid new : Sent) → ArePut c ds old mid → ArePut c es mid new → ArePut c (ds ++ es) old new

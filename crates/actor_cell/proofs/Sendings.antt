@@ -1,7 +1,7 @@
 -- What is to be put of posts, as the history grows.
-use Rattle.std.proofs.Common.{◌≡◌, ◌⊎◌, ℕ, zero, suc, ◌+◌, ◌<◌, ◌≤◌, Bool, true, false, List, [], ◌∷◌, ◌++◌, length, take, drop, Option, None, Some, refl, sym, ap, ◌∙◌, subst, arith, slice_get, length-append, if◌then◌else◌}
+use Rattle.std.proofs.Common.{◌≡◌, ℕ, zero, suc, ◌+◌, ◌<◌, ◌≤◌, Bool, true, false, List, [], ◌∷◌, ◌++◌, length, take, drop, Option, refl, sym, ap, ◌∙◌, subst, arith, slice_get, length-append, if◌then◌else◌}
 use Rattle.std.specs.List.{AllByRecursion, flat_map}
-use Rattle.std.proofs.lemmas.List.{append-nil, append_assoc}
+use Rattle.std.proofs.lemmas.List.{append-nil}
 use Rattle.std.proofs.lemmas.Grind.{flat_map-append}
 use Rattle.hb_base.specs.Numbers.{Numbers}
 use Rattle.hb_wire.specs.declared.post.Post.{Post}
@@ -10,9 +10,8 @@ use Rattle.hb_rules.specs.Actor.{Told, numbers_from}
 use Rattle.hb_rules.specs.Hearing.{is_by}
 use Rattle.hb_rules.specs.Ledger.{IsPrefix}
 use Rattle.hb_rules.specs.Terms.{Terms}
-use Rattle.step_driver.proofs.Playing.{slice_get-front}
 use Rattle.actor_cell.specs.Mail.{MailView, Delivery, AreSent, of_found, deliveries}
-use Rattle.actor_cell.proofs.Mailing.{AreSent-then, AreSent-none}
+use Rattle.actor_cell.proofs.Mailing.{AreSent-then}
 
 -- the posts with these numbers stand
 abbrev pub AreStanding : List Post → List ℕ → Type 0

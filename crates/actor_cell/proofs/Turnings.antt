@@ -1,5 +1,5 @@
 -- The turns of an actor.
-use Rattle.std.proofs.Common.{◌≡◌, ◌⊎◌, ℕ, ◌+◌, ◌<◌, ◌≤◌, Bool, true, false, inl, inr, List, [], ◌∷◌, ◌++◌, length, Contains, Option, None, Some, refl, sym, ap, ◌∙◌, subst, arith, slice_get, if◌then◌else◌, MatchOption, IfSome}
+use Rattle.std.proofs.Common.{◌≡◌, ◌⊎◌, ℕ, ◌+◌, Bool, true, false, inl, inr, List, [], ◌∷◌, ◌++◌, length, Contains, Option, None, Some, refl, sym, ap, ◌∙◌, subst, arith, slice_get, if◌then◌else◌, MatchOption, IfSome}
 use Rattle.std.proofs.lemmas.List.{append-nil, append_assoc}
 use Rattle.std.proofs.lemmas.List.Elements.{Contains-push_cases}
 use Rattle.hb_base.specs.Numbers.{Numbers}
@@ -15,7 +15,7 @@ use Rattle.net_script.specs.Delivery.{shape_of}
 use Rattle.journaled_actor.proofs.Posted.{told_trans}
 use Rattle.step_driver.specs.Places.{PlayerView}
 use Rattle.step_driver.specs.Delivering.{IsSound, IsPlayer, HasFate}
-use Rattle.step_driver.proofs.Playing.{IsSound-on, HasGot, IsReceived-on, slice_get-front}
+use Rattle.step_driver.proofs.Playing.{IsSound-on, IsReceived-on, slice_get-front}
 use Rattle.actor_cell.specs.declared.arrival.Arrival.{Arrival}
 use Rattle.actor_cell.specs.declared.arrival.Arrival.TheVariants as arrivals
 use Rattle.mailbox.specs.Interleaving.{HasAll}
@@ -25,9 +25,8 @@ use Rattle.actor_cell.specs.declared.served.Served.TheVariants as answers
 use Rattle.actor_cell.specs.Boxes.{BoxesView, place_of}
 use Rattle.actor_cell.specs.Mail.{MailView, Sent, sent_of, ArePut, IsSameTaker, deliveries}
 use Rattle.actor_cell.specs.Held.{IsHeld}
-use Rattle.actor_cell.specs.Turning.{IsSameSeat, IsShown, Hears, HasReceived, HasSent, IsHeard, IsThrownAway, IsLost, Fares, Turning, TookOnly, HoldsBack, IsDelivered, Delivers, IsServed, ServesBack, ServesNew, TakesOne, TakesNone, Turned, arrival, arrival_found, by_lateness, arrives, is_late}
+use Rattle.actor_cell.specs.Turning.{IsSameSeat, IsShown, Hears, HasReceived, IsHeard, Fares, Turning, TookOnly, HoldsBack, IsDelivered, Delivers, IsServed, ServesBack, ServesNew, TakesOne, TakesNone, Turned, arrival, arrival_found, by_lateness, arrives, is_late}
 use Rattle.actor_cell.proofs.Hearings.{shown_longer, IsSameSeat-then, IsPrefix-then, IsShown-refl, IsShown-then, Contains-none}
-use Rattle.actor_cell.proofs.Sendings.{get_longer}
 
 -- ---- what holds under the lock
 

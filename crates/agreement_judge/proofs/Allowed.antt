@@ -1,5 +1,5 @@
 -- The tests tell what a lane may cast in an agreement.
-use Rattle.std.proofs.Common.{◌≡◌, ◌↔◌, ℕ, zero, suc, ◌+◌, ◌-◌, ◌*◌, ◌<◌, ◌≤◌, ◌⊎◌, nat_lt, nat_le, Bool, true, false, not, ◌&&◌, ◌||◌, ◌==◌, inl, inr, List, Option, None, Some, if◌then◌else◌, refl, sym, ap, ◌∙◌, subst, arith}
+use Rattle.std.proofs.Common.{◌≡◌, ◌↔◌, ℕ, zero, suc, ◌+◌, ◌-◌, ◌*◌, ◌<◌, ◌≤◌, nat_lt, nat_le, Bool, true, false, not, ◌&&◌, ◌||◌, ◌==◌, inl, inr, List, Option, None, Some, if◌then◌else◌, refl, sym, ap, ◌∙◌, arith}
 use Rattle.std.specs.List.{list_any, range_with_len}
 use Rattle.std.specs.Option.{is_some}
 use Rattle.std.proofs.lemmas.Bool.{leb-true, le-leb, ltb-true, lt-ltb, and_parts, and_from, or_cases, or_left, or_right, not-true, not_from_false, ne_eqb}
@@ -13,10 +13,10 @@ use Rattle.hb_wire.specs.declared.vote.Vals.TheVariants.{Zero, One, Both}
 use Rattle.hb_wire.specs.declared.vote.Vote.{Vote}
 use Rattle.hb_wire.specs.declared.vote.Vote.TheVariants.{Est, Bval, Aux, Conf, Pick, Coin, Decided}
 use Rattle.hb_wire.proofs.Equality.{one_vote}
-use Rattle.hb_rules.specs.Agreement.{confirms, IsGatheredOne, IsGatheredBoth, IsGathered, IsConfirmedOne, IsConfirmedBoth, IsConfirmed, IsLeftWith, GoesOn, HasSettled, MayBegin, MayAgree}
+use Rattle.hb_rules.specs.Agreement.{confirms, IsGatheredOne, IsGatheredBoth, IsGathered, IsConfirmedOne, IsConfirmedBoth, IsConfirmed, IsLeftWith, GoesOn, MayBegin, MayAgree}
 use Rattle.hb_rules.specs.AgreementRows.{view_of, is_gathered_one, is_confirmed_one, was_settled, dealt}
 use Rattle.hb_rules.specs.Claims.{is_bit}
-use Rattle.hb_rules.specs.Coins.{share_count, HasCoin, coin_in}
+use Rattle.hb_rules.specs.Coins.{coin_in}
 use Rattle.hb_rules.specs.Hearing.{Hearing}
 use Rattle.hb_rules.specs.Marks.{single, Mark, any_est, est, bval, any_aux, any_conf, pick, any_pick, any_coin, any_decision, has, bvals, auxes, any_auxes, confs, any_confs, confs_with, support}
 use Rattle.hb_rules.specs.Same.{same_vote}

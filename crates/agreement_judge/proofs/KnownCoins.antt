@@ -1,5 +1,5 @@
 -- The coin of the first good shares, and any coin that was heard.
-use Rattle.std.proofs.Common.{◌≡◌, ◌↔◌, ℕ, zero, suc, ◌+◌, ◌-◌, ◌<◌, ◌≤◌, nat_lt, Bool, true, false, ◌&&◌, ◌||◌, ◌==◌, List, [], ◌∷◌, ◌++◌, Contains, Option, None, Some, if◌then◌else◌, length, take, get_or, refl, sym, ap, ap₂, ◌∙◌, subst, arith, append-nil}
+use Rattle.std.proofs.Common.{◌≡◌, ℕ, suc, ◌+◌, ◌-◌, ◌<◌, ◌≤◌, nat_lt, Bool, true, false, ◌&&◌, ◌||◌, ◌==◌, List, [], ◌∷◌, ◌++◌, Contains, Option, None, Some, length, take, get_or, refl, sym, ap, ◌∙◌, subst, arith, append-nil}
 use Rattle.std.specs.List.{list_any, filter_map, range_with_len}
 use Rattle.std.specs.Option.{is_some}
 use Rattle.std.proofs.lemmas.Bool.{and_parts, eqb-true, lt-ltb}
@@ -10,13 +10,12 @@ use Rattle.hb_base.specs.Counting.{count_nodes}
 use Rattle.hb_base.specs.Numbers.{Numbers, AreSound}
 use Rattle.hb_wire.specs.declared.vote.Vote.{Vote}
 use Rattle.hb_wire.specs.declared.vote.Vote.TheVariants.{Coin}
-use Rattle.merkle_branch.specs.declared.Branch.{Branch}
 use Rattle.coin_deal.specs.Deal.{coin_root, dealt_coin}
-use Rattle.coin_deal.specs.Heard.{HeardShare, heard_share, has_share_of, coin_through, is_good_share, is_good}
+use Rattle.coin_deal.specs.Heard.{HeardShare, heard_share, has_share_of, is_good_share, is_good}
 use Rattle.coin_share.specs.Shares.{SharesView}
 use Rattle.hb_rules.specs.Claims.{is_bit}
 use Rattle.hb_rules.specs.Coins.{is_share, share_count, hearing_of_share, HasCoin, share_in, shares_in, coin_in}
-use Rattle.hb_rules.specs.Hearing.{Hearing, hearing, heard_by, heard_in}
+use Rattle.hb_rules.specs.Hearing.{Hearing, heard_by, heard_in}
 use Rattle.hb_rules.specs.Strings.{NoCollision}
 use Rattle.hb_rules.specs.Terms.{AreHeardSpelled}
 use Rattle.hb_rules.proofs.Addressed.{legal_addressed}

@@ -1,5 +1,4 @@
 -- The names that the code has for the marks of a lane's votes and for nodes' claims.
-use Rattle.std.specs.Prelude.{ℕ, Bool}
 use Rattle.hb_rules.specs.Marks.{Mark, delivery, est, any_est, bval, any_aux, any_conf, pick, any_pick, any_coin, any_decision, Claim, bvals, auxes, any_auxes, confs, any_confs, confs_with}
 use Rattle.agreement_judge.specs.declared.marks.Cast.{Cast}
 use Rattle.agreement_judge.specs.declared.marks.Cast.TheVariants as casts

@@ -47,7 +47,10 @@ fn share_of(alloc: Global, config: &Config, deal: &Deal, round: u8) -> Result<(H
     let mut bytes = Vec::new(alloc);
     bytes.extend_from_slice(&[9, 0, round, dealt.share])?;
     bytes.extend_from_slice(&salt)?;
-    Ok((said(alloc, config, bytes.as_slice())?, deal.coin_of(0, 0, round)))
+    Ok((
+        said(alloc, config, bytes.as_slice())?,
+        deal.coin_of(0, 0, round),
+    ))
 }
 
 // Whether lane 0 may cast a vote of epoch 0.
@@ -127,7 +130,16 @@ fn estimates(rt: HostRuntime) -> Result<(), Fail> {
     assert!(rt; may(alloc, &config, &deal, &[], &no_more, &est(0, false))?);
     assert!(rt; !may(alloc, &config, &deal, &[], &no_more, &est(0, true))?);
     assert!(rt; !may(alloc, &config, &deal, &[], &[], &est(0, false))?);
-    assert!(rt; !may(alloc, &config, &deal, &[est(0, true)], &no_more, &est(0, false))?);
+    assert!(rt;
+        !may(
+            alloc,
+            &config,
+            &deal,
+            &[est(0, true)],
+            &no_more,
+            &est(0, false)
+        )?
+    );
     Ok(())
 }
 

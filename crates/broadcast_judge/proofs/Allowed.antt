@@ -1,21 +1,20 @@
 -- The tests tell what a lane may cast in a broadcast.
-use Rattle.std.proofs.Common.{◌≡◌, ◌↔◌, ℕ, zero, suc, ◌+◌, ◌-◌, ◌*◌, ◌<◌, ◌≤◌, nat_lt, nat_le, Bool, true, false, not, ◌&&◌, ◌||◌, ◌==◌, inl, inr, List, [], ◌∷◌, Contains, Option, None, Some, if◌then◌else◌, length, get_or, slice_get, refl, sym, ap, ap₂, ◌∙◌, subst, arith, bytes_eq}
+use Rattle.std.proofs.Common.{◌≡◌, ◌↔◌, ℕ, ◌+◌, ◌-◌, ◌*◌, ◌<◌, ◌≤◌, nat_lt, nat_le, Bool, true, not, ◌&&◌, ◌||◌, ◌==◌, inl, inr, List, [], Contains, Option, None, Some, length, get_or, slice_get, refl, sym, ap, ap₂, ◌∙◌, subst, arith, bytes_eq}
 use Rattle.std.specs.Prelude.{slice_index_or}
 use Rattle.std.specs.List.{list_any}
 use Rattle.std.specs.Option.{is_some}
 use Rattle.std.proofs.lemmas.Bool.{eqb-true, eq-eqb, lt-ltb, le-leb, leb-true, and_parts, and_from, or_cases, or_left, or_right, not-true, not_from_false}
 use Rattle.std.proofs.lemmas.List.Elements.{recursion_from_All}
-use Rattle.std.proofs.lemmas.Option.{slice_get-get_or, get_or_from_slice_get, slice_get_within}
+use Rattle.std.proofs.lemmas.Option.{slice_get-get_or, get_or_from_slice_get}
 use Rattle.std.proofs.lemmas.Slice.Eq.{bytes_eq-Decides}
 use Rattle.hb_base.specs.ByteLists.{AreBytes}
-use Rattle.hb_base.specs.Counting.{count_nodes}
 use Rattle.hb_base.specs.NodeSet.{is_in}
 use Rattle.hb_base.specs.Numbers.{Numbers, AreSound}
 use Rattle.hb_wire.specs.declared.vote.Vote.{Vote}
 use Rattle.hb_wire.specs.declared.vote.Vote.TheVariants.{Val, Echo, Ready, Delivered, Propose}
 use Rattle.hb_wire.proofs.Equality.{one_vote}
 use Rattle.merkle_branch.specs.declared.Branch.{Branch}
-use Rattle.merkle_branch.specs.Branches.{IsBranch, is_branch, branch_of}
+use Rattle.merkle_branch.specs.Branches.{is_branch, branch_of}
 use Rattle.merkle_branch.specs.Digests.{tree_root, leaf_digests}
 use Rattle.merkle_branch.proofs.Tested.{is_branch-Decides}
 use Rattle.rs_shards.specs.Completing.{IsEncoding, encoded}
@@ -24,20 +23,19 @@ use Rattle.rs_shards.proofs.Encodings.{encoded-encoding, encoding-only}
 use Rattle.hb_rules.specs.Broadcast.{IsProposedShard, MayBroadcast}
 use Rattle.hb_rules.specs.BroadcastRows.{val_of, value_of, is_made_ready}
 use Rattle.hb_rules.specs.Claims.{proposed, echoed, readied, are_these, has_root, has_both, is_val_to, is_any_echo, is_any_ready, is_any_delivery, is_ready, is_echo, is_shard_echo}
-use Rattle.hb_rules.specs.Code.{data_count, IsCodedShard, AreEchoes, AreEchoed, HasQuorum, HasDelivery, echo_count, ready_count}
+use Rattle.hb_rules.specs.Code.{data_count, IsCodedShard, AreEchoes, AreEchoed, HasDelivery, echo_count, ready_count}
 use Rattle.hb_rules.specs.Hearing.{Hearing, hearing, heard_by, said_in, heard_in}
 use Rattle.hb_rules.specs.Same.{same_vote}
 use Rattle.hb_rules.specs.Terms.{AreHeardSpelled}
 use Rattle.hb_rules.proofs.Addressed.{legal_addressed}
 use Rattle.hb_rules.proofs.Among.{any_stands, Grows, heard_by-among, AreEchoed-grows, AreEchoes-grows}
-use Rattle.hb_rules.proofs.BroadcastSlots.{heard_spelled, proposed-is, readied-is}
+use Rattle.hb_rules.proofs.BroadcastSlots.{heard_spelled, proposed-is}
 use Rattle.hb_rules.proofs.Counts.{correct_member}
 use Rattle.hb_rules.proofs.FirstShares.{counted}
 use Rattle.hb_rules.proofs.FirstShards.{value_given, data_count-some, data_count-within, few_nodes}
 use Rattle.hb_rules.proofs.Lists.{list_any-from}
 use Rattle.hb_rules.proofs.Said.{heard-said, few_liars}
-use Rattle.rbc_world.specs.Backing.{HasOneCodeword}
-use Rattle.rbc_world.proofs.Binding.{IsBoundTo, echoed-hashed, one_codeword}
+use Rattle.rbc_world.proofs.Binding.{echoed-hashed, one_codeword}
 use Rattle.quiet_broadcast.proofs.Codewords.{value_there}
 use Rattle.claim_count.specs.Apart.{IsHeardApart}
 use Rattle.broadcast_judge.specs.Tests.{is_part, is_source, is_carried, is_carried_by, is_delivered_by}

@@ -7,6 +7,8 @@ mod delivering;
 mod lane;
 mod sending;
 mod shards;
+#[cfg(test)]
+mod tests;
 
 pub use broadcast::may_broadcast;
 pub use lane::Lane;

@@ -1,5 +1,6 @@
 -- Verdicts where no two strings that were hashed share a digest.
-use Rattle.std.proofs.Common.{◌≡◌, ℕ, ◌+◌, List, ◌++◌, length, take, drop, Contains, ap, sym, subst}
+use Rattle.std.proofs.Common.{◌≡◌, ℕ, zero, suc, ◌+◌, ◌<◌, ◌≤◌, inl, inr, List, [], ◌∷◌, ◌++◌, length, take, drop, refl, ap, sym, ◌∙◌, subst, arith}
+use Rattle.std.proofs.lemmas.Bool.{cases_lt}
 use Rattle.std.proofs.lemmas.List.{take-append-drop}
 use Rattle.hb_base.specs.Numbers.{Numbers}
 use Rattle.hb_wire.specs.declared.vote.Vote.TheVariants.{Val, Echo, Coin, Propose}
@@ -12,7 +13,7 @@ use Rattle.hb_rules.proofs.Addressed.{IsLegal-front}
 use Rattle.hb_rules.proofs.Among.{AreEchoes-grows}
 use Rattle.hb_rules.proofs.Cast.{cast_stays}
 use Rattle.hb_rules.proofs.Said.{said-stays}
-use Rattle.trace_audit.specs.Verdicts.{IsVerdict}
+use Rattle.trace_audit.specs.Verdicts.{IsFirstIllegal, IsVerdict}
 use Rattle.trace_audit.specs.declared.verdict.Verdict.{Verdict}
 use Rattle.trace_audit.specs.declared.verdict.Verdict.TheVariants.{Legal, Illegal}
 
@@ -47,3 +48,35 @@ legal_verdict c history (Illegal k) premise is legal =
     let all : history ≡ front ++ drop (k + 1) history = sym (take-append-drop (k + 1) history) in
     absurd (is.with_it (apart_before c front (drop (k + 1) history) (subst (NoCollision c) all premise))
     (IsLegal-front c front (drop (k + 1) history) (subst (IsLegal c) all legal)))
+
+-- ---- one verdict
+
+take_within : {A : Type 0} (k m : ℕ) (xs : List A) → k ≤ m → take k (take m xs) ≡ take k xs
+take_within zero m xs le = refl
+take_within (suc k) zero xs le = absurd (omega (arith, le))
+take_within (suc k) (suc m) [] le = refl
+take_within (suc k) (suc m) (x ∷ xs) le = ap (λ ys. x ∷ ys) (take_within k m xs (omega (arith, le)))
+
+no_earlier : (c : Numbers) (history : List Post) (j k : ℕ) → NoCollision c history → IsFirstIllegal c history j → IsFirstIllegal c history k → j < k → ⊥
+no_earlier c history j k premise one other less =
+    let front : List Post = take (j + 1) history in
+    let all : history ≡ front ++ drop (j + 1) history = sym (take-append-drop (j + 1) history) in
+    let before : take k history ≡ front ++ drop (j + 1) (take k history) =
+    sym (take-append-drop (j + 1) (take k history))
+    ∙ ap (λ (ps : List Post). ps ++ drop (j + 1) (take k history)) (take_within (j + 1) k history (omega (arith, less))) in
+    one.with_it (apart_before c front (drop (j + 1) history) (subst (NoCollision c) all premise))
+    (IsLegal-front c front (drop (j + 1) (take k history)) (subst (IsLegal c) before other.before))
+
+pub one_verdict : (c : Numbers) (history : List Post) (verdict other : Verdict) → NoCollision c history → IsVerdict c history verdict
+    → IsVerdict c history other → verdict ≡ other
+one_verdict c history (Legal posts) other premise one two =
+    legal_verdict c history (Legal posts) premise one one.0 ∙ sym (legal_verdict c history other premise two one.0)
+one_verdict c history (Illegal j) (Legal posts) premise one two =
+    legal_verdict c history (Illegal j) premise one two.0 ∙ sym (legal_verdict c history (Legal posts) premise two two.0)
+one_verdict c history (Illegal j) (Illegal k) premise one two = elim (cases_lt j k) [
+  | inl less ↦ absurd (no_earlier c history j k premise one two less)
+  | inr no_less ↦ elim (cases_lt k j) [
+    | inl less ↦ absurd (no_earlier c history k j premise two one less)
+    | inr none ↦ ap (λ (n : ℕ). Illegal n) (omega (arith, no_less, none))
+  ]
+]

@@ -10,9 +10,11 @@ ghost use Rattle.trace_audit.specs.declared.verdict.Verdict.{Verdict};
 ghost use Rattle.trace_audit.specs.declared.verdict.Verdict.TheVariants.{Legal};
 
 /// Where no two strings that were hashed share a digest, the verdict on a legal history is that it is: so it is exactly there, since
-/// no other history has it. What is so of a history is so of its beginnings.
+/// no other history has it. There a history has one verdict. What is so of a history is so of its beginnings.
 pub fn verdict_laws()
     ensures legal { (c : Numbers) (history : List Post) (verdict : Verdict) → NoCollision c history → IsVerdict c history verdict → IsLegal c history
         → verdict ≡ Legal (length history) }
+    ensures one { (c : Numbers) (history : List Post) (verdict other : Verdict) → NoCollision c history → IsVerdict c history verdict
+        → IsVerdict c history other → verdict ≡ other }
     ensures beginnings { (c : Numbers) (history more : List Post) → NoCollision c (history ++ more) → NoCollision c history }
 {}

@@ -3,7 +3,6 @@ use Rattle.hb_rules.specs.declared.report.Fate.TheVariants.{Running}
 use Rattle.actor_cell.specs.Held.{player_at}
 use Rattle.actor_cell.specs.Mail.{AreSent, deliveries}
 use Rattle.actor_cell.specs.Turning.{IsShown}
-use Rattle.actor_cell.proofs.Hearings.{IsItsSeat}
 use Rattle.actor_cell.proofs.sending.send_all.Given as goal
 
 -- the numbers so far are put

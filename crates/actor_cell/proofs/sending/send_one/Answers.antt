@@ -1,4 +1,3 @@
-use Rattle.std.proofs.Common.{refl}
 use Rattle.hb_rules.specs.declared.report.Fate.TheVariants.{Running}
 use Rattle.actor_cell.specs.Held.{player_at}
 use Rattle.actor_cell.proofs.Hearings.{IsShown-of}

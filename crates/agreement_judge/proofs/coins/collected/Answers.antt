@@ -1,7 +1,5 @@
-use Rattle.std.proofs.Common.{◌≡◌, sym, ap, ◌∙◌, arith}
-use Rattle.hb_rules.specs.Hearing.{Hearing}
-use Rattle.agreement_judge.specs.Offers.{offered, shares_at}
-use Rattle.agreement_judge.proofs.KnownCoins.{offered_next, offered_all}
+use Rattle.std.proofs.Common.{arith}
+use Rattle.agreement_judge.proofs.KnownCoins.{offered_next}
 use Rattle.agreement_judge.proofs.coins.collected.Goals as goal
 
 pub loop-said-preserved : goal.loop-said-preserved

@@ -1,9 +1,9 @@
-use Rattle.std.proofs.Common.{◌≡◌, ◌+◌, ◌-◌, ◌||◌, Bool, sym, ap, ◌∙◌, arith}
+use Rattle.std.proofs.Common.{◌+◌, ◌-◌, ◌||◌, Bool, sym, ap, ◌∙◌, arith}
 use Rattle.std.specs.List.{list_any, range_with_len}
 use Rattle.std.proofs.lemmas.Bool.{or_left}
 use Rattle.hb_rules.specs.AgreementRows.{View, view_of}
 use Rattle.agreement_judge.specs.Tests.{settles}
-use Rattle.agreement_judge.proofs.KnownCoins.{any_from, any_past}
+use Rattle.agreement_judge.proofs.KnownCoins.{any_from}
 use Rattle.agreement_judge.proofs.rows.was_settled.Goals as goal
 
 pub returns-then-settled : goal.returns-then-settled

@@ -1,4 +1,4 @@
-use Rattle.std.proofs.Common.{◌≡◌, ◌<◌, length, ap, ◌∙◌, arith}
+use Rattle.std.proofs.Common.{◌≡◌, length, ap, ◌∙◌, arith}
 use Rattle.merkle_branch.proofs.LeavesLemmas.{length-leaf_digests_from}
 use Rattle.broadcast_judge.proofs.sending.val_of.Goals as goal
 

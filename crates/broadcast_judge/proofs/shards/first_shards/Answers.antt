@@ -1,4 +1,4 @@
-use Rattle.std.proofs.Common.{◌≡◌, ℕ, List, Option, true, sym, ap, ◌∙◌, subst, arith}
+use Rattle.std.proofs.Common.{◌≡◌, ℕ, List, true, sym, ap, ◌∙◌, subst, arith}
 use Rattle.std.specs.Option.{option_copied, option_map}
 use Rattle.hb_rules.specs.Hearing.{Hearing}
 use Rattle.broadcast_judge.specs.Checked.{is_checked}

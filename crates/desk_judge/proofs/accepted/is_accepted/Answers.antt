@@ -1,6 +1,6 @@
-use Rattle.std.proofs.Common.{◌≡◌, ◌-◌, false, None, Some, refl, sym, ap, ◌∙◌, arith}
+use Rattle.std.proofs.Common.{◌-◌, false, sym, ap, ◌∙◌, arith}
 use Rattle.std.specs.Option.{option_map}
-use Rattle.desk_judge.proofs.Accepting.{fits, accepted_by, lane_more, lane_none, lanes_end, ends_empty}
+use Rattle.desk_judge.proofs.Accepting.{accepted_by, lane_more, lane_none, lanes_end, ends_empty}
 use Rattle.desk_judge.proofs.accepted.is_accepted.Goals as goal
 
 pub returns-in-None : goal.returns-in-None

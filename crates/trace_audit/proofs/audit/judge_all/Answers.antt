@@ -1,9 +1,6 @@
-use Rattle.std.proofs.Common.{◌≡◌, ◌+◌, true, false, length, take, List, sym, ap, ◌∙◌, subst, arith}
-use Rattle.std.proofs.lemmas.List.{take_more, take_all}
-use Rattle.hb_base.specs.Numbers.{Numbers}
+use Rattle.std.proofs.Common.{true, false, take, List, ◌∙◌, arith}
 use Rattle.hb_wire.specs.declared.post.Post.{Post}
-use Rattle.hb_rules.specs.History.{IsLegal}
-use Rattle.trace_audit.proofs.Verdicts.{legal_none, legal_more, first_illegal, judged_at, seen_more}
+use Rattle.trace_audit.proofs.Verdicts.{legal_more, first_illegal, judged_at, seen_more}
 use Rattle.trace_audit.proofs.audit.judge_all.Goals as goal
 
 pub returns-then-not-may_follow : goal.returns-then-not-may_follow

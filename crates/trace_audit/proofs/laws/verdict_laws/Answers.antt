@@ -1,4 +1,4 @@
-use Rattle.trace_audit.proofs.Apart.{apart_before, legal_verdict}
+use Rattle.trace_audit.proofs.Apart.{apart_before, legal_verdict, one_verdict}
 use Rattle.trace_audit.proofs.laws.verdict_laws.Goals as goal
 
 pub returns-clause-legal : goal.returns-clause-legal
@@ -6,3 +6,6 @@ returns-clause-legal c = legal_verdict
 
 pub returns-clause-beginnings : goal.returns-clause-beginnings
 returns-clause-beginnings c = apart_before
+
+pub returns-clause-one : goal.returns-clause-one
+returns-clause-one c = one_verdict

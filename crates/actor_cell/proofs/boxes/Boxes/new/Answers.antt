@@ -1,4 +1,4 @@
-use Rattle.std.proofs.Common.{List, sym, subst}
+use Rattle.std.proofs.Common.{List, subst}
 use Rattle.atomic_blocks.specs.Laid.{WebId}
 use Rattle.actor_cell.specs.Boxes.{BoxesView}
 use Rattle.actor_cell.specs.Passes.{AreDealt}

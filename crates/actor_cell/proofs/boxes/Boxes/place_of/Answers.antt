@@ -1,4 +1,4 @@
-use Rattle.std.proofs.Common.{◌≡◌, ℕ, ◌+◌, ◌<◌, ◌≤◌, Bool, List, length, sym, ap, ◌∙◌, subst, arith}
+use Rattle.std.proofs.Common.{◌<◌, ◌≤◌, Bool, List, sym, ap, ◌∙◌, subst, arith}
 use Rattle.hb_base.specs.NodeSet.{is_in}
 use Rattle.actor_cell.specs.Boxes.{BoxesView}
 use Rattle.actor_cell.proofs.Places.{place_within, place_lies, place_honest, firsts_length}

@@ -1,7 +1,5 @@
-use Rattle.std.proofs.Common.{◌≡◌, ℕ, ◌+◌, ◌<◌, ◌≤◌, ◌++◌, true, List, length, map, refl, sym, ap, ◌∙◌, subst, arith}
-use Rattle.std.proofs.lemmas.List.{length-map}
+use Rattle.std.proofs.Common.{refl, sym, ◌∙◌, subst}
 use Rattle.std.proofs.lemmas.Result.{on_ok_weaker, on_err_weaker}
-use Rattle.atomic_blocks.specs.Laid.{WebId}
 use Rattle.mailbox.specs.Passes.{PutPassView}
 use Rattle.actor_cell.specs.Passes.{PassesView, ArePassesOf}
 use Rattle.actor_cell.proofs.Puts.{same_after, put_after, block_after, within_row}

@@ -1,4 +1,4 @@
-use Rattle.std.proofs.Common.{◌≡◌, ℕ, ◌+◌, ◌<◌, ◌≤◌, ◌++◌, Bool, List, [], ◌∷◌, length, sym, ap, ◌∙◌, subst, arith, length-append, cond}
+use Rattle.std.proofs.Common.{◌≡◌, ℕ, ◌+◌, ◌++◌, Bool, List, [], ◌∷◌, length, sym, ap, ◌∙◌, arith, length-append, cond}
 use Rattle.hb_base.specs.NodeSet.{is_in}
 use Rattle.actor_cell.specs.Boxes.{owners_below, owners_at}
 use Rattle.actor_cell.proofs.Places.{owners_more, firsts_more, row_length}

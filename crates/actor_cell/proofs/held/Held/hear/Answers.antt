@@ -1,5 +1,5 @@
-use Rattle.std.proofs.Common.{List, ℕ, [], refl, sym, ap, ◌∙◌, subst}
-use Rattle.hb_rules.specs.declared.report.Fate.TheVariants.{Running, Memory}
+use Rattle.std.proofs.Common.{List, ℕ, [], refl, sym, ◌∙◌, subst}
+use Rattle.hb_rules.specs.declared.report.Fate.TheVariants.{Running}
 use Rattle.actor_cell.specs.Held.{HeldView, player_at}
 use Rattle.hb_rules.specs.Report.{IsReceived}
 use Rattle.hb_rules.specs.Actor.{Told}

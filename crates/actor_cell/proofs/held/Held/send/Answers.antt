@@ -1,4 +1,4 @@
-use Rattle.std.proofs.Common.{◌≡◌, inl, inr, List, [], refl, sym, ap, ◌∙◌}
+use Rattle.std.proofs.Common.{◌≡◌, inl, inr, [], refl, sym, ap, ◌∙◌}
 use Rattle.hb_rules.specs.declared.report.Fate.TheVariants.{Running, Memory}
 use Rattle.actor_cell.specs.Held.{HeldView, player_at}
 use Rattle.std.proofs.lemmas.List.{append-nil}

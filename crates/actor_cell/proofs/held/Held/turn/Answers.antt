@@ -1,5 +1,4 @@
-use Rattle.std.proofs.Common.{◌≡◌, List, ℕ, [], ◌∷◌, ◌++◌, true, false, refl, sym, ap, ◌∙◌, subst}
-use Rattle.hb_rules.specs.declared.report.Fate.TheVariants.{Running}
+use Rattle.std.proofs.Common.{◌≡◌, [], ◌∷◌, ◌++◌, true, false, refl, sym, ap, ◌∙◌, subst}
 use Rattle.hb_rules.proofs.Reports.{running_of}
 use Rattle.net_script.specs.declared.script.Script.{Script}
 use Rattle.actor_cell.specs.Held.{HeldView, player_at}
