@@ -3,7 +3,7 @@ ghost use Rattle.std.specs.Prelude.{◌≡◌, List, [], ◌∷◌, ◌++◌, If
 ghost use Rattle.hb_base.specs.Numbers.{Numbers};
 ghost use Rattle.hb_wire.specs.declared.post.Post.{Post};
 ghost use Rattle.hb_rules.specs.History.{IsLegal};
-ghost use Rattle.trace_audit.specs.Verdicts.{Judges};
+ghost use Rattle.history_verdict.specs.Verdicts.{Judges};
 
 use hb_wire::Post;
 use std::alloc::AllocError;

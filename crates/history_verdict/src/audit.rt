@@ -1,7 +1,7 @@
 //! The verdict on a history.
 ghost use Rattle.std.specs.Prelude.{◌≡◌, ◌≤◌, [], length, IfOk};
 ghost use Rattle.hb_base.specs.Limits.{most_posts};
-ghost use Rattle.trace_audit.specs.Verdicts.{IsVerdict};
+ghost use Rattle.history_verdict.specs.Verdicts.{IsVerdict};
 
 use crate::judge::Judge;
 use crate::verdict::Verdict;

@@ -13,9 +13,9 @@ use Rattle.hb_rules.proofs.Addressed.{IsLegal-front}
 use Rattle.hb_rules.proofs.Among.{AreEchoes-grows}
 use Rattle.hb_rules.proofs.Cast.{cast_stays}
 use Rattle.hb_rules.proofs.Said.{said-stays}
-use Rattle.trace_audit.specs.Verdicts.{IsFirstIllegal, IsVerdict}
-use Rattle.trace_audit.specs.declared.verdict.Verdict.{Verdict}
-use Rattle.trace_audit.specs.declared.verdict.Verdict.TheVariants.{Legal, Illegal}
+use Rattle.history_verdict.specs.Verdicts.{IsFirstIllegal, IsVerdict}
+use Rattle.history_verdict.specs.declared.verdict.Verdict.{Verdict}
+use Rattle.history_verdict.specs.declared.verdict.Verdict.TheVariants.{Legal, Illegal}
 
 -- what counts as hashed after some posts counts after more
 hashed_later : (c : Numbers) (history more : List Post) (string : List ℕ) → IsHashed c history string → IsHashed c (history ++ more) string

@@ -4,8 +4,8 @@ use Rattle.hb_base.specs.Numbers.{Numbers}
 use Rattle.hb_wire.specs.declared.post.Post.{Post}
 use Rattle.hb_rules.specs.History.{MayFollow, IsLegal}
 use Rattle.hb_rules.specs.Strings.{NoCollision}
-use Rattle.trace_audit.specs.declared.verdict.Verdict.{Verdict}
-use Rattle.trace_audit.specs.declared.verdict.Verdict.TheVariants.{Legal, Illegal}
+use Rattle.history_verdict.specs.declared.verdict.Verdict.{Verdict}
+use Rattle.history_verdict.specs.declared.verdict.Verdict.TheVariants.{Legal, Illegal}
 
 -- The answer says whether the post may follow the history. A yes is always right, and a no is right where no two strings
 -- that were hashed share a digest.

@@ -1,5 +1,5 @@
-use Rattle.trace_audit.proofs.Apart.{apart_before, legal_verdict, one_verdict}
-use Rattle.trace_audit.proofs.laws.verdict_laws.Goals as goal
+use Rattle.history_verdict.proofs.Apart.{apart_before, legal_verdict, one_verdict}
+use Rattle.history_verdict.proofs.laws.verdict_laws.Goals as goal
 
 pub returns-clause-legal : goal.returns-clause-legal
 returns-clause-legal c = legal_verdict

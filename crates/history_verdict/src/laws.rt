@@ -5,9 +5,9 @@ ghost use Rattle.hb_base.specs.Numbers.{Numbers};
 ghost use Rattle.hb_wire.specs.declared.post.Post.{Post};
 ghost use Rattle.hb_rules.specs.History.{IsLegal};
 ghost use Rattle.hb_rules.specs.Strings.{NoCollision};
-ghost use Rattle.trace_audit.specs.Verdicts.{IsVerdict};
-ghost use Rattle.trace_audit.specs.declared.verdict.Verdict.{Verdict};
-ghost use Rattle.trace_audit.specs.declared.verdict.Verdict.TheVariants.{Legal};
+ghost use Rattle.history_verdict.specs.Verdicts.{IsVerdict};
+ghost use Rattle.history_verdict.specs.declared.verdict.Verdict.{Verdict};
+ghost use Rattle.history_verdict.specs.declared.verdict.Verdict.TheVariants.{Legal};
 
 /// Where no two strings that were hashed share a digest, the verdict on a legal history is that it is: so it is exactly there, since
 /// no other history has it. There a history has one verdict. What is so of a history is so of its beginnings.

@@ -1,6 +1,6 @@
 use Rattle.std.proofs.Common.{◌≡◌, take}
 use Rattle.hb_rules.specs.History.{IsLegal}
-use Rattle.trace_audit.proofs.audit.judge_all.Given as goal
+use Rattle.history_verdict.proofs.audit.judge_all.Given as goal
 
 abbrev pub invariant-loop-number : goal.invariant-loop-number
 invariant-loop-number g l = record {

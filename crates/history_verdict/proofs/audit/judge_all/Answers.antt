@@ -1,7 +1,7 @@
 use Rattle.std.proofs.Common.{true, false, take, List, ◌∙◌, arith}
 use Rattle.hb_wire.specs.declared.post.Post.{Post}
-use Rattle.trace_audit.proofs.Verdicts.{legal_more, first_illegal, judged_at, seen_more}
-use Rattle.trace_audit.proofs.audit.judge_all.Goals as goal
+use Rattle.history_verdict.proofs.Verdicts.{legal_more, first_illegal, judged_at, seen_more}
+use Rattle.history_verdict.proofs.audit.judge_all.Goals as goal
 
 pub returns-then-not-may_follow : goal.returns-then-not-may_follow
 returns-then-not-may_follow g c =

@@ -7,7 +7,7 @@ use Rattle.hb_wire.specs.declared.post.Post.{Post}
 use Rattle.hb_rules.specs.History.{MayFollow, AreLegalAfter, IsLegal}
 use Rattle.hb_rules.specs.Strings.{NoCollision}
 use Rattle.hb_rules.proofs.Histories.{IsLegal-push}
-use Rattle.trace_audit.specs.Verdicts.{Judges, IsFirstIllegal}
+use Rattle.history_verdict.specs.Verdicts.{Judges, IsFirstIllegal}
 
 last_after : (c : Numbers) (before posts : List Post) (post : Post) → AreLegalAfter c before (posts ++ post ∷ []) → MayFollow c (before ++ posts) post
 last_after c before [] post legal = rw append-nil legal.0
