@@ -1,5 +1,5 @@
 -- A lane that was started.
-use Rattle.std.proofs.Common.{◌≡◌, ℕ, ◌<◌, true, false, List, [], ◌∷◌, Contains, get_or, length, refl, sym, ap, arith}
+use Rattle.std.proofs.Common.{◌≡◌, ℕ, ◌<◌, true, false, List, [], ◌∷◌, Contains, get_or, length, refl, sym, ap, ◌∙◌, subst, arith}
 use Rattle.std.proofs.lemmas.Bool.{lt-ltb}
 use Rattle.hb_base.specs.Numbers.{Numbers}
 use Rattle.hb_base.specs.NodeSet.{is_in}
@@ -82,6 +82,26 @@ kept_by_desk c a b liar lane known honest liar_is lane_is one two moved = (
   IsSeatOf-moved 0 c.n a b liar moved (rw liar_is (two_nodes c 0 c.n 3 255 (λ is. omega (arith, is)))) one,
   IsSeatOf-moved 0 c.n a b lane moved (rw lane_is (two_actors c 0 c.n 0 honest (λ is. omega (arith, is, known)))) two,
 )
+
+-- the seats of the liar and of the lane, which have seen nothing, are of the book
+pub record AreSeated (c : Numbers) (book : BookView) (liar lane : SeatView) : Type 0 where
+  pub liar_is : liar ≡ record { config = c; node = 3; actor = 255; seen = [] }
+  pub lane_is : lane ≡ record { config = c; node = 0; actor = 0; seen = [] }
+  pub liar_known : IsSeatOf book liar
+  pub lane_known : IsSeatOf book lane
+
+-- both were made of a book with no post, the liar's first, and then the desk has posted
+pub seated : (c : Numbers) (a b d e : BookView) (liar lane : SeatView) → 3 < c.n → is_in c.liars 0 ≡ false → a ≡ record { config = c; posts = [] }
+    → liar ≡ record { config = a.config; node = 3; actor = 255; seen = a.posts } → b ≡ a → IsSeatOf b liar
+    → lane ≡ record { config = b.config; node = 0; actor = 0; seen = b.posts } → d ≡ b → IsSeatOf d lane → Moved 0 c.n d e → AreSeated c e liar lane
+seated c a b d e liar lane many honest empty liar_was same known lane_was same_too lane_known moved =
+    let liar_is : liar ≡ record { config = c; node = 3; actor = 255; seen = [] } =
+    liar_was ∙ ap (λ (x : BookView). record { config = x.config; node = 3; actor = 255; seen = x.posts }) empty in
+    let lane_is : lane ≡ record { config = c; node = 0; actor = 0; seen = [] } =
+    lane_was ∙ ap (λ (x : BookView). record { config = x.config; node = 0; actor = 0; seen = x.posts }) (same ∙ empty) in
+    let both =
+    kept_by_desk c d e liar lane (omega (arith, many)) honest liar_is lane_is (subst (λ (x : BookView). IsSeatOf x liar) (sym same_too) known) lane_known moved in
+    record { liar_is = liar_is; lane_is = lane_is; liar_known = both.0; lane_known = both.1 }
 
 -- and that of the lane when the liar has posted too
 pub kept_by_liar : (c : Numbers) (a b : BookView) (lane : SeatView) → lane ≡ record { config = c; node = 0; actor = 0; seen = [] } → IsSeatOf a lane → Moved 3 255 a b → IsSeatOf b lane

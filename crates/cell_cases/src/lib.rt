@@ -4,6 +4,8 @@
 mod beginning;
 mod locking;
 mod marking;
+#[cfg(test)]
+mod tests;
 
 pub use beginning::{Begun, PlainLane, begin};
 pub use locking::{first_passes, locked};

@@ -1,5 +1,5 @@
 //! A lane behind its lock.
-ghost use Rattle.std.specs.Prelude.{◌≡◌, ◌⊎◌, false, All, IfSome};
+ghost use Rattle.std.specs.Prelude.{◌≡◌, false, [], All, IfSome, IfNone};
 ghost use Rattle.hb_base.specs.NodeSet.{is_in};
 ghost use Rattle.hb_rules.specs.declared.report.Fate.TheVariants.{Running, Memory};
 ghost use Rattle.actor_cell.specs.Passes.{ArePassesOf, AreDealt};
@@ -12,10 +12,11 @@ use net_script::Script;
 use std::alloc::Global;
 use std::marker::Brand;
 
-/// The first passes, which are those of lane 0 of node 0, and the others.
+/// The first passes, which are those of lane 0 of node 0, and the others. None only where there are none.
 pub fn first_passes(boxes: &Boxes, all: &mut Vec<Passes>) -> Option<Passes>
     requires dealt { AreDealt boxes.now.names all.old.items × All (ArePassesOf boxes.now) all.old.items }
     ensures first { IfSome result (λ passes. (passes.place ≡ 0) × ArePassesOf boxes.now passes) }
+    ensures none { IfNone result (all.old.items ≡ []) }
     ensures rest { All (ArePassesOf boxes.now) all.new.items }
 {
     let _ = boxes;
