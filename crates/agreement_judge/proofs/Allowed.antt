@@ -23,7 +23,7 @@ use Rattle.hb_rules.specs.Same.{same_vote}
 use Rattle.hb_rules.specs.Terms.{AreHeardSpelled}
 use Rattle.hb_rules.proofs.Among.{any_stands}
 use Rattle.hb_rules.proofs.Lists.{list_any-from}
-use Rattle.claim_count.specs.Apart.{IsHeardApart}
+use Rattle.hb_rules.specs.Apart.{IsHeardApart}
 use Rattle.agreement_judge.specs.Tests.{gathers_both, gathers, confirms_both, is_confirmed, is_left, goes_on, begins, settles, allows_est, allows_bval, allows_aux, allows_conf, allows_pick, allows_coin, allows_decided}
 use Rattle.agreement_judge.proofs.KnownCoins.{coin_stands, coin_counts, coin_known, known_coin, round_within, round_stands}
 

@@ -27,7 +27,7 @@ use Rattle.hb_rules.proofs.Lists.{Contains-filter_map}
 use Rattle.aba_core.proofs.Hearing.{shares_none, shares_one}
 use Rattle.aba_world.proofs.Coins.{coin_dealt}
 use Rattle.quiet_agreement.proofs.Coins.{taken_all, few_nodes}
-use Rattle.claim_count.specs.Apart.{IsHeardApart}
+use Rattle.hb_rules.specs.Apart.{IsHeardApart}
 use Rattle.agreement_judge.specs.Offers.{with_some, offered, shares_at}
 
 -- ---- a known coin

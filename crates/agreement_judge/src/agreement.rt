@@ -3,7 +3,7 @@ ghost use Rattle.std.specs.Prelude.{◌≡◌, ◌<◌, true, IfOk};
 ghost use Rattle.hb_wire.specs.Votes.{epoch_of};
 ghost use Rattle.hb_rules.specs.Agreement.{MayAgree};
 ghost use Rattle.hb_rules.specs.Terms.{AreHeardSpelled};
-ghost use Rattle.claim_count.specs.Apart.{IsHeardApart};
+ghost use Rattle.hb_rules.specs.Apart.{IsHeardApart};
 
 use crate::place::Place;
 use crate::rows::{

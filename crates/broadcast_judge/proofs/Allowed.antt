@@ -37,7 +37,7 @@ use Rattle.hb_rules.proofs.Lists.{list_any-from}
 use Rattle.hb_rules.proofs.Said.{heard-said, few_liars}
 use Rattle.rbc_world.proofs.Binding.{echoed-hashed, one_codeword}
 use Rattle.quiet_broadcast.proofs.Codewords.{value_there}
-use Rattle.claim_count.specs.Apart.{IsHeardApart}
+use Rattle.hb_rules.specs.Apart.{IsHeardApart}
 use Rattle.broadcast_judge.specs.Tests.{is_part, is_source, is_carried, is_carried_by, is_delivered_by}
 
 -- ---- votes of a node that were heard

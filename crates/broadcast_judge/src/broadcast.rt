@@ -3,7 +3,7 @@ ghost use Rattle.std.specs.Prelude.{◌≡◌, ◌<◌, true, IfOk};
 ghost use Rattle.hb_rules.specs.Broadcast.{MayBroadcast};
 ghost use Rattle.hb_rules.specs.History.{HasSpelling};
 ghost use Rattle.hb_rules.specs.Terms.{AreHeardSpelled};
-ghost use Rattle.claim_count.specs.Apart.{IsHeardApart};
+ghost use Rattle.hb_rules.specs.Apart.{IsHeardApart};
 ghost use Rattle.broadcast_judge.specs.Checked.{AreChecked};
 
 use crate::delivering::{may_be_ready, may_deliver};

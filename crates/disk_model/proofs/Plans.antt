@@ -1,10 +1,10 @@
 -- What a call by the plan leaves, by what it meets.
-use Rattle.std.proofs.Common.{◌≡◌, ◌≤◌, ◌<◌, ◌+◌, ◌^◌, ◌==◌, ◌⊎◌, inl, inr, ⊎_elim, cond, length, suc, ℕ, List, [], ◌∷◌, Bool, true, false}
+use Rattle.std.proofs.Common.{◌≡◌, ◌≤◌, ◌<◌, ◌+◌, ◌-◌, ◌^◌, ◌==◌, ◌&&◌, ◌⊎◌, inl, inr, ⊎_elim, cond, length, suc, ℕ, List, [], ◌∷◌, Bool, true, false}
 use Rattle.std.proofs.Common.{nat_lt, Option, Some, None, Result, Ok, Err, IsErrOf, OnOk, is_some, if◌then◌else◌, refl, sym, ◌∙◌, ap, subst}
 use Rattle.std.proofs.Common.{arith}
 use Rattle.std.specs.List.{list_any, Contains}
 use Rattle.std.proofs.lemmas.List.Sums.{sum_by-cons}
-use Rattle.std.proofs.lemmas.Bool.{cases_lt, cases_Bool, cond-true, cond-false, lt-ltb, le-ltb, ltb-true, eqb-true, or_cases, both_ways}
+use Rattle.std.proofs.lemmas.Bool.{cases_lt, cases_Bool, cond-true, cond-false, lt-ltb, le-ltb, ltb-true, eqb-true, or_cases, both_ways, and_from, and_left, and_parts, eq-eqb}
 use Rattle.disk_model.specs.declared.disk.DiskFault.{DiskFault}
 use Rattle.disk_model.specs.declared.disk.DiskFault.TheVariants.{Failed, Memory}
 use Rattle.hb_base.specs.Outside.{HasCauseOf}
@@ -23,38 +23,46 @@ use Rattle.disk_model.specs.Halves.{HalvesMayLeave, content_of, on_half, settled
 use Rattle.disk_model.specs.Memory.{MemoryState, one_more, stop_at, met_at, met_by, met_of, IsDisk, AnswersAs, AnswersOrMemory, stops_after, supply_of}
 use Rattle.disk_model.proofs.Images.{only_settled, half_write_follows, half_write_grows, half_write_same, half_cut_follows, half_cut_grows, half_cut_same}
 
+-- whether a stop is at a call after this one
+abbrev is_ahead : ℕ → Stop → Bool
+is_ahead n stop = nat_lt n stop.call && nat_lt stop.call (2 ^ 32)
+
+ahead : (n : ℕ) (stop : Stop) → n < stop.call → stop.call < 2 ^ 32 → is_ahead n stop ≡ true
+ahead n stop later small = and_from _ _ (lt-ltb n stop.call later) (lt-ltb stop.call (2 ^ 32) small)
+
+not_ahead : (n : ℕ) (stop : Stop) → stop.call ≤ n → is_ahead n stop ≡ false
+not_ahead n stop past = and_left _ _ (le-ltb n stop.call past)
+
+ahead_later : (n : ℕ) (stop : Stop) → is_ahead n stop ≡ true → (n < stop.call) × (stop.call < 2 ^ 32)
+ahead_later n stop is = let parts = and_parts _ _ is in (ltb-true n stop.call parts.0, ltb-true stop.call (2 ^ 32) parts.1)
+
 -- one stop more, first
-stops_after_step : (n : ℕ) (stop : Stop) (stops : List Stop) → stops_after n (stop ∷ stops) ≡ cond (nat_lt n stop.call) 1 0 + stops_after n stops
-stops_after_step n stop stops = sum_by-cons (λ (s : Stop). cond (nat_lt n s.call) 1 0) stop stops
+stops_after_step : (n : ℕ) (stop : Stop) (stops : List Stop) → stops_after n (stop ∷ stops) ≡ cond (is_ahead n stop) 1 0 + stops_after n stops
+stops_after_step n stop stops = sum_by-cons (λ (s : Stop). cond (is_ahead n s) 1 0) stop stops
+
+one_later : (m n : ℕ) (stop : Stop) → m ≤ n → cond (is_ahead n stop) 1 0 ≤ cond (is_ahead m stop) 1 0
+one_later m n stop h =
+    ⊎_elim
+    (λ later. let is = ahead_later n stop later in
+    omega (
+      arith,
+      cond-true {A = ℕ} (is_ahead n stop) 1 0 later,
+      cond-true {A = ℕ} (is_ahead m stop) 1 0 (ahead m stop (omega (arith, h, is.0)) is.1),
+    ))
+    (λ past. omega (arith, cond-false {A = ℕ} (is_ahead n stop) 1 0 past))
+    (cases_Bool (is_ahead n stop))
 
 -- fewer stops are behind a later call
 pub stops_after_later : (m n : ℕ) (stops : List Stop) → m ≤ n → stops_after n stops ≤ stops_after m stops
 stops_after_later m n [] h = omega arith
 stops_after_later m n (stop ∷ stops) h =
-    let rest = stops_after_later m n stops h in
-    ⊎_elim
-    (λ later. omega (
-      arith,
-      rest,
-      stops_after_step n stop stops,
-      stops_after_step m stop stops,
-      cond-true {A = ℕ} (nat_lt n stop.call) 1 0 (lt-ltb n stop.call later),
-      cond-true {A = ℕ} (nat_lt m stop.call) 1 0 (lt-ltb m stop.call (omega (arith, later, h))),
-    ))
-    (λ past. omega (
-      arith,
-      rest,
-      stops_after_step n stop stops,
-      stops_after_step m stop stops,
-      cond-false {A = ℕ} (nat_lt n stop.call) 1 0 (le-ltb n stop.call past),
-    ))
-    (cases_lt n stop.call)
+    omega (arith, stops_after_later m n stops h, one_later m n stop h, stops_after_step n stop stops, stops_after_step m stop stops)
 
 -- and one fewer where there is a stop at it
-pub stops_after_met : (m call : ℕ) (stops : List Stop) (leave : Leave) → stop_at call stops ≡ Some leave → m < call
+pub stops_after_met : (m call : ℕ) (stops : List Stop) (leave : Leave) → stop_at call stops ≡ Some leave → call < 2 ^ 32 → m < call
     → stops_after call stops < stops_after m stops
-stops_after_met m call [] leave met h = absurd (cc)
-stops_after_met m call (stop ∷ stops) leave met h =
+stops_after_met m call [] leave met small h = absurd (cc)
+stops_after_met m call (stop ∷ stops) leave met small h =
     ⊎_elim
     (λ here. let at : stop.call ≡ call = eqb-true stop.call call here in
     omega (
@@ -62,29 +70,50 @@ stops_after_met m call (stop ∷ stops) leave met h =
       stops_after_step call stop stops,
       stops_after_step m stop stops,
       stops_after_later m call stops (omega (arith, h)),
-      cond-false {A = ℕ} (nat_lt call stop.call) 1 0 (le-ltb call stop.call (omega (arith, at))),
-      cond-true {A = ℕ} (nat_lt m stop.call) 1 0 (lt-ltb m stop.call (omega (arith, at, h))),
+      cond-false {A = ℕ} (is_ahead call stop) 1 0 (not_ahead call stop (omega (arith, at))),
+      cond-true {A = ℕ} (is_ahead m stop) 1 0 (ahead m stop (omega (arith, at, h)) (omega (arith, at, small))),
     ))
     (λ elsewhere.
-    let rest = stops_after_met m call stops leave (sym (cond-false (stop.call == call) (Some stop.leave) (stop_at call stops) elsewhere) ∙ met) h in
-    ⊎_elim
-    (λ later. omega (
-      arith,
-      rest,
-      stops_after_step call stop stops,
-      stops_after_step m stop stops,
-      cond-true {A = ℕ} (nat_lt call stop.call) 1 0 (lt-ltb call stop.call later),
-      cond-true {A = ℕ} (nat_lt m stop.call) 1 0 (lt-ltb m stop.call (omega (arith, later, h))),
-    ))
-    (λ past. omega (
-      arith,
-      rest,
-      stops_after_step call stop stops,
-      stops_after_step m stop stops,
-      cond-false {A = ℕ} (nat_lt call stop.call) 1 0 (le-ltb call stop.call past),
-    ))
-    (cases_lt call stop.call))
+    let rest = stops_after_met m call stops leave (sym (cond-false (stop.call == call) (Some stop.leave) (stop_at call stops) elsewhere) ∙ met) small h in
+    omega (arith, rest, one_later m call stop (omega (arith, h)), stops_after_step call stop stops, stops_after_step m stop stops))
     (cases_Bool (stop.call == call))
+
+-- no stop is at this call, so none is at a call of the others
+none_after : (call : ℕ) (stop : Stop) (stops : List Stop) → stop_at call (stop ∷ stops) ≡ None → ((stop.call == call) ≡ false) × (stop_at call stops ≡ None)
+none_after call stop stops none =
+    ⊎_elim
+    (λ here. absurd (some_not_none (sym (cond-true (stop.call == call) (Some stop.leave) (stop_at call stops) here) ∙ none)))
+    (λ elsewhere. (elsewhere, sym (cond-false (stop.call == call) (Some stop.leave) (stop_at call stops) elsewhere) ∙ none))
+    (cases_Bool (stop.call == call))
+  where
+    some_not_none : {A : Type 0} {x : A} → Some x ≡ None → ⊥
+    some_not_none h = cc (h)
+
+one_passed : (m n : ℕ) (stop : Stop) → n ≡ m + 1 → (n < 2 ^ 32 → (stop.call == n) ≡ false) → ◌≡◌ {A = ℕ} (cond (is_ahead n stop) 1 0) (cond (is_ahead m stop) 1 0)
+one_passed m n stop next none =
+    ⊎_elim
+    (λ later. let is = ahead_later m stop later in
+    ⊎_elim
+    (λ (beyond : n < stop.call).
+    cond-true {A = ℕ} (is_ahead n stop) 1 0 (ahead n stop beyond is.1) ∙ sym (cond-true {A = ℕ} (is_ahead m stop) 1 0 later))
+    (λ (past : stop.call ≤ n).
+    let at : stop.call ≡ n = omega (arith, past, next, is.0) in
+    absurd (both_ways (stop.call == n) (none (omega (arith, at, is.1))) (eq-eqb stop.call n at)))
+    (cases_lt n stop.call))
+    (λ past. omega (arith, one_later m n stop (omega (arith, next)), cond-false {A = ℕ} (is_ahead m stop) 1 0 past))
+    (cases_Bool (is_ahead m stop))
+
+-- and as many where there is none
+pub stops_after_passed : (m n : ℕ) (stops : List Stop) → n ≡ m + 1 → (n < 2 ^ 32 → stop_at n stops ≡ None) → stops_after n stops ≡ stops_after m stops
+stops_after_passed m n [] next none = refl
+stops_after_passed m n (stop ∷ stops) next none =
+    omega (
+      arith,
+      stops_after_passed m n stops next (λ small. (none_after n stop stops (none small)).1),
+      one_passed m n stop next (λ small. (none_after n stop stops (none small)).0),
+      stops_after_step n stop stops,
+      stops_after_step m stop stops,
+    )
 
 -- a fault that is met is named, and its number fits a u32
 fault_is : (small : Bool) (stop : Option Leave) (fails : Bool) → (if small then met_at stop fails else Nothing) ≡ Fault → (small ≡ true) × (fails ≡ true)
@@ -110,6 +139,39 @@ stop_met : (off : Option Leave) (call : ℕ) (stops : List Stop) (planned : List
     → (call < 2 ^ 32) × (stop_at call stops ≡ Some leave)
 stop_met (Some left) call stops planned leave met = absurd (cc)
 stop_met None call stops planned leave met = let is = stop_is _ _ _ _ met in (ltb-true _ _ is.0, is.1)
+
+-- a call that is stopped finds the disk on
+stop_on : (off : Option Leave) (call : ℕ) (stops : List Stop) (planned : List ℕ) (leave : Leave) → met_by off call stops planned ≡ Stops leave
+    → is_some off ≡ false
+stop_on (Some left) call stops planned leave met = absurd (cc)
+stop_on None call stops planned leave met = refl
+
+-- there is no stop at a call that meets none
+no_stop_is : (small : Bool) (stop : Option Leave) (fails : Bool) → small ≡ true
+    → ((leave : Leave) → (if small then met_at stop fails else Nothing) ≡ Stops leave → ⊥) → stop ≡ None
+no_stop_is true None fails is never = refl
+no_stop_is true (Some leave) fails is never = absurd (never leave refl)
+no_stop_is false stop fails is never = absurd (cc (is))
+
+no_stop : (off : Option Leave) (call : ℕ) (stops : List Stop) (planned : List ℕ) (met : Met) → met_by off call stops planned ≡ met
+    → (met ≡ Off → ⊥) → ((leave : Leave) → met ≡ Stops leave → ⊥) → call < 2 ^ 32 → stop_at call stops ≡ None
+no_stop (Some left) call stops planned met is on never small = absurd (on (sym is))
+no_stop None call stops planned met is on never small =
+    no_stop_is (nat_lt call (2 ^ 32)) (stop_at call stops) (list_any (λ fault. fault == call) planned) (lt-ltb call (2 ^ 32) small)
+    (λ leave stopped. never leave (sym is ∙ stopped))
+
+stops_kept : (old : MemoryState) (met : Met) → met_of old ≡ met → (met ≡ Off → ⊥) → ((leave : Leave) → met ≡ Stops leave → ⊥) → old.calls < 2 ^ 64
+    → stops_after (one_more old.calls) old.stops ≡ stops_after old.calls old.stops
+stops_kept old met is on never small =
+    ⊎_elim
+    (λ (last : 2 ^ 64 - 1 ≤ old.calls). ap (λ (n : ℕ). stops_after n old.stops) (omega (arith, last, small)))
+    (λ (more : old.calls < 2 ^ 64 - 1). stops_after_passed old.calls (one_more old.calls) old.stops (omega (arith, more))
+    (no_stop old.off (one_more old.calls) old.stops old.planned met is on never))
+    (by (cases_lt old.calls (2 ^ 64 - 1)))
+  where
+    by : (old.calls < 2 ^ 64 - 1) ⊎ (2 ^ 64 - 1 ≤ old.calls) → (2 ^ 64 - 1 ≤ old.calls) ⊎ (old.calls < 2 ^ 64 - 1)
+    by (inl h) = inr h
+    by (inr h) = inl h
 
 not_off : (small : Bool) (stop : Option Leave) (fails : Bool) → (if small then met_at stop fails else Nothing) ≡ Off → ⊥
 not_off true None true met = cc
@@ -149,6 +211,7 @@ draws_by Nothing done cut_off old new result is small answers = subst (λ (d : M
   stays_off = λ h. h;
   no_more = stops_after_later old.calls (one_more old.calls) old.stops (omega (arith, small));
   uses_up = λ on off. absurd (both_ways _ on off);
+  kept = λ _. stops_kept old Nothing is (λ h. cc (h)) (λ leave h. cc (h)) small;
   planned = refl;
   calls = omega (arith, small);
 })
@@ -156,6 +219,7 @@ draws_by Fault done cut_off old new result is small answers = subst (λ (d : Mem
   stays_off = λ h. h;
   no_more = stops_after_later old.calls (one_more old.calls) old.stops (omega (arith, small));
   uses_up = λ on off. absurd (both_ways _ on off);
+  kept = λ _. stops_kept old Fault is (λ h. cc (h)) (λ leave h. cc (h)) small;
   planned = refl;
   calls = omega (arith, small);
 })
@@ -164,7 +228,8 @@ draws_by (Stops leave) done cut_off old new result is small answers =
     subst (λ (d : MemoryState). Draws (supply_of old) (supply_of d)) (sym answers.1) (record {
       stays_off = λ h. refl;
       no_more = stops_after_later old.calls (one_more old.calls) old.stops (omega (arith, small));
-      uses_up = λ on off. stops_after_met old.calls (one_more old.calls) old.stops leave met.1 (omega (arith, met.0));
+      uses_up = λ on off. stops_after_met old.calls (one_more old.calls) old.stops leave met.1 met.0 (omega (arith, met.0));
+      kept = λ same. absurd (both_ways (is_some old.off) (stop_on old.off (one_more old.calls) old.stops old.planned leave is) (sym same));
       planned = refl;
       calls = omega (arith, small);
     })
@@ -172,6 +237,7 @@ draws_by Off done cut_off old new result is small answers = subst (λ (d : Memor
   stays_off = λ h. h;
   no_more = omega arith;
   uses_up = λ on off. absurd (both_ways _ on off);
+  kept = λ _. refl;
   planned = refl;
   calls = omega arith;
 })
@@ -285,6 +351,7 @@ write_draws done old new result small (inr none) = subst (λ (d : MemoryState). 
   stays_off = λ h. h;
   no_more = omega arith;
   uses_up = λ on off. absurd (both_ways _ on off);
+  kept = λ _. refl;
   planned = refl;
   calls = omega arith;
 })

@@ -1,5 +1,5 @@
 -- A disk in memory: its states, and what each call makes of them by its plan.
-use Rattle.std.specs.Prelude.{◌≡◌, ◌⊎◌, ◌≤◌, ◌<◌, ◌+◌, ◌-◌, ◌^◌, ◌==◌, ℕ, Bool, true, false, List, [], ◌∷◌, length, min, nat_lt}
+use Rattle.std.specs.Prelude.{◌≡◌, ◌⊎◌, ◌≤◌, ◌<◌, ◌+◌, ◌-◌, ◌^◌, ◌==◌, ◌&&◌, ℕ, Bool, true, false, List, [], ◌∷◌, length, min, nat_lt}
 use Rattle.std.specs.Prelude.{if◌then◌else◌, Option, Some, None, is_some, Result, IsOk, IsErrOf, count_by}
 use Rattle.std.specs.List.{list_any}
 use Rattle.disk_model.specs.declared.disk.DiskFault.{DiskFault}
@@ -132,9 +132,9 @@ LeftIn t (halves ∷ older) c = ((t ≤ length older) × HalvesMayLeave halves c
 abbrev pub LeftSince : MemoryState → ℕ → Image → Type 0
 LeftSince disk t c = HalvesMayLeave disk.halves c ⊎ LeftIn t disk.past c
 
--- how many stops are at calls still to come
+-- how many stops are at calls still to come: calls past the greatest u32 are in no plan
 abbrev pub stops_after : ℕ → List Stop → ℕ
-stops_after calls stops = count_by (λ stop. nat_lt calls stop.call) stops
+stops_after calls stops = count_by (λ stop. nat_lt calls stop.call && nat_lt stop.call (2 ^ 32)) stops
 
 abbrev pub supply_of : MemoryState → Supply
 supply_of disk = record { off = is_some disk.off; stops = stops_after disk.calls disk.stops; planned = disk.planned; calls = min disk.calls (2 ^ 32 - 1) }

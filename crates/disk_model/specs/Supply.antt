@@ -12,11 +12,12 @@ pub record Supply : Type 0 where
 abbrev pub mains : Supply
 mains = record { off = false; stops = 0; planned = []; calls = 0 }
 
--- What the calls of a disk do to its supply: none switches it on, and one that switches it off uses up a stop.
+-- What the calls of a disk do to its supply: none switches it on, one that switches it off uses up a stop, and no other does.
 pub record Draws (before now : Supply) : Type 0 where
   pub stays_off : before.off ≡ true → now.off ≡ true
   pub no_more : now.stops ≤ before.stops
   pub uses_up : before.off ≡ false → now.off ≡ true → now.stops < before.stops
+  pub kept : now.off ≡ before.off → now.stops ≡ before.stops
   pub planned : now.planned ≡ before.planned
   pub calls : before.calls ≤ now.calls
 

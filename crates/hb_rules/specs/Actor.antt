@@ -33,28 +33,34 @@ pub record Goes (old new : ActorView) : Type 0 where
   pub faults : old.faults ≤ new.faults
   pub restarts : old.restarts ≤ new.restarts
   pub budget : budget new.restarts new.supply ≤ budget old.restarts old.supply
+  -- where its disk is on after the call, no stop was met in it
+  pub kept : new.supply.off ≡ false → new.supply.stops ≡ old.supply.stops
   pub begun : new.fresh ≡ false
 
--- it was not switched on
+-- it was not switched on, and its disk was left alone
 pub record IsStillOff (old new : ActorView) : Type 0 where
   pub restarts : new.restarts ≡ old.restarts
   pub got : new.got ≡ old.got
   pub off : new.supply.off ≡ true
+  pub supply : new.supply ≡ old.supply
+  pub faults : new.faults ≡ old.faults
 
 -- it was switched on, and has forgotten what it received
 pub record IsOnAgain (old new : ActorView) : Type 0 where
   pub restarts : new.restarts ≡ old.restarts + 1
   pub got : new.got ≡ []
 
--- its disk has not failed, and has its power as before
+-- its disk has not failed, has its power as before, and met no stop
 pub record IsUnfailed (old new : ActorView) : Type 0 where
   pub no_fault : new.faults ≡ old.faults
   pub power : new.supply.off ≡ old.supply.off
+  pub stops : new.supply.stops ≡ old.supply.stops
 
--- its disk has not failed, and has kept its power if it was switched on again
+-- its disk has not failed, has kept its power if it was switched on again, and met no stop
 pub record IsUnfailedAgain (old new : ActorView) : Type 0 where
   pub no_fault : new.faults ≡ old.faults
   pub power : new.restarts ≡ old.restarts + 1 → new.supply.off ≡ false
+  pub stops : new.supply.stops ≡ old.supply.stops
 
 -- each vote that the actor had cast it has cast once more
 pub record AreCastAgain (t : Terms) (old new : List Post) : Type 0 where
@@ -67,6 +73,12 @@ pub record IsFew (t : Terms) (seen : List Post) (most : ℕ) : Type 0 where
 -- nothing is owed, by what the actor has cast and the posts that it received
 abbrev pub OwesNothing : Terms → List Post → List ℕ → Type 0
 OwesNothing t seen got = t.owed (cast_in t seen) (heard_got t seen got) ≡ []
+
+-- it has cast nothing, and left its disk alone; its seat has seen `before`, and then `after`
+pub record LeavesAlone (old new : ActorView) (before after : List Post) : Type 0 where
+  pub cast : cast_in old.terms after ≡ cast_in old.terms before
+  pub supply : new.supply ≡ old.supply
+  pub faults : new.faults ≡ old.faults
 
 -- a post that stands and reaches actor x of node i
 pub record ReachesActor (c : Numbers) (seen : List Post) (i x k : ℕ) : Type 0 where

@@ -27,5 +27,6 @@ pub mod Book
 pub mod BookLaws
 pub mod Room
 pub mod Terms
+pub mod Apart
 pub mod Keeping
 pub mod Actor

@@ -6,7 +6,7 @@ ghost use Rattle.hb_rules.specs.Ledger.{IsPrefix};
 ghost use Rattle.hb_rules.specs.Book.{Watched};
 ghost use Rattle.hb_rules.specs.Same.{firsts};
 ghost use Rattle.hb_rules.specs.Terms.{AreProper, cast_in};
-ghost use Rattle.hb_rules.specs.Actor.{ActorView, budget, Goes, IsStillOff, IsOnAgain, IsFew, OwesNothing, ReachesActor, AreSeen, Told, IsUnfailed, IsUnfailedAgain, AreCastAgain};
+ghost use Rattle.hb_rules.specs.Actor.{ActorView, budget, Goes, IsStillOff, IsOnAgain, IsFew, OwesNothing, ReachesActor, AreSeen, Told, IsUnfailed, IsUnfailedAgain, AreCastAgain, LeavesAlone};
 
 use crate::book::Book;
 use crate::outbox::Outbox;
@@ -18,7 +18,8 @@ use thiserror::Error;
 /// Why an actor ended, or was stopped.
 #[derive(Clone, Copy, Debug, PartialEq, Eq, Error)]
 pub enum ActorFault {
-    /// Its disk failed. With any other fault the disk has not failed, and has its power as before.
+    /// Its disk failed. With any other fault the disk has not failed in the call, and has lost no power: it is on, or it was
+    /// off and was not switched on.
     #[error("the journal failed")]
     Journal,
     /// The book was full when it had a vote to post.
@@ -96,6 +97,8 @@ pub trait Actor<B: Book>: Drop {
         ensures proper { AreProper (view self.now).terms [] (firsts (cast_in (view self.now).terms (B.seen (seat self.now)))) }
         ensures bound { budget (view self.now).restarts (view self.now).supply ≤ most_stops }
         ensures fresh { (view self.now).fresh ≡ true → ((view self.now).got ≡ []) × ((view self.now).restarts ≡ 0) }
+        ensures unused { (view self.now).fresh ≡ true → cast_in (view self.now).terms (B.seen (seat self.now)) ≡ [] }
+        ensures begins_on { (view self.now).fresh ≡ true → (view self.now).supply.off ≡ false }
         ensures seen { (view self.now).live ≡ true → AreSeen (view self.now).terms (B.seen (seat self.now)) (view self.now).got }
         ensures power { (view self.now).live ≡ true → (view self.now).supply.off ≡ false }
         ensures idle { (view self.now).live ≡ true → OwesNothing (view self.now).terms (B.seen (seat self.now)) (view self.now).got };
@@ -134,6 +137,10 @@ pub trait Actor<B: Book>: Drop {
             → Rose (view self.old).faults (view self.new).faults × IsNamed (view self.new).supply) }
         ensures unfailed { (IsErrOf result ActorFault.Journal → ⊥) → IsUnfailed (view self.old) (view self.new) }
         ensures got { (view self.new).got ≡ [] }
+
+        // Where nothing is owed at first it casts nothing, so that no book is too full for it.
+        ensures owed { OwesNothing (view self.old).terms (B.seen (seat self.old)) [] → (IsErrOf result ActorFault.Full → ⊥)
+            × (cast_in (view self.old).terms (B.seen (seat self.new)) ≡ cast_in (view self.old).terms (B.seen (seat self.old))) }
         ensures restarts { (view self.new).restarts ≡ (view self.old).restarts };
 
     /// Hears post k and casts what is then owed.
@@ -163,6 +170,15 @@ pub trait Actor<B: Book>: Drop {
         ensures unfailed { (IsErrOf result ActorFault.Journal → ⊥) → IsUnfailed (view self.old) (view self.new) }
         ensures got { OnOk result ((view self.new).got ≡ (view self.old).got ++ k ∷ []) }
         ensures kept { ((view self.new).got ≡ (view self.old).got) ⊎ ((view self.new).got ≡ (view self.old).got ++ k ∷ []) }
+
+        // Where it has not received the post, memory was wanting before anything was done.
+        ensures unheard { (view self.new).got ≡ (view self.old).got → IsErrOf result ActorFault.Memory × (out.new ≡ out.old)
+            × LeavesAlone (view self.old) (view self.new) (B.seen (seat self.old)) (B.seen (seat self.new)) }
+
+        // Where nothing is owed then, nothing but memory can be wanting.
+        ensures owed { OwesNothing (view self.old).terms (B.seen (seat self.old)) ((view self.old).got ++ k ∷ [])
+            → IfErr result (λ fault. fault ≡ ActorFault.Memory)
+            × LeavesAlone (view self.old) (view self.new) (B.seen (seat self.old)) (B.seen (seat self.new)) }
         ensures restarts { (view self.new).restarts ≡ (view self.old).restarts };
 
     /// Switches the disk on, recovers the journal, forgets what was received, posts every vote of the journal again and
@@ -187,7 +203,11 @@ pub trait Actor<B: Book>: Drop {
         ensures again { OnOk result (AreCastAgain (view self.old).terms (B.seen (seat self.old)) (B.seen (seat self.new))) }
         ensures on { OnOk result (IsOnAgain (view self.old) (view self.new)) }
         ensures failed { IsErrOf result ActorFault.Journal → IsOnAgain (view self.old) (view self.new) }
-        ensures either { IsStillOff (view self.old) (view self.new) ⊎ IsOnAgain (view self.old) (view self.new) };
+        ensures either { IsStillOff (view self.old) (view self.new) ⊎ IsOnAgain (view self.old) (view self.new) }
+
+        // Where it was not switched on, memory was wanting, and it has not looked at the book.
+        ensures still { IsStillOff (view self.old) (view self.new) → IsErrOf result ActorFault.Memory × (out.new ≡ out.old)
+            × (B.seen (seat self.new) ≡ B.seen (seat self.old)) };
 
     /// Shows a seat of the same book what the actor has seen. It may be called in any state, and takes no memory.
     fn show(&mut self, book: &mut B, to: &mut B::Seat)

@@ -2,6 +2,7 @@
 use Rattle.std.proofs.Common.{◌≡◌, ℕ, ◌+◌, ◌≤◌, ◌⊎◌, ⊎_elim, inl, Bool, true, false, List, [], ◌∷◌, ◌++◌, Result, Ok, Err, refl, sym, ap, ap₂, ◌∙◌, subst, arith, length, append-nil}
 use Rattle.std.specs.Prelude.{OnOk, IfErr, IsErrOf}
 use Rattle.std.specs.Result.{is_ok}
+use Rattle.std.proofs.lemmas.Bool.{cases_Bool, both_ways}
 use Rattle.hb_base.specs.Limits.{most_stops}
 use Rattle.hb_base.specs.Numbers.{Numbers}
 use Rattle.disk_model.specs.Image.{Image}
@@ -14,13 +15,13 @@ use Rattle.vote_journal.specs.Text.{text_of, live_entries, half_entries, entries
 use Rattle.vote_journal.proofs.Images.{fewer, live_count}
 use Rattle.hb_rules.specs.declared.actor.ActorFault.{ActorFault}
 use Rattle.hb_rules.specs.declared.actor.ActorFault.TheVariants.{Journal}
-use Rattle.hb_rules.specs.Actor.{ActorView, Goes, IsFew, AreSeen, ReachesActor, budget}
+use Rattle.hb_rules.specs.Actor.{ActorView, Goes, IsFew, AreSeen, ReachesActor, LeavesAlone, budget}
 use Rattle.hb_rules.specs.Book.{Watched}
 use Rattle.hb_rules.specs.Hearing.{Hearing}
 use Rattle.hb_rules.specs.Ledger.{IsPrefix}
 use Rattle.hb_rules.specs.Same.{count, firsts}
 use Rattle.hb_rules.specs.Terms.{Terms, AreLawful, cast_in, heard_got}
-use Rattle.journaled_actor.specs.Kept.{IsOf, IsCovered, IsSafe, IsOpen, IsKept}
+use Rattle.journaled_actor.specs.Kept.{IsOf, IsCovered, IsSafe, IsOpen, IsKept, ActorParts, actor_view}
 use Rattle.journaled_actor.proofs.Going.{is_still}
 use Rattle.journaled_actor.proofs.Heard.{got_longer, seen_longer, seen_more}
 use Rattle.journaled_actor.proofs.Left.{few_watched}
@@ -36,6 +37,13 @@ along same P p = subst P same p
 -- of values that are seen by a view
 pub from : {A B : Type 0} {a b : A} {now : B} (view : A → B) (R : B → B → Type 0) → a ≡ b → R (view a) now → R (view b) now
 from {A = A} {now = now} view R same r = subst (λ (x : A). R (view x) now) same r
+
+-- of actors that are seen by their view and by their seat
+pub alone_from : {S D C : Type 0} (terms : C → Terms) (supply : D → Supply) (faults : D → ℕ) (seen : S → List Post) {a b : ActorParts S D C}
+    {now : ActorView} {after : List Post} → a ≡ b → LeavesAlone (actor_view terms supply faults a) now (seen a.seat) after
+    → LeavesAlone (actor_view terms supply faults b) now (seen b.seat) after
+alone_from {S = S} {D = D} {C = C} terms supply faults seen {now = now} {after = after} same alone =
+    subst (λ (x : ActorParts S D C). LeavesAlone (actor_view terms supply faults x) now (seen x.seat) after) same alone
 
 -- ---- results
 
@@ -79,6 +87,14 @@ budget_again restarts old on new off is draws =
     before : budget restarts old ≡ restarts + old.stops + 1
     before = rw off refl
 
+-- where the power is on after a call, no stop was met in it
+stops_on : (old new : Supply) → Draws old new → new.off ≡ false → new.stops ≡ old.stops
+stops_on old new draws on =
+    ⊎_elim
+    (λ (was : old.off ≡ true). absurd (both_ways new.off on (draws.stays_off was)))
+    (λ (was : old.off ≡ false). draws.kept (on ∙ sym was))
+    (cases_Bool old.off)
+
 pub goes_by : (old new : ActorView) → new.terms ≡ old.terms → Draws old.supply new.supply → old.faults ≤ new.faults → new.restarts ≡ old.restarts
     → new.fresh ≡ false → Goes old new
 goes_by old new terms draws faults restarts begun = record {
@@ -89,6 +105,7 @@ goes_by old new terms draws faults restarts begun = record {
   faults = faults;
   restarts = omega (arith, restarts);
   budget = subst (λ (n : ℕ). budget n new.supply ≤ budget old.restarts old.supply) (sym restarts) (budget_draws old.restarts old.supply new.supply draws);
+  kept = stops_on old.supply new.supply draws;
   begun = begun;
 }
 
@@ -103,6 +120,7 @@ goes_again old new on terms off is draws faults restarts begun = record {
   restarts = omega (arith, restarts);
   budget = subst (λ (n : ℕ). budget n new.supply ≤ budget old.restarts old.supply) (sym restarts)
       (budget_again old.restarts old.supply on new.supply off is draws);
+  kept = λ now. stops_on on new.supply draws now ∙ ap (λ (s : Supply). s.stops) is;
   begun = begun;
 }
 
@@ -129,6 +147,11 @@ empty_says = rw none_in_empty refl
 
 empty_few : length (live_entries (record { a = []; b = [] })) ≤ 64
 empty_few = omega (arith, live_count (record { a = []; b = [] }), ap₂ fewer none_in_empty none_in_empty)
+
+-- an empty disk has no text
+pub empty_text : {D : Type 0} (seen : D → Image) (may_leave : D → Image → Type 0) (disk : D) → IsEmpty seen may_leave disk
+    → (image : Image) → may_leave disk image → text_of image ≡ []
+empty_text seen may_leave disk empty image may = ap text_of (empty.durable image may ∙ empty.nothing) ∙ empty_says
 
 -- no vote is in an empty journal
 pub safe_empty : {D : Type 0} (seen : D → Image) (may_leave : D → Image → Type 0) (disk : D) (t : Terms) (posts : List Post) → IsEmpty seen may_leave disk
@@ -185,6 +208,7 @@ kept_by t u c d i j x y seen left supply is_open live got restarts same is still
       fresh = λ begun. absurd (cc (begun));
       live = opened;
       fresh_on = λ begun. absurd (cc (begun));
+      fresh_empty = λ begun. absurd (cc (begun));
       live_on = on;
     })
 
@@ -216,6 +240,7 @@ kept_watched t c d i j x y old new left supply usable text stands fresh live got
       fresh = λ begun. ((kept.fresh begun).0, (kept.fresh begun).1, same ∙ (kept.fresh begun).2);
       live = λ lives. ((kept.live lives).0, open_watched t old new text stands got prefix same kept.received (kept.live lives).1);
       fresh_on = kept.fresh_on;
+      fresh_empty = kept.fresh_empty;
       live_on = kept.live_on;
     }
 

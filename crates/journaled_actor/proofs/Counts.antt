@@ -1,5 +1,5 @@
 -- How often a vote was cast.
-use Rattle.std.proofs.Common.{◌≡◌, ℕ, ◌≤◌, ◌+◌, Bool, true, false, ◌||◌, List, [], ◌∷◌, ◌++◌, take, drop, if◌then◌else◌, refl, sym, ap, ◌∙◌, subst, arith}
+use Rattle.std.proofs.Common.{append-nil, zero, suc, ◌≡◌, ℕ, ◌≤◌, ◌+◌, Bool, true, false, ◌||◌, List, [], ◌∷◌, ◌++◌, take, drop, if◌then◌else◌, refl, sym, ap, ◌∙◌, subst, arith}
 use Rattle.std.specs.List.{list_any}
 use Rattle.std.proofs.Math.Bool.{or-false}
 use Rattle.std.proofs.lemmas.Bool.{or_right}
@@ -158,3 +158,13 @@ cast_again t old new votes covers whole vote stands =
       one_most (list_any (same_vote vote) []),
       stands_once vote votes there,
     )
+
+-- no vote was cast of none
+pub cast_no_vote : (t : Terms) (old new : List Post) (votes : List Vote) → votes ≡ [] → CastSome t old new votes → cast_in t new ≡ cast_in t old
+cast_no_vote t old new votes none some =
+    some.cast ∙ ap (λ (xs : List Vote). cast_in t old ++ take some.count xs) none ∙ ap (λ (xs : List Vote). cast_in t old ++ xs) (take_none some.count)
+    ∙ append-nil (cast_in t old)
+  where
+    take_none : (n : ℕ) → ◌≡◌ {A = List Vote} (take n []) []
+    take_none zero = refl
+    take_none (suc n) = refl

@@ -1,10 +1,9 @@
 -- What a crash leaves after a step of a journal, and why a step failed.
-use Rattle.std.proofs.Common.{◌≡◌, ℕ, ◌<◌, ◌≤◌, Bool, true, false, Result, Ok, Err, refl, ◌∙◌, arith}
+use Rattle.std.proofs.Common.{◌≡◌, ℕ, ◌≤◌, Result, Ok, Err, arith}
 use Rattle.std.specs.Prelude.{IfErr}
 use Rattle.hb_base.specs.Outside.{Rose}
 use Rattle.disk_model.specs.Image.{Image}
 use Rattle.disk_model.specs.Disk.{LeavesOnly}
-use Rattle.disk_model.specs.Supply.{Supply, Draws}
 use Rattle.vote_journal.specs.Runs.{HasReason}
 use Rattle.vote_journal.specs.declared.fault.JournalFault.{JournalFault}
 
@@ -13,28 +12,6 @@ pub left_now : {D : Type 0} (may_leave : D → Image → Type 0) (moment : D →
     → ((disk : D) (t : ℕ) (c : Image) → t ≤ moment disk → may_leave disk c → left_since disk t c)
     → (old new : D) (P : Image → Type 0) → LeavesOnly moment left_since old new P → (image : Image) → may_leave new image → P image
 left_now may_leave moment left_since counts old new P leaves image may = leaves.each image (counts new (moment old) image leaves.later may)
-
-pub supply_same : (supply : Supply) → Draws supply supply
-supply_same supply = record {
-  stays_off = λ off. off;
-  no_more = omega arith;
-  uses_up = λ on off. absurd (cc (on, off));
-  planned = refl;
-  calls = omega arith;
-}
-
-pub draws_trans : (a b c : Supply) → Draws a b → Draws b c → Draws a c
-draws_trans a b c one two = record {
-  stays_off = λ off. two.stays_off (one.stays_off off);
-  no_more = omega (arith, one.no_more, two.no_more);
-  uses_up = λ on off. by b.off refl on off;
-  planned = two.planned ∙ one.planned;
-  calls = omega (arith, one.calls, two.calls);
-}
-  where
-    by : (off : Bool) → b.off ≡ off → a.off ≡ false → c.off ≡ true → c.stops < a.stops
-    by true is on off = omega (arith, one.uses_up on is, two.no_more)
-    by false is on off = omega (arith, two.uses_up is off, one.no_more)
 
 pub rose_later : (a b c : ℕ) → a ≤ b → Rose b c → Rose a c
 rose_later a b c le rose = omega (arith, le, rose)

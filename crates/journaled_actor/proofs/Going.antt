@@ -1,12 +1,12 @@
 -- A seat and a disk over several calls.
-use Rattle.std.proofs.Common.{◌≡◌, ℕ, ◌≤◌, List, Result, Ok, Err, refl, ap, ◌∙◌, subst, arith}
-use Rattle.std.specs.Prelude.{IsErrOf}
+use Rattle.std.proofs.Common.{◌≡◌, ℕ, ◌≤◌, List, Result, Ok, Err, refl, sym, ap, ◌∙◌, subst, arith}
+use Rattle.std.specs.Prelude.{IsErrOf, IfErr}
 use Rattle.disk_model.specs.Supply.{Supply, Draws}
 use Rattle.hb_base.specs.Numbers.{Numbers}
 use Rattle.hb_base.specs.Outside.{Rose}
 use Rattle.hb_wire.specs.declared.post.Post.{Post}
 use Rattle.vote_journal.specs.Runs.{HasReason, IsUnfailed}
-use Rattle.vote_journal.proofs.Moments.{unfailed_same, unfailed_again, same_fault}
+use Rattle.vote_journal.proofs.Moments.{draws_same, draws_again, unfailed_same, unfailed_again, same_fault}
 use Rattle.vote_journal.specs.declared.fault.JournalFault.{JournalFault}
 use Rattle.vote_journal.specs.declared.fault.JournalFault.TheVariants.{Failed, NotAJournal, Memory as JournalMemory}
 use Rattle.hb_rules.specs.declared.actor.ActorFault.{ActorFault}
@@ -16,7 +16,7 @@ use Rattle.hb_rules.specs.Terms.{Terms}
 use Rattle.journaled_actor.specs.Faults.{actor_fault}
 use Rattle.journaled_actor.specs.Going.{SeatGoes, DiskGoes}
 use Rattle.journaled_actor.specs.Kept.{IsOf}
-use Rattle.journaled_actor.proofs.Crashes.{supply_same, draws_trans, rose_later}
+use Rattle.journaled_actor.proofs.Crashes.{rose_later}
 use Rattle.journaled_actor.proofs.Posted.{prefix_refl, prefix_trans, watched_prefix, told_refl, told_trans, told_watched, at_terms}
 
 pub is_still : {t : Terms} {c d : Numbers} {i j x y : ℕ} → IsOf t c i x → (d ≡ c) × (j ≡ i) × (y ≡ x) → IsOf t d j y
@@ -88,7 +88,7 @@ module _ {D : Type 0} {supply : D → Supply} {faults : D → ℕ} {explains : D
   pub disk_then : {T U : Type 0} {a b c : D} {x : T} {result : Result U ActorFault} → DiskGoes supply faults explains a b (Ok x)
       → DiskGoes supply faults explains b c result → DiskGoes supply faults explains a c result
   disk_then {a = a} {b = b} {c = c} one two = record {
-    draws = draws_trans (supply a) (supply b) (supply c) one.draws two.draws;
+    draws = draws_again (supply a) (supply b) (supply c) one.draws two.draws;
     no_fewer = omega (arith, one.no_fewer, two.no_fewer);
     failed = λ is. (rose_later (faults a) (faults b) (faults c) one.no_fewer (two.failed is).0, (two.failed is).1);
     unfailed = λ well. unfailed_again faults supply a b c (one.unfailed (λ h. absurd (cc (h)))) (two.unfailed well);
@@ -96,7 +96,7 @@ module _ {D : Type 0} {supply : D → Supply} {faults : D → ℕ} {explains : D
 
   pub disk_still : {T : Type 0} {disk : D} {result : Result T ActorFault} → (IsErrOf result Journal → ⊥) → DiskGoes supply faults explains disk disk result
   disk_still {disk = disk} not_failed = record {
-    draws = supply_same (supply disk);
+    draws = draws_same (supply disk);
     no_fewer = omega arith;
     failed = λ is. absurd (not_failed is);
     unfailed = λ well. unfailed_same faults supply disk;
@@ -148,3 +148,10 @@ disk_again one = record {
   failed = λ is. one.failed (ap (λ (f : ActorFault). Err f) (same_end is));
   unfailed = λ well. one.unfailed (λ is. well (ap (λ (f : ActorFault). Err f) (same_end is)));
 }
+
+-- what succeeded has no fault
+pub ok_not_full : {T : Type 0} {result : Result T ActorFault} {x : T} → result ≡ Ok x → IsErrOf result Full → ⊥
+ok_not_full ok full = cc (ok, full)
+
+pub ok_no_error : {T : Type 0} {result : Result T ActorFault} {x : T} (P : ActorFault → Type 0) → result ≡ Ok x → IfErr result P
+ok_no_error {T = T} P ok = subst (λ (r : Result T ActorFault). IfErr r P) (sym ok) tt

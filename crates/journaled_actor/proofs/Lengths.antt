@@ -16,7 +16,7 @@ digests_short : (digests : List (List ℕ)) → AllByRecursion IsDigest digests 
 digests_short [] are = refl
 digests_short (d ∷ digests) are = omega (arith, are.0.len, digests_short digests are.1, length-append d (flat_map (λ (d : List ℕ). d) digests))
 
-length-sized : (bytes : List ℕ) → length (sized_bytes bytes) ≡ 4 + length bytes
+pub length-sized : (bytes : List ℕ) → length (sized_bytes bytes) ≡ 4 + length bytes
 length-sized bytes = omega (arith, length-append (to_be_bytes w32 (length bytes)) bytes)
 
 items_short : (n low : ℕ) (items : List Item) → AreItems n low items → length (flat_map item_bytes items) ≤ 16519 * length items

@@ -28,13 +28,17 @@ all_watched t old new text votes prefix same all = record {
   complete = ap firsts same ∙ all.complete;
 }
 
+-- what is owed by what was cast is owed by the votes of the journal
+pub owed_by_cast : (t : Terms) (seen : List Post) (text : List ℕ) (votes : List Vote) (heard : List Hearing) → AreLawful t → IsAll t seen text votes
+    → t.owed (cast_in t seen) heard ≡ t.owed votes heard
+owed_by_cast t seen text votes heard lawful all =
+    lawful.same (cast_in t seen) votes heard
+    (subst (AreSame (cast_in t seen)) all.complete (same_sym (firsts (cast_in t seen)) (cast_in t seen) (same_firsts (cast_in t seen))))
+
 -- nothing is owed by what was cast
 pub owes_nothing : (t : Terms) (seen : List Post) (text : List ℕ) (stands : List Vote → List Hearing → Type 0) (heard : List Hearing)
     → AreLawful t → IsOpen t seen text stands heard → t.owed (cast_in t seen) heard ≡ []
-owes_nothing t seen text stands heard lawful open_now =
-    let same : AreSame (cast_in t seen) open_now.votes =
-    subst (AreSame (cast_in t seen)) open_now.all.complete (same_sym (firsts (cast_in t seen)) (cast_in t seen) (same_firsts (cast_in t seen))) in
-    lawful.same (cast_in t seen) open_now.votes heard same ∙ open_now.idle
+owes_nothing t seen text stands heard lawful open_now = owed_by_cast t seen text open_now.votes heard lawful open_now.all ∙ open_now.idle
 
 -- what was cast is proper
 pub cast_proper : (t : Terms) (seen : List Post) (votes : List Vote) → Covers t seen votes → AreProper t [] (firsts (cast_in t seen))

@@ -15,7 +15,7 @@ use Rattle.hb_rules.specs.History.{HasSpelling}
 use Rattle.hb_rules.specs.Terms.{AreSpelled}
 use Rattle.hb_rules.proofs.Lists.{AllByRecursion-append}
 use Rattle.journaled_actor.specs.Payload.{payload, vote_bytes, longest_spelling, AreWritten}
-use Rattle.journaled_actor.proofs.Lengths.{spelling_short}
+use Rattle.journaled_actor.proofs.Lengths.{spelling_short, length-sized}
 
 pair_is : {A B : Type 0} (a b : A) (x y : B) → ◌≡◌ {A = Option (A × B)} (Some (a, x)) (Some (b, y)) → (a ≡ b) × (x ≡ y)
 pair_is {A} {B} a b x y h =
@@ -172,3 +172,9 @@ writing_next c votes k vote text after inside is put spells so_far =
           subst (AreWritten c) (sym taken)
           (AllByRecursion-append (λ v. Spells c.n c.version (spelling v) v) (take k votes) (vote ∷ []) so_far.written (spells, tt));
     }
+
+-- no bytes are no votes
+pub no_votes : (votes : List Vote) → payload votes ≡ [] → votes ≡ []
+no_votes [] none = refl
+no_votes (vote ∷ votes) none =
+    absurd (omega (arith, ap length none, length-append (vote_bytes vote) (payload votes), length-sized (spelling vote)))

@@ -1,6 +1,6 @@
 -- What an actor keeps in its journal: the votes that it may have posted, and maybe more. The letters: t are the actor's
 -- terms, seen is what its seat has seen.
-use Rattle.std.specs.Prelude.{◌≡◌, ℕ, ◌+◌, ◌≤◌, Bool, true, false, List, [], ◌++◌, length, take}
+use Rattle.std.specs.Prelude.{◌≡◌, ℕ, ◌+◌, ◌≤◌, Bool, true, false, List, [], ◌++◌, length, take, Result, IsErrOf}
 use Rattle.hb_base.specs.Numbers.{Numbers}
 use Rattle.hb_base.specs.Limits.{most_stops}
 use Rattle.disk_model.specs.Image.{Image}
@@ -14,6 +14,8 @@ pub use Rattle.hb_rules.specs.Keeping.{Covers, Turn}
 use Rattle.hb_rules.specs.Same.{firsts}
 use Rattle.hb_rules.specs.Terms.{Terms, AreVotes, AreLawful, cast_in}
 use Rattle.hb_rules.specs.Actor.{ActorView, IsFew, AreSeen, budget}
+use Rattle.hb_rules.specs.declared.actor.ActorFault.{ActorFault}
+use Rattle.hb_rules.specs.declared.actor.ActorFault.TheVariants.{Full}
 use Rattle.journaled_actor.specs.Folding.{AreFew}
 use Rattle.journaled_actor.specs.Payload.{payload}
 
@@ -64,9 +66,14 @@ pub record CastSome (t : Terms) (old new : List Post) (votes : List Vote) : Type
   pub count : ℕ
   pub cast : cast_in t new ≡ cast_in t old ++ take count votes
 
+-- nothing was cast, so that no book was too full for it
+pub record CastsNothing {T : Type 0} (t : Terms) (old new : List Post) (result : Result T ActorFault) : Type 0 where
+  pub not_full : IsErrOf result Full → ⊥
+  pub cast : cast_in t new ≡ cast_in t old
+
 -- What holds of an actor in every state: whatever a crash leaves, it has what was cast; nothing was cast more often than
 -- once for each time that the actor began; and while it works, `is_open` holds. Before it is started, and while it works, its
--- disk is on.
+-- disk is on. Before it is started no image has a vote.
 pub record IsKept (t : Terms) (config : Numbers) (node actor : ℕ) (seen : List Post) (may_leave : Image → Type 0) (supply : Supply)
     (is_open : Type 0) (is_fresh is_live : Bool) (got : List ℕ) (restarts : ℕ) : Type 0 where
   pub is : IsOf t config node actor
@@ -78,6 +85,7 @@ pub record IsKept (t : Terms) (config : Numbers) (node actor : ℕ) (seen : List
   pub fresh : is_fresh ≡ true → (got ≡ []) × (restarts ≡ 0) × (cast_in t seen ≡ [])
   pub live : is_live ≡ true → is_open
   pub fresh_on : is_fresh ≡ true → supply.off ≡ false
+  pub fresh_empty : is_fresh ≡ true → (image : Image) → may_leave image → text_of image ≡ []
   pub live_on : is_live ≡ true → supply.off ≡ false
 
 -- the parts of an actor that clauses see

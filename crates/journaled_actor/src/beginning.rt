@@ -8,7 +8,7 @@ ghost use Rattle.vote_journal.specs.Text.{text_of};
 ghost use Rattle.vote_journal.specs.Usable.{disk_of};
 ghost use Rattle.journaled_actor.specs.Folding.{IsReady};
 ghost use Rattle.journaled_actor.specs.Going.{SeatGoes, DiskGoes};
-ghost use Rattle.journaled_actor.specs.Kept.{IsOf, IsSafe, IsAll, IsOpen};
+ghost use Rattle.journaled_actor.specs.Kept.{IsOf, IsSafe, IsAll, IsOpen, CastsNothing};
 
 use crate::casting::cast;
 use crate::cores::Core;
@@ -44,6 +44,7 @@ fn begin<B: Book, D: Disk, C: Core>(
     ensures once { (vote : Vote) → 1 ≤ count vote (cast_in (C.terms core.old) (B.seen seat.old))
         → count vote (cast_in (C.terms core.old) (B.seen seat.new)) ≡ count vote (cast_in (C.terms core.old) (B.seen seat.old)) }
     ensures few { (most : ℕ) → 1 ≤ most → IsFew (C.terms core.old) (B.seen seat.old) most → IsFew (C.terms core.old) (B.seen seat.new) most }
+    ensures nothing { votes.now ≡ [] → (C.terms core.old).owed [] [] ≡ [] → CastsNothing (C.terms core.old) (B.seen seat.old) (B.seen seat.new) result }
     ensures disk { DiskGoes D.supply D.faults D.explains (disk_of journal.old) (disk_of journal.new) result }
 {
     let mut due = Due::new(alloc);
@@ -72,6 +73,10 @@ pub(crate) fn take_up<B: Book, D: Disk, C: Core>(
     ensures opened { OnOk result (IsOpen (C.terms core.old) (B.seen seat.new) (text_of (D.seen (disk_of journal.new))) (C.stands core.new) []) }
     ensures again { OnOk result (AreCastAgain (C.terms core.old) (B.seen seat.old) (B.seen seat.new)) }
     ensures few { (most : ℕ) → IsFew (C.terms core.old) (B.seen seat.old) most → IsFew (C.terms core.old) (B.seen seat.new) (most + 1) }
+
+    // Where the journal has no vote and nothing is owed at first, nothing is cast.
+    ensures nothing { text_of (D.seen (disk_of journal.old)) ≡ [] → (C.terms core.old).owed [] [] ≡ []
+        → CastsNothing (C.terms core.old) (B.seen seat.old) (B.seen seat.new) result }
     ensures disk { DiskGoes D.supply D.faults D.explains (disk_of journal.old) (disk_of journal.new) result }
 {
     let votes = read_back(alloc, core, journal)?;

@@ -1,5 +1,5 @@
 //! Posting the votes of a journal.
-ghost use Rattle.std.specs.Prelude.{◌≡◌, ◌⊎◌, ℕ, List, [], ◌∷◌, ◌++◌, length, OnOk, OnErr, IsErrOf};
+ghost use Rattle.std.specs.Prelude.{◌≡◌, ◌⊎◌, ℕ, List, [], ◌∷◌, ◌++◌, length, IsOk, OnOk, OnErr, IsErrOf};
 ghost use Rattle.hb_base.specs.Limits.{most_posts};
 ghost use Rattle.hb_wire.specs.declared.vote.Vote.{Vote};
 ghost use Rattle.hb_rules.specs.Book.{post_of, Watched, Posted};
@@ -67,6 +67,7 @@ pub(crate) fn post_all<B: Book, C: Core>(
         → firsts (cast_in (C.terms core.now) (B.seen seat.new)) ≡ before ++ votes.now) }
     ensures cast { CastSome (C.terms core.now) (B.seen seat.old) (B.seen seat.new) votes.now }
     ensures whole { OnOk result (cast_in (C.terms core.now) (B.seen seat.new) ≡ cast_in (C.terms core.now) (B.seen seat.old) ++ votes.now) }
+    ensures nothing { votes.now ≡ [] → IsOk result }
     ensures other { IsErrOf result ActorFault.Journal → ⊥ }
 {
     for vote in votes {

@@ -53,6 +53,7 @@ pub(crate) fn read_back<D: Disk, C: Core>(
     ensures covers { IfOk result (λ votes. (seen : List Post) → IsSafe (C.terms core.now) seen (D.may_leave (disk_of journal.old))
         → Covers (C.terms core.now) seen votes.items) }
     ensures text { IfOk result (λ votes. text_of (D.seen (disk_of journal.new)) ≡ payload votes.items) }
+    ensures same { OnOk result (text_of (D.seen (disk_of journal.new)) ≡ text_of (D.seen (disk_of journal.old))) }
     ensures ready { OnOk result (IsReady D.seen D.may_leave journal.new) }
     ensures written { IfOk result (λ votes. AreWritten (C.terms core.now).config votes.items) }
     ensures disk { DiskGoes D.supply D.faults D.explains (disk_of journal.old) (disk_of journal.new) result }

@@ -1,9 +1,9 @@
 //! Hearing a post.
-ghost use Rattle.std.specs.Prelude.{◌≡◌, ◌≤◌, ◌<◌, ◌⊎◌, ℕ, List, [], ◌∷◌, ◌++◌, OnOk, true, slice_get, Some};
+ghost use Rattle.std.specs.Prelude.{◌≡◌, ◌≤◌, ◌<◌, ◌⊎◌, ℕ, List, [], ◌∷◌, ◌++◌, OnOk, OnErr, IfErr, IsErrOf, true, slice_get, Some};
 ghost use Rattle.hb_wire.specs.Addresses.{reaches};
-ghost use Rattle.hb_rules.specs.Actor.{IsFew, AreSeen, ReachesActor};
+ghost use Rattle.hb_rules.specs.Actor.{IsFew, AreSeen, ReachesActor, OwesNothing};
 ghost use Rattle.hb_rules.specs.Hearing.{Hearing};
-ghost use Rattle.hb_rules.specs.Terms.{AreLawful, heard_got};
+ghost use Rattle.hb_rules.specs.Terms.{AreLawful, cast_in, heard_got};
 ghost use Rattle.vote_journal.specs.Text.{text_of};
 ghost use Rattle.vote_journal.specs.Usable.{disk_of};
 ghost use Rattle.hb_rules.specs.Book.{Watched};
@@ -42,7 +42,7 @@ fn hear_post<C: Core>(
     }
 }
 
-// Receives post k: what the core makes of it.
+// Receives post k: what the core makes of it. Where memory is wanting it is not received.
 fn receive<B: Book, C: Core>(
     alloc: Global,
     k: u32,
@@ -62,15 +62,17 @@ fn receive<B: Book, C: Core>(
     ensures moved { B.moved (B.node seat.old) (B.actor seat.old) book.old book.new }
     ensures watched { Watched (B.config seat.old) (B.node seat.old) (B.actor seat.old) (B.seen seat.old) (B.seen seat.new) }
     ensures got { OnOk result (got.new.items ≡ got.old.items ++ k ∷ []) }
-    ensures kept { (got.new.items ≡ got.old.items) ⊎ (got.new.items ≡ got.old.items ++ k ∷ []) }
+    ensures unheard { OnErr result (got.new.items ≡ got.old.items) }
     ensures owed { OnOk result ((post : Post) × (slice_get (B.seen seat.new) k ≡ Some post) × ((own : List Vote) (heard : List Hearing)
         → C.stands core.old own heard → (C.terms core.old).owed own heard ≡ []
         → HearsPost (C.terms core.old) post own heard due.old.votes due.new.votes (C.stands core.new))) }
 {
     let found = book.read(seat, k)?;
     let post = found.unwrap();
-    got.push(k)?;
-    hear_post(alloc, &post, core, due)
+    got.reserve(1)?;
+    hear_post(alloc, &post, core, due)?;
+    got.push_reserved(k);
+    Ok(())
 }
 
 /// Receives post k, and casts what is owed then.
@@ -101,6 +103,11 @@ pub(crate) fn advance<B: Book, D: Disk, C: Core>(
         (heard_got (C.terms core.old) (B.seen seat.new) (got.old.items ++ k ∷ []))) }
     ensures got { OnOk result (got.new.items ≡ got.old.items ++ k ∷ []) }
     ensures kept { (got.new.items ≡ got.old.items) ⊎ (got.new.items ≡ got.old.items ++ k ∷ []) }
+    ensures unheard { got.new.items ≡ got.old.items → IsErrOf result ActorFault.Memory × (out.new ≡ out.old) × (journal.new ≡ journal.old)
+        × (cast_in (C.terms core.old) (B.seen seat.new) ≡ cast_in (C.terms core.old) (B.seen seat.old)) }
+    ensures owed { OwesNothing (C.terms core.old) (B.seen seat.old) (got.old.items ++ k ∷ [])
+        → IfErr result (λ fault. fault ≡ ActorFault.Memory) × (journal.new ≡ journal.old)
+        × (cast_in (C.terms core.old) (B.seen seat.new) ≡ cast_in (C.terms core.old) (B.seen seat.old)) }
     ensures few { (most : ℕ) → 1 ≤ most → IsFew (C.terms core.old) (B.seen seat.old) most → IsFew (C.terms core.old) (B.seen seat.new) most }
     ensures disk { DiskGoes D.supply D.faults D.explains (disk_of journal.old) (disk_of journal.new) result }
 {

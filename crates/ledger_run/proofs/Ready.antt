@@ -1,5 +1,5 @@
 -- Places that are ready are a team, and the stage of a run that begins.
-use Rattle.std.proofs.Common.{◌≡◌, ◌≢◌, ℕ, ◌<◌, ◌≤◌, ◌==◌, ◌||◌, Bool, true, false, nat_lt, ltb-true, ltb-false, le-ltb, List, [], ◌∷◌, ◌++◌, length, All, AllPairs, Contains, Some, refl, sym, ap, ap₂, ◌∙◌, subst, arith, slice_get, get_or}
+use Rattle.std.proofs.Common.{◌≡◌, ◌≢◌, ℕ, ◌<◌, ◌≤◌, ◌==◌, ◌^◌, ◌&&◌, ◌||◌, Bool, true, false, nat_lt, ltb-true, ltb-false, le-ltb, List, [], ◌∷◌, ◌++◌, length, All, AllPairs, Contains, Some, refl, sym, ap, ap₂, ◌∙◌, subst, arith, slice_get, get_or}
 use Rattle.std.specs.List.{list_any}
 use Rattle.std.proofs.lemmas.Bool.{eqb-true}
 use Rattle.std.proofs.lemmas.List.{length-map}
@@ -131,7 +131,7 @@ pub lane_owes_by : (s : Script) (i x : ℕ) → x < s.config.n → OwesBy s i x 
 lane_owes_by s i x below own heard = ap (λ slots. owed slots own heard) (lane_owes s.config [] (submitted_at s i) i x below)
 
 pub stops_few : (stops : List Stop) (calls : ℕ) → stops_after calls stops ≤ length stops
-stops_few stops calls = count_by-le-length (λ (stop : Stop). nat_lt calls stop.call) stops
+stops_few stops calls = count_by-le-length (λ (stop : Stop). nat_lt calls stop.call && nat_lt stop.call (2 ^ 32)) stops
 
 -- an actor of a correct node that was never started, over the disk that is planned for it
 abbrev pub first_player : Script → ℕ → ℕ → ActorView → PlayerView

@@ -8,18 +8,35 @@ use Rattle.vote_journal.specs.declared.fault.JournalFault.{JournalFault}
 use Rattle.vote_journal.specs.declared.fault.JournalFault.TheVariants.{Memory}
 use Rattle.vote_journal.specs.Runs.{Runs, HasReason, IsUnfailed, IsStep}
 
-draws_again : (a b c : Supply) → Draws a b → Draws b c → Draws a c
+-- a power that is as it was at the end was so between
+as_between : (a b c : Supply) → Draws a b → Draws b c → c.off ≡ a.off → b.off ≡ a.off
+as_between a b c x y same =
+    ⊎_elim
+    (λ (was : a.off ≡ true). x.stays_off was ∙ sym was)
+    (λ (was : a.off ≡ false). ⊎_elim (λ (off : b.off ≡ true). absurd (both_ways c.off (same ∙ was) (y.stays_off off)))
+    (λ (on : b.off ≡ false). on ∙ sym was) (cases_Bool b.off))
+    (cases_Bool a.off)
+
+pub draws_again : (a b c : Supply) → Draws a b → Draws b c → Draws a c
 draws_again a b c x y = record {
   stays_off = λ off. y.stays_off (x.stays_off off);
   no_more = omega (arith, x.no_more, y.no_more);
   uses_up = λ on off. ⊎_elim (λ (was : b.off ≡ true). omega (arith, x.uses_up on was, y.no_more))
       (λ (was : b.off ≡ false). omega (arith, y.uses_up was off, x.no_more)) (cases_Bool b.off);
+  kept = λ same. let between = as_between a b c x y same in y.kept (same ∙ sym between) ∙ x.kept between;
   planned = y.planned ∙ x.planned;
   calls = omega (arith, x.calls, y.calls);
 }
 
-draws_same : (a : Supply) → Draws a a
-draws_same a = record { stays_off = λ h. h; no_more = omega arith; uses_up = λ on off. absurd (both_ways _ on off); planned = refl; calls = omega arith }
+pub draws_same : (a : Supply) → Draws a a
+draws_same a = record {
+  stays_off = λ h. h;
+  no_more = omega arith;
+  uses_up = λ on off. absurd (both_ways _ on off);
+  kept = λ _. refl;
+  planned = refl;
+  calls = omega arith;
+}
 
 module _ {D : Type 0} {moment : D → ℕ} {left_since : D → ℕ → Image → Type 0} {faults : D → ℕ} {supply : D → Supply} where
   -- from a disk of which each image has P

@@ -3,8 +3,10 @@ ghost use Rattle.std.specs.Prelude.{◌≡◌, ◌+◌, ◌-◌, ◌^◌, ◌<�
 ghost use Rattle.std.specs.List.{concat};
 ghost use Rattle.disk_model.specs.Disk.{Only, LeavesOnly};
 ghost use Rattle.disk_model.specs.Supply.{Draws};
+ghost use Rattle.disk_model.specs.Image.{other};
+ghost use Rattle.vote_journal.specs.Steps.{arranged};
 ghost use Rattle.vote_journal.specs.Runs.{Runs, HasReason, IsUnfailed, IsStep, IsUntouched, LeftOrSays};
-ghost use Rattle.vote_journal.specs.Text.{text_of, live_entries, both_have_entries, is_foreign, IsSound, SaysOnly, SaysMaybe};
+ghost use Rattle.vote_journal.specs.Text.{text_of, live_half, live_entries, both_have_entries, is_foreign, IsSound, SaysOnly, SaysMaybe};
 
 use crate::JournalFault;
 use crate::fold::fold_disk;
@@ -41,7 +43,10 @@ impl<D: Disk> Journal<D> {
         // The entries put together are the text.
         ensures read { IfOk result (λ opened. IsSound (D.seen disk) → concat opened.1.items ≡ text_of (D.seen disk)) }
 
-        // Where both halves had entries, the one that isn't live is cut to its first gate.
+        // A half of at most 9 bytes is begun. Where both halves had entries, the one that isn't live is cut to its first gate,
+        // and else each half with more than 9 bytes is as it was.
+        ensures image { IfOk result (λ opened. D.seen (disk_of opened.0)
+            ≡ arranged (both_have_entries (D.seen disk)) (other (live_half (D.seen disk))) (D.seen disk)) }
         ensures cut { IfOk result (λ opened. IsSound (D.seen disk) → both_have_entries (D.seen disk) ≡ true
             → length (spare_bytes D.seen opened.0) ≡ 9) }
         ensures ours { OnOk result ((is_foreign (D.seen disk).a || is_foreign (D.seen disk).b) ≡ false) }
@@ -105,6 +110,8 @@ impl<D: Disk> Journal<D> {
         // The entries put together are the text.
         ensures read { IfOk result (λ entries. IsSound (D.seen (disk_of self.old))
             → concat entries.items ≡ text_of (D.seen (disk_of self.old))) }
+        ensures image { OnOk result (D.seen (disk_of self.new)
+            ≡ arranged (both_have_entries (D.seen (disk_of self.old))) (other (live_half (D.seen (disk_of self.old)))) (D.seen (disk_of self.old))) }
         ensures cut { OnOk result (IsSound (D.seen (disk_of self.old)) → both_have_entries (D.seen (disk_of self.old)) ≡ true
             → length (spare_bytes D.seen self.new) ≡ 9) }
         ensures ours { OnOk result ((is_foreign (D.seen (disk_of self.old)).a || is_foreign (D.seen (disk_of self.old)).b) ≡ false) }

@@ -5,7 +5,7 @@ ghost use Rattle.disk_model.specs.Image.{half_of, other};
 ghost use Rattle.disk_model.specs.Disk.{Only, LeavesOnly};
 ghost use Rattle.disk_model.specs.Supply.{Draws};
 ghost use Rattle.vote_journal.specs.Runs.{Runs, HasReason, IsUnfailed, IsStep, IsUntouched, LeftOrSays};
-ghost use Rattle.vote_journal.specs.Text.{HasBytes, half_entries, is_foreign, blocks, live_half, live_by, live_entries, text_of, is_some_entry};
+ghost use Rattle.vote_journal.specs.Text.{HasBytes, half_entries, is_foreign, blocks, live_half, live_by, live_entries, text_of, is_some_entry, both_have_entries};
 ghost use Rattle.vote_journal.specs.Text.{IsSound, SaysOnly};
 ghost use Rattle.vote_journal.specs.Steps.{IsFoundIn, MayArrange, Arranged, arranged};
 
@@ -122,6 +122,7 @@ pub(crate) fn open<D: Disk>(alloc: Global, disk: &mut D) -> Result<Opened, Journ
     ensures foreign { IfErr result (λ e. e ≡ JournalFault.NotAJournal → (is_foreign (D.seen disk.old).a || is_foreign (D.seen disk.old).b) ≡ true) }
     ensures ours { OnOk result ((is_foreign (D.seen disk.old).a || is_foreign (D.seen disk.old).b) ≡ false) }
     ensures arranged { OnOk result (IsSound (D.seen disk.old) → Arranged (live_half (D.seen disk.old)) (D.seen disk.old) (D.seen disk.new)) }
+    ensures image { OnOk result (D.seen disk.new ≡ arranged (both_have_entries (D.seen disk.old)) (other (live_half (D.seen disk.old))) (D.seen disk.old)) }
     ensures durable { OnOk result (Only (D.seen disk.new) (D.may_leave disk.new)) }
     ensures runs { Only (D.seen disk.old) (D.may_leave disk.old) → IsSound (D.seen disk.old)
         → Runs D.moment D.left_since D.faults D.supply disk.old disk.new (SaysOnly (text_of (D.seen disk.old)) (length (live_entries (D.seen disk.old)))) }

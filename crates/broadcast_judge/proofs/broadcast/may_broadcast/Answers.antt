@@ -2,7 +2,7 @@ use Rattle.std.proofs.Common.{◌≡◌, true, sym, ◌∙◌, subst, IfOk}
 use Rattle.std.proofs.lemmas.Result.{IfOk-weaker}
 use Rattle.hb_wire.specs.declared.vote.Vote.{Vote}
 use Rattle.hb_rules.specs.Broadcast.{MayBroadcast}
-use Rattle.claim_count.specs.Apart.{IsHeardApart}
+use Rattle.hb_rules.specs.Apart.{IsHeardApart}
 use Rattle.broadcast_judge.proofs.Allowed.{send_told, may_echo, may_be_ready, must_be_ready, may_deliver, must_deliver}
 use Rattle.broadcast_judge.proofs.broadcast.may_broadcast.Goals as goal
 

@@ -6,8 +6,8 @@ use Rattle.hb_wire.specs.declared.vote.Vote.{Vote}
 use Rattle.hb_rules.specs.Terms.{Terms}
 use Rattle.journaled_actor.specs.Going.{SeatGoes}
 use Rattle.journaled_actor.specs.Kept.{IsOf, IsSafe, CastSome}
-use Rattle.journaled_actor.proofs.Counts.{few_new, once_cast}
-use Rattle.journaled_actor.proofs.Going.{seat_still, disk_still}
+use Rattle.journaled_actor.proofs.Counts.{few_new, once_cast, cast_no_vote}
+use Rattle.journaled_actor.proofs.Going.{seat_still, disk_still, ok_not_full}
 use Rattle.journaled_actor.proofs.Left.{safe_all, begins, open_cast}
 use Rattle.journaled_actor.proofs.beginning.begin.Goals as goal
 
@@ -27,6 +27,7 @@ returns-in_err-rebuild g c =
       opened = tt;
       once = λ vote stands. refl;
       few = λ most one few. few;
+      nothing = λ none idle. record { not_full = λ h. cc (h); cast = refl };
       disk = disk_still (λ h. cc (h));
     })
 
@@ -74,5 +75,11 @@ returns g c =
       few = λ most one few.
           let may_t = begins t t old text votes due refl c.requires.lawful c.requires.all due_is in
           few_new t old new text votes due most c.requires.all may_t.1 (subst (λ (v : Terms). CastSome v old new due) made.terms did.cast) one few;
+      nothing = λ none idle.
+          let no_due : due ≡ [] = due_is ∙ ap (λ (xs : List Vote). t.owed xs []) none ∙ idle in
+          record {
+            not_full = ok_not_full (did.nothing no_due).0;
+            cast = cast_no_vote t old new due no_due (subst (λ (v : Terms). CastSome v old new due) made.terms did.cast);
+          };
       disk = did.disk;
     }

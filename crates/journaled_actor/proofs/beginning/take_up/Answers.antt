@@ -5,9 +5,10 @@ use Rattle.vote_journal.specs.Text.{text_of}
 use Rattle.vote_journal.specs.Usable.{disk_of}
 use Rattle.journaled_actor.specs.Kept.{IsAll, Covers}
 use Rattle.journaled_actor.specs.Payload.{payload, AreWritten}
-use Rattle.journaled_actor.proofs.Counts.{few_again, cast_again}
+use Rattle.journaled_actor.proofs.Counts.{few_again, cast_again, cast_no_vote}
 use Rattle.journaled_actor.proofs.Going.{is_still, seat_still, seat_then, disk_then, disk_done, disk_again, other_still}
 use Rattle.journaled_actor.proofs.Left.{always_ok, safe_covered, few_more}
+use Rattle.journaled_actor.proofs.Payloads.{no_votes}
 use Rattle.hb_rules.proofs.Turns.{turn_begins, votes_longer}
 use Rattle.journaled_actor.proofs.beginning.take_up.Goals as goal
 
@@ -28,6 +29,7 @@ returns-in_err-votes g c =
       opened = tt;
       again = tt;
       few = λ most few. few_more t posts most few;
+      nothing = λ none idle. record { not_full = other_still did.other; cast = refl };
       disk = disk_again did.disk;
     })
 
@@ -61,6 +63,7 @@ returns-in_err-post_all g c =
       opened = tt;
       again = tt;
       few = λ most few. few_again t old old new votes most covers.are did.cast few;
+      nothing = λ none idle. absurd (cc (did.nothing (no_votes votes (sym (read.text ∙ ap payload (sym c.deref.ensures.value)) ∙ read.same ∙ none))));
       disk = disk_done read.disk did.other;
     })
 
@@ -107,6 +110,13 @@ returns g c =
             let more = cast_again t old (g.B.Book.seen c.post_all.new.seat) votes covers did.whole vote stands in
             begun.once vote (omega (arith, more)) ∙ more;
       });
+      nothing = λ none idle.
+          let no_vote = no_votes votes (sym (read.text ∙ ap payload (sym c.deref.ensures.value)) ∙ read.same ∙ none) in
+          let rest = begun.nothing (c.deref-2.ensures.value ∙ sym c.deref.ensures.value ∙ no_vote) idle in
+          record {
+            not_full = rest.not_full;
+            cast = rest.cast ∙ cast_no_vote t old (g.B.Book.seen c.post_all.new.seat) votes no_vote did.cast;
+          };
       few = λ most few. begun.few (most + 1) (omega arith) (few_again t old old (g.B.Book.seen c.post_all.new.seat) votes most covers.are did.cast few);
       disk = disk_then read.disk begun.disk;
     }

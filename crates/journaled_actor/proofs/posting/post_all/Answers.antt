@@ -1,4 +1,4 @@
-use Rattle.std.proofs.Common.{refl, ◌∙◌, arith}
+use Rattle.std.proofs.Common.{refl, ◌∙◌, ap, length, arith}
 use Rattle.std.proofs.lemmas.Result.{err_from_is_err_and}
 use Rattle.journaled_actor.proofs.Going.{is_still, moves_on}
 use Rattle.journaled_actor.proofs.Posted.{posting_begins, posting_covers, posting_done}
@@ -55,6 +55,7 @@ returns-in_err-post_one g c =
       all = tt;
       cast = cast_some came.is;
       whole = tt;
+      nothing = λ none. absurd (omega (arith, c.loop-vote-test.true, ap length none));
       other = did.other;
     })
 
@@ -74,5 +75,6 @@ returns g c =
       all = λ done turn. posting_done (g.C.Core.terms c.args.core.now) (g.B.Book.seen c.args.seat.now) (g.B.Book.seen c.loop-vote.seat) c.args.votes.now c.loop-vote.vote-index c.args.out.now c.loop-vote.out (omega arith) here.3 done turn;
       cast = cast_some here.3;
       whole = cast_whole (omega arith) here.3;
+      nothing = λ none. refl;
       other = λ h. absurd (cc (h));
     }

@@ -1,4 +1,4 @@
-use Rattle.std.proofs.Common.{◌≡◌, ℕ, List, [], ◌∷◌, ◌++◌, refl, sym, ap, ◌∙◌, subst}
+use Rattle.std.proofs.Common.{◌≡◌, ℕ, List, [], ◌∷◌, ◌++◌, inl, inr, length, refl, sym, ap, ◌∙◌, subst, arith, length-append}
 use Rattle.std.proofs.lemmas.Result.{err_from_is_err_and, on_ok_weaker}
 use Rattle.hb_wire.specs.declared.vote.Vote.{Vote}
 use Rattle.hb_base.specs.Numbers.{Numbers}
@@ -8,10 +8,11 @@ use Rattle.hb_rules.specs.Book.{Watched}
 use Rattle.hb_rules.specs.Terms.{Terms, heard_got}
 use Rattle.journaled_actor.specs.Going.{SeatGoes}
 use Rattle.journaled_actor.specs.Kept.{IsOf, IsSafe, CastSome, heard_with}
-use Rattle.journaled_actor.proofs.Counts.{few_new}
-use Rattle.journaled_actor.proofs.Going.{is_still, seat_watched, seat_later, disk_still}
+use Rattle.journaled_actor.proofs.Counts.{few_new, cast_no_vote}
+use Rattle.journaled_actor.proofs.Going.{is_still, seat_watched, seat_later, disk_still, ok_no_error}
+use Rattle.journaled_actor.proofs.Heard.{got_longer, seen_more}
 use Rattle.journaled_actor.proofs.Left.{always_ok, safe_all, few_watched, steps, heard_now, open_step}
-use Rattle.journaled_actor.proofs.Owing.{all_watched}
+use Rattle.journaled_actor.proofs.Owing.{all_watched, owed_by_cast}
 use Rattle.journaled_actor.proofs.Posted.{at_terms, watched_prefix, watched_cast}
 use Rattle.journaled_actor.proofs.stepping.advance.Goals as goal
 
@@ -42,7 +43,9 @@ returns-in_err-receive g c =
       ready = tt;
       opened = tt;
       got = tt;
-      kept = did.kept;
+      kept = inl did.unheard;
+      unheard = λ _. (refl, refl, refl, same);
+      owed = λ _. (refl, refl, same);
       few = λ most one few. few_watched t old new most same few;
       disk = disk_still (λ h. cc (h));
     })
@@ -117,7 +120,17 @@ returns g c =
       opened = on_ok_weaker c.cast.result (λ whole. open_step t u old mid new now (g.C.Core.stands c.receive.new.core) got c.args.k votes due heard did.terms
           c.requires.lawful prefix cast.seat.longer c.requires.got c.requires.post heard_is due_is hears.holds (whole votes may.0 may.1)) cast.all;
       got = always_ok c.cast.result did.got;
-      kept = did.kept;
+      kept = inr did.got;
+      unheard = λ none. absurd (omega (arith, ap length (sym did.got ∙ none), length-append got (c.args.k ∷ [])));
+      owed = λ idle.
+          let no_due : due ≡ [] =
+          due_is ∙ ap (t.owed votes) (heard_is ∙ got_longer t old mid (got ++ c.args.k ∷ []) prefix (seen_more t old got c.args.k c.requires.got c.requires.post))
+          ∙ sym (owed_by_cast t old text votes (heard_got t old (got ++ c.args.k ∷ [])) c.requires.lawful here.all) ∙ idle in
+          let none = cast.nothing no_due in (
+            ok_no_error _ none.0,
+            none.1,
+            cast_no_vote t mid new due no_due (subst (λ (v : Terms). CastSome v mid new due) did.terms cast.cast) ∙ same,
+          );
       few = λ most one few.
           let same_terms = steps t t mid text (got ++ c.args.k ∷ []) votes due heard refl c.requires.lawful heard_is all due_is in
           few_new t mid new text votes due most all same_terms.1 (subst (λ (v : Terms). CastSome v mid new due) did.terms cast.cast) one

@@ -1,8 +1,7 @@
-use Rattle.std.proofs.Common.{◌≡◌, ◌<◌, true, inr, refl, sym, ◌∙◌, subst}
-use Rattle.std.proofs.lemmas.Result.{on_ok_weaker}
+use Rattle.std.proofs.Common.{◌≡◌, ◌<◌, true, refl, sym, ◌∙◌, subst}
 use Rattle.hb_wire.specs.Addresses.{reaches}
 use Rattle.hb_wire.specs.declared.post.Post.{Post}
-use Rattle.journaled_actor.proofs.Left.{always_ok, received, some_same}
+use Rattle.journaled_actor.proofs.Left.{received, some_same}
 use Rattle.journaled_actor.proofs.Posted.{watched_prefix}
 use Rattle.journaled_actor.proofs.stepping.receive.Goals as goal
 
@@ -34,17 +33,5 @@ hear_post-requires g c =
       stands = c.requires.stands;
     }
 
-pub returns : goal.returns
-returns g c =
-    let did = c.in_ok-found.ensures in
-    let pushed = c.in_ok-push.ensures.items in
-    record {
-      terms = c.hear_post.ensures.terms;
-      seat = did.seat;
-      same = did.same;
-      moved = did.moved;
-      watched = did.watched;
-      got = always_ok c.hear_post.result pushed;
-      kept = inr pushed;
-      owed = on_ok_weaker c.hear_post.result (λ owed. (c.unwrap-post.result, sym did.found ∙ c.unwrap-post.ensures, owed)) c.hear_post.ensures.owed;
-    }
+pub returns-clause-owed : goal.returns-clause-owed
+returns-clause-owed g c = (c.unwrap-post.result, sym c.in_ok-found.ensures.found ∙ c.unwrap-post.ensures, c.in_ok-hear_post.ensures.owed)

@@ -26,6 +26,17 @@ module _ (old : Image) {es fs xs ys : List (List ℕ)} {gate bytes gate' bytes' 
   says_text {spare} beside same sound c may =
       arrange_says both spare old c beside a.are_bytes b.are_bytes sound found_both (subst (λ (i : Image). MayArrange both spare i c) same may)
 
+pub returns-clause-image : goal.returns-clause-image
+returns-clause-image g c =
+    let old = g.D.Disk.seen c.args.disk.now in
+    let found = c.in_ok-found.ensures in
+    let live = c.live_of-live.ensures
+    ∙ live_found old c.deref.result.now c.deref-2.result.now (c.deref.ensures.value ∙ found.a.is) (c.deref-2.ensures.value ∙ found.b.is) in
+    c.in_ok-arrange.ensures.made ∙ ap (arranged c.have_both-both.result c.other.result) c.survey.ensures.seen
+    ∙ ap (λ (h : Half). arranged c.have_both-both.result h old) (c.other.ensures ∙ ap other live)
+    ∙ ap (λ (both : Bool). arranged both (other (live_half old)) old)
+    (found_both old found.a found.b c.deref-3.ensures.value c.deref-4.ensures.value c.have_both-both.ensures)
+
 pub returns-clause-arranged : goal.returns-clause-arranged
 returns-clause-arranged g c = λ sound.
     let old = g.D.Disk.seen c.args.disk.now in

@@ -1,8 +1,10 @@
-use Rattle.std.proofs.Common.{◌≡◌, false, ◌≤◌, refl, sym, arith}
+use Rattle.std.proofs.Common.{◌≡◌, false, ◌≤◌, [], refl, sym, arith}
+use Rattle.disk_model.specs.Image.{Image}
+use Rattle.vote_journal.specs.Text.{text_of}
 use Rattle.hb_base.specs.Limits.{most_stops}
 use Rattle.hb_rules.specs.Actor.{AreSeen, budget}
 use Rattle.journaled_actor.specs.Kept.{IsSafe}
-use Rattle.journaled_actor.proofs.Actors.{along, few_none, few_within, budget_on, safe_empty}
+use Rattle.journaled_actor.proofs.Actors.{along, few_none, few_within, budget_on, empty_text, safe_empty}
 use Rattle.journaled_actor.proofs.actor.JournaledActor.new.Goals as goal
 
 pub invariant_of-result : goal.invariant_of-result
@@ -23,4 +25,6 @@ invariant_of-result g c =
       live = λ live. absurd (cc (live));
       fresh_on = λ fresh. along (sym c.shut.ensures) (λ disk. (d.supply disk).off ≡ false) c.requires.on;
       live_on = λ live. absurd (cc (live));
+      fresh_empty = λ fresh. along (sym c.shut.ensures) (λ disk. (image : Image) → d.may_leave disk image → text_of image ≡ [])
+          (empty_text d.seen d.may_leave c.args.disk c.requires.empty);
     }

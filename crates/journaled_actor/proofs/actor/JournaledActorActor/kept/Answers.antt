@@ -25,6 +25,8 @@ returns g c =
           (cast_proper (t i.core) (b.seen i.seat) here.votes here.covers);
       bound = along c.self.view_is (λ a. budget a.restarts (d.supply a.disk) ≤ most_stops) holds.bound;
       fresh = along c.self.view_is (λ a. a.fresh ≡ true → (a.got ≡ []) × (a.restarts ≡ 0)) (λ fresh. ((holds.fresh fresh).0, (holds.fresh fresh).1));
+      unused = along c.self.view_is (λ a. a.fresh ≡ true → cast_in (t a.core) (b.seen a.seat) ≡ []) (λ fresh. (holds.fresh fresh).2);
+      begins_on = along c.self.view_is (λ a. a.fresh ≡ true → (d.supply a.disk).off ≡ false) holds.fresh_on;
       seen = along c.self.view_is (λ a. a.live ≡ true → AreSeen (t a.core) (b.seen a.seat) a.got) (λ live. holds.received);
       power = along c.self.view_is (λ a. a.live ≡ true → (d.supply a.disk).off ≡ false) holds.live_on;
       idle = along c.self.view_is (λ a. a.live ≡ true → OwesNothing (t a.core) (b.seen a.seat) a.got) (λ live.

@@ -12,7 +12,7 @@ use Rattle.hb_rules.specs.Terms.{Terms, heard_got}
 use Rattle.journaled_actor.specs.Going.{SeatGoes}
 use Rattle.journaled_actor.specs.Kept.{IsSafe, IsOpen, actor_view}
 use Rattle.journaled_actor.proofs.Actors.{along, from, not_failed, when_ok, ok_is, err_is, if_fault, budget_again, goes_by, goes_again, few_within, safe_back, kept_by}
-use Rattle.journaled_actor.proofs.Crashes.{supply_same}
+use Rattle.vote_journal.proofs.Moments.{draws_same}
 use Rattle.journaled_actor.proofs.Left.{always_ok}
 use Rattle.journaled_actor.proofs.Posted.{prefix_refl}
 use Rattle.journaled_actor.proofs.actor.JournaledActorActor.restart.Goals as goal
@@ -54,7 +54,7 @@ returns-in_err-switch_on g c =
           (g.met.B.Book.stays (b.node i.seat) (b.actor i.seat) c.args.book.now);
       seen = along c.self.view_is (λ a. IsPrefix (b.seen a.seat) (b.seen i.seat)) (prefix_refl (b.seen i.seat));
       goes = from (actor_view t d.supply d.faults) Goes c.self.view_is (goes_by _ _ refl
-          (along (sym same) (λ disk. Draws (d.supply (disk_of i.journal)) (d.supply disk)) (supply_same (d.supply (disk_of i.journal))))
+          (along (sym same) (λ disk. Draws (d.supply (disk_of i.journal)) (d.supply disk)) (draws_same (d.supply (disk_of i.journal))))
           (along (sym same) (λ disk. d.faults (disk_of i.journal) ≤ d.faults disk) (omega arith)) refl refl);
       live = tt;
       ended = refl;
@@ -64,6 +64,7 @@ returns-in_err-switch_on g c =
       unfailed = λ _. from (actor_view t d.supply d.faults) IsUnfailedAgain c.self.view_is (record {
         no_fault = along (sym same) (λ disk. d.faults disk ≡ d.faults (disk_of i.journal)) refl;
         power = λ more. absurd (omega (arith, more));
+        stops = along (sym same) (λ disk. (d.supply disk).stops ≡ (d.supply (disk_of i.journal)).stops) refl;
       });
       again = tt;
       on = tt;
@@ -72,7 +73,10 @@ returns-in_err-switch_on g c =
         restarts = refl;
         got = refl;
         off = along (sym same) (λ disk. (d.supply disk).off ≡ true) off;
+        supply = along (sym same) (λ disk. d.supply disk ≡ d.supply (disk_of i.journal)) refl;
+        faults = along (sym same) (λ disk. d.faults disk ≡ d.faults (disk_of i.journal)) refl;
       }));
+      still = λ _. (refl, refl, along c.self.view_is (λ a. b.seen i.seat ≡ b.seen a.seat) refl);
     })
 
 pub take_up-begun-requires : goal.take_up-begun-requires
@@ -154,10 +158,12 @@ returns g c =
       unfailed = λ well. from (actor_view t d.supply d.faults) IsUnfailedAgain c.self.view_is (record {
         no_fault = (did.disk.unfailed well).no_fault ∙ on.faults;
         power = λ _. (did.disk.unfailed well).power ∙ ap (λ (s : Supply). s.off) on.supply;
+        stops = did.disk.draws.kept (did.disk.unfailed well).power ∙ ap (λ (s : Supply). s.stops) on.supply;
       });
       again = along c.self.view_is (λ a. OnOk c.take_up-begun.result
           (AreCastAgain (t a.core) (b.seen a.seat) (b.seen c.take_up-begun.new.seat))) did.again;
       on = always_ok c.take_up-begun.result again;
       failed = λ is. again;
       either = inr again;
+      still = λ off. absurd (omega (arith, (from (actor_view t d.supply d.faults) IsStillOff (sym c.self.view_is) off).restarts));
     }

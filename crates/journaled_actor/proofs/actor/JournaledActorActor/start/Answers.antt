@@ -1,10 +1,11 @@
-use Rattle.std.proofs.Common.{◌≡◌, ℕ, ◌+◌, true, List, refl, sym, ◌∙◌, arith}
+use Rattle.std.proofs.Common.{◌≡◌, ℕ, ◌+◌, true, List, [], refl, sym, ap, ◌∙◌, arith}
 use Rattle.hb_base.specs.Outside.{Rose}
 use Rattle.vote_journal.specs.Text.{text_of}
 use Rattle.vote_journal.specs.Usable.{disk_of}
 use Rattle.journaled_actor.specs.Folding.{IsReady}
-use Rattle.hb_rules.specs.Actor.{Goes, IsUnfailed}
-use Rattle.hb_rules.specs.Terms.{Terms, heard_got}
+use Rattle.hb_rules.specs.Actor.{Goes, IsUnfailed, OwesNothing}
+use Rattle.hb_rules.specs.Terms.{Terms, cast_in, heard_got}
+use Rattle.hb_wire.specs.declared.vote.Vote.{Vote}
 use Rattle.journaled_actor.specs.Going.{SeatGoes}
 use Rattle.journaled_actor.specs.Kept.{IsOpen, actor_view}
 use Rattle.journaled_actor.proofs.Actors.{along, from, not_failed, when_ok, ok_is, err_is, if_fault, budget_draws, goes_by, few_none, few_within, kept_by}
@@ -71,7 +72,19 @@ returns g c =
         g.met.D.Power.named (disk_of c.take_up-begun.new.journal) (did.disk.failed is).1,
       ));
       unfailed = λ well. from (actor_view t d.supply d.faults) IsUnfailed c.self.view_is
-          (record { no_fault = (did.disk.unfailed well).no_fault; power = (did.disk.unfailed well).power });
+          (record {
+            no_fault = (did.disk.unfailed well).no_fault;
+            power = (did.disk.unfailed well).power;
+            stops = did.disk.draws.kept (did.disk.unfailed well).power;
+          });
       got = fresh.0;
+      owed = λ idle.
+          let empty = c.self.invariant.fresh_empty (along (sym c.self.view_is) (λ a. a.fresh ≡ true) c.requires.fresh)
+          (d.seen (disk_of i.journal)) (g.met.D.Disk.seen_may_stay (disk_of i.journal)) in
+          let idle_at_first = along (sym c.self.view_is) (λ a. OwesNothing (t a.core) (b.seen a.seat) []) idle in
+          let none = did.nothing empty (sym (ap (λ (votes : List Vote). (t i.core).owed votes []) fresh.2) ∙ idle_at_first) in (
+            none.not_full,
+            along c.self.view_is (λ a. cast_in (t a.core) (b.seen c.take_up-begun.new.seat) ≡ cast_in (t a.core) (b.seen a.seat)) none.cast,
+          );
       restarts = along c.self.view_is (λ a. i.restarts ≡ a.restarts) refl;
     }

@@ -1,14 +1,14 @@
-use Rattle.std.proofs.Common.{OnOk, ◌≡◌, ℕ, ◌+◌, ◌⊎◌, true, List, [], ◌∷◌, ◌++◌, refl, sym, ◌∙◌, arith}
+use Rattle.std.proofs.Common.{OnOk, ◌≡◌, ℕ, ◌+◌, ◌⊎◌, true, List, [], ◌∷◌, ◌++◌, refl, sym, ap, ◌∙◌, arith}
 use Rattle.hb_base.specs.Numbers.{Numbers}
 use Rattle.hb_base.specs.Outside.{Rose}
 use Rattle.vote_journal.specs.Text.{text_of}
 use Rattle.vote_journal.specs.Usable.{disk_of}
 use Rattle.journaled_actor.specs.Folding.{IsReady}
-use Rattle.hb_rules.specs.Actor.{Goes, IsUnfailed, ReachesActor}
+use Rattle.hb_rules.specs.Actor.{Goes, IsUnfailed, ReachesActor, OwesNothing}
 use Rattle.hb_rules.specs.Terms.{Terms, heard_got}
 use Rattle.journaled_actor.specs.Going.{SeatGoes}
 use Rattle.journaled_actor.specs.Kept.{IsOpen, actor_view}
-use Rattle.journaled_actor.proofs.Actors.{along, from, not_failed, when_ok, ok_is, err_is, if_fault, budget_draws, goes_by, kept_by, seen_either}
+use Rattle.journaled_actor.proofs.Actors.{along, from, alone_from, not_failed, when_ok, ok_is, err_is, if_fault, budget_draws, goes_by, kept_by, seen_either}
 use Rattle.journaled_actor.proofs.Posted.{at_terms}
 use Rattle.journaled_actor.proofs.actor.JournaledActorActor.step.Goals as goal
 
@@ -86,8 +86,31 @@ returns g c =
         g.met.D.Power.named (disk_of c.advance-heard.new.journal) (did.disk.failed is).1,
       ));
       unfailed = λ well. from (actor_view t d.supply d.faults) IsUnfailed c.self.view_is
-          (record { no_fault = (did.disk.unfailed well).no_fault; power = (did.disk.unfailed well).power });
+          (record {
+            no_fault = (did.disk.unfailed well).no_fault;
+            power = (did.disk.unfailed well).power;
+            stops = did.disk.draws.kept (did.disk.unfailed well).power;
+          });
       got = along c.self.view_is (λ a. OnOk c.advance-heard.result (got ≡ a.got ++ c.args.k ∷ [])) did.got;
       kept = along c.self.view_is (λ a. (got ≡ a.got) ⊎ (got ≡ a.got ++ c.args.k ∷ [])) did.kept;
+      unheard = λ same.
+          let none = did.unheard (along (sym c.self.view_is) (λ a. got ≡ a.got) same) in (
+            none.0,
+            none.1,
+            alone_from t d.supply d.faults b.seen c.self.view_is (record {
+              cast = none.3;
+              supply = ap (λ j. d.supply (disk_of j)) none.2;
+              faults = ap (λ j. d.faults (disk_of j)) none.2;
+            }),
+          );
+      owed = λ idle.
+          let none = did.owed (along (sym c.self.view_is) (λ a. OwesNothing (t a.core) (b.seen a.seat) (a.got ++ c.args.k ∷ [])) idle) in (
+            none.0,
+            alone_from t d.supply d.faults b.seen c.self.view_is (record {
+              cast = none.2;
+              supply = ap (λ j. d.supply (disk_of j)) none.1;
+              faults = ap (λ j. d.faults (disk_of j)) none.1;
+            }),
+          );
       restarts = along c.self.view_is (λ a. i.restarts ≡ a.restarts) refl;
     }
