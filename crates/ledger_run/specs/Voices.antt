@@ -1,6 +1,9 @@
 -- What speaks for the nodes that lie. A cast is a list of boxes of a type L; `name` tells the name of each.
 use Rattle.std.specs.Prelude.{◌≡◌, ℕ, ◌<◌, ◌==◌, bytes_eq, true, false, List, [], ◌∷◌, length, remove, Option, Some, None, slice_get, if◌then◌else◌}
+use Rattle.std.specs.Option.{option_map}
 use Rattle.net_script.specs.declared.script.LiarAt.{LiarAt}
+use Rattle.step_driver.specs.declared.place.Place.{Place}
+use Rattle.step_driver.specs.declared.place.Place.TheVariants.{Correct, Lying}
 
 -- ---- whom a cast has for them
 
@@ -65,3 +68,8 @@ pub record IsAt (i : ℕ) (liars : List LiarAt) (place : ℕ) (liar : LiarAt) : 
 
 abbrev pub StandsAt : ℕ → List LiarAt → ℕ → Type 0
 StandsAt i liars place = (liar : LiarAt) × IsAt i liars place liar
+
+-- at a place there is a node that lies, which hears so many posts; what speaks for it is this liar, or nothing where it is none
+abbrev pub IsHiredWith : {A V L : Type 0} → (V → Option L) → Place A V → ℕ → Option L → Type 0
+IsHiredWith liar_of (Correct player) hears liar = ⊥
+IsHiredWith liar_of (Lying hired) hears liar = (hired.hears ≡ hears) × (option_map liar_of hired.mouth ≡ Some liar)

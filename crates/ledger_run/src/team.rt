@@ -9,7 +9,7 @@ ghost use Rattle.net_script.specs.Sound.{IsScenario};
 ghost use Rattle.net_script.specs.declared.script.Script.{Script};
 ghost use Rattle.step_driver.specs.Places.{spot_of, spots, name_of};
 ghost use Rattle.ledger_run.specs.Actors.{node_seat, node_view};
-ghost use Rattle.ledger_run.specs.Voices.{hears_at, voice_at, without_voice, StandsAt, NoneAt};
+ghost use Rattle.ledger_run.specs.Voices.{hears_at, voice_at, without_voice, StandsAt, NoneAt, IsHiredWith};
 ghost use Rattle.ledger_run.specs.Team.{IsReady, AreReady, correct_name, lying_name, names_at, names_below};
 
 use crate::disks::disk_of;
@@ -179,6 +179,7 @@ fn lying_place(
     ensures book { book.new ≡ book.old }
     ensures ready { IsReady script.now (spot_of node_seat node_view result) }
     ensures named { name_of (spot_of node_seat node_view result) ≡ lying_name node }
+    ensures voice { IsHiredWith (λ voice. voice.liar) result (hears_at node script.now.liars.items) (voice_at node script.now.liars.items (map (λ voice. voice.liar) voices.old.items)) }
 {
     let seat = book.seat(node, 255);
     let (hears, voice) = voice_at(script, voices, node);

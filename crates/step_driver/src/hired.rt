@@ -1,6 +1,6 @@
 //! A node that lies, and what speaks for it.
 
-ghost use Rattle.std.specs.Prelude.{◌≡◌, ◌≤◌, true, count_by};
+ghost use Rattle.std.specs.Prelude.{◌≡◌, ◌≤◌, true, count_by, Some};
 ghost use Rattle.hb_base.specs.Limits.{most_lies};
 ghost use Rattle.hb_base.specs.NodeSet.{is_in};
 ghost use Rattle.hb_rules.specs.Book.{IsSeatOf};
@@ -62,7 +62,9 @@ pub struct Hired<L> {
 impl<L: Mouth> Hired<L> {
     /// One that has said nothing. `seat` is the seat of its node; it hears `hears` posts, and is then dropped.
     pub fn new(alloc: Global, seat: PlainSeat, hears: u32, mouth: L) -> Hired<L>
-        ensures { hired_view result ≡ record { seat = seat; said = 0 } }
+        ensures view { hired_view result ≡ record { seat = seat; said = 0 } }
+        ensures hears { result.hears ≡ hears }
+        ensures mouth { result.mouth ≡ Some mouth }
     {
         let node = seat.node();
         Hired {
