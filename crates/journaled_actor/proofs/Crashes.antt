@@ -1,5 +1,5 @@
 -- What a crash leaves after a step of a journal, and why a step failed.
-use Rattle.std.proofs.Common.{◌≡◌, ℕ, ◌≤◌, Result, Ok, Err, arith}
+use Rattle.std.proofs.Common.{ℕ, ◌≤◌, Result, Ok, Err, arith}
 use Rattle.std.specs.Prelude.{IfErr}
 use Rattle.hb_base.specs.Outside.{Rose}
 use Rattle.disk_model.specs.Image.{Image}
