@@ -1,5 +1,6 @@
 -- What the cores of an epoch stand for after one more hearing. The letters: lane j of node i, epoch e.
-use Rattle.std.proofs.Common.{◌≡◌, ℕ, true, false, List, [], ◌∷◌, ◌++◌, refl, sym, ap, ◌∙◌, subst, append-nil}
+use Rattle.std.proofs.lemmas.Bool.{cases_Bool, cond-true, cond-false}
+use Rattle.std.proofs.Common.{◌≡◌, ◌≤◌, ◌+◌, ⊎_elim, arith, ℕ, true, false, List, [], ◌∷◌, ◌++◌, refl, sym, ap, ◌∙◌, subst, append-nil, append_assoc, length, drop}
 use Rattle.std.specs.List.{list_any, list_all, filter}
 use Rattle.std.proofs.lemmas.List.Elements.{filter-append}
 use Rattle.hb_base.specs.Numbers.{Numbers}
@@ -16,7 +17,7 @@ use Rattle.rbc_core.specs.Broadcast as broadcast
 use Rattle.aba_core.specs.State as agreement
 use Rattle.aba_core.specs.Standing as standing
 use Rattle.lane_core.specs.declared.cores.Cores.{Cores}
-use Rattle.lane_core.specs.Cores.{AreAt, StayAt, StandFor, HearsOne}
+use Rattle.lane_core.specs.Cores.{is_for_broadcast, AreAt, StayAt, StandFor, StandOn, HearsOne, agreement_room, room_for}
 use Rattle.lane_core.proofs.Parts.{all_deliveries, some_delivery, no_delivery, own_in_broadcast, own_in_agreement, heard_now, broadcast_slots-parts, agreement_slots-parts, broadcast_pass, agreement_owed}
 
 -- ---- places
@@ -74,13 +75,12 @@ StandFor-by e cores own heard own_rbc own_aba heard_rbc heard_aba one two three 
 -- ---- the broadcast hears the vote
 
 -- the lane does not deliver by it
-pub HearsOne-passed : (c : Numbers) (i j e : ℕ) (old new : Cores) (h : Hearing) (after : List Vote) → AreAt c i j e old
-    → heard_in_broadcast e h ≡ true → heard_in_agreement e h ≡ false → broadcast.Hears old.rbc new.rbc h [] after → new.aba ≡ old.aba
-    → list_any (is_any_delivery e) after ≡ false → HearsOne c i j e old new h [] after
-HearsOne-passed c i j e old new h after at kind other hears same none =
+pub HearsOne-passed : (c : Numbers) (i j e : ℕ) (old new : Cores) (h : Hearing) (before after : List Vote) → AreAt c i j e old
+    → heard_in_broadcast e h ≡ true → heard_in_agreement e h ≡ false → (hears : broadcast.Hears old.rbc new.rbc h before after) → new.aba ≡ old.aba
+    → list_any (is_any_delivery e) hears.votes ≡ false → HearsOne c i j e old new h before after
+HearsOne-passed c i j e old new h before after at kind other hears same empty =
     let first : List Vote = hears.votes in
     let passes = first_passes c i j e old h first at kind hears.gives in
-    let empty : list_any (is_any_delivery e) first ≡ false = ap (list_any (is_any_delivery e)) (sym hears.due) ∙ none in
     let made : (own : List Vote) (heard : List Hearing) → StandFor e old own heard → list_all (in_broadcast e) first ≡ true =
     λ own heard stands. first_made c i j e own (heard ++ h ∷ []) first (passes own heard stands) in
     let read : (own : List Vote) (heard : List Hearing) → StandFor e old own heard → filter (read_in_agreement e) (own ++ first) ≡ filter (read_in_agreement e) own =
@@ -91,7 +91,7 @@ HearsOne-passed c i j e old new h after at kind other hears same none =
     record {
       first = first;
       second = [];
-      due = hears.due ∙ sym (append-nil first);
+      due = hears.due ∙ ap (λ (votes : List Vote). before ++ votes) (sym (append-nil first));
       passes = passes;
       owed = λ own heard stands.
           agreement_owed c i j e (own ++ first) (filter (read_in_agreement e) own) (filter (heard_in_agreement e) heard) (heard ++ h ∷ []) []
@@ -109,10 +109,10 @@ HearsOne-passed c i j e old new h after at kind other hears same none =
     }
 
 -- the lane delivers by it
-pub HearsOne-delivered : (c : Numbers) (i j e : ℕ) (old new : Cores) (h : Hearing) (mid after : List Vote) → AreAt c i j e old
-    → heard_in_broadcast e h ≡ true → heard_in_agreement e h ≡ false → broadcast.Hears old.rbc new.rbc h [] mid
-    → list_any (is_any_delivery e) mid ≡ true → standing.Takes true old.aba new.aba mid after → HearsOne c i j e old new h [] after
-HearsOne-delivered c i j e old new h mid after at kind other hears some takes =
+pub HearsOne-delivered : (c : Numbers) (i j e : ℕ) (old new : Cores) (h : Hearing) (before mid after : List Vote) → AreAt c i j e old
+    → heard_in_broadcast e h ≡ true → heard_in_agreement e h ≡ false → (hears : broadcast.Hears old.rbc new.rbc h before mid)
+    → list_any (is_any_delivery e) hears.votes ≡ true → standing.Takes true old.aba new.aba mid after → HearsOne c i j e old new h before after
+HearsOne-delivered c i j e old new h before mid after at kind other hears some takes =
     let first : List Vote = hears.votes in
     let second : List Vote = takes.votes in
     let more : List Vote = filter (read_in_agreement e) first in
@@ -126,7 +126,7 @@ HearsOne-delivered c i j e old new h mid after at kind other hears some takes =
     λ own heard stands.
     takes.one refl (filter (read_in_agreement e) own) more (filter (heard_in_agreement e) heard) stands.aba
     (rw epoch (all_deliveries e first (made own heard stands)))
-    (rw epoch (some_delivery e (filter (read_in_agreement e) own) first (ap (list_any (is_any_delivery e)) (sym hears.due) ∙ some))) in
+    (rw epoch (some_delivery e (filter (read_in_agreement e) own) first some)) in
     let owed : (own : List Vote) (heard : List Hearing) → StandFor e old own heard → IsOwed (agreement_slots c i j e) (own ++ first) (heard ++ h ∷ []) second =
     λ own heard stands.
     agreement_owed c i j e (own ++ first) (filter (read_in_agreement e) own ++ more) (filter (heard_in_agreement e) heard) (heard ++ h ∷ []) second
@@ -136,7 +136,7 @@ HearsOne-delivered c i j e old new h mid after at kind other hears some takes =
     record {
       first = first;
       second = second;
-      due = takes.due ∙ ap (λ (votes : List Vote). votes ++ second) hears.due;
+      due = takes.due ∙ ap (λ (votes : List Vote). votes ++ second) hears.due ∙ append_assoc before first second;
       passes = passes;
       owed = owed;
       stands = λ own heard stands.
@@ -205,15 +205,44 @@ HearsOne-nothing c i j e old h votes at one two = record {
       stands.rbc stands.aba;
 }
 
--- ---- votes that are added behind others
+-- ---- votes that were added behind others
 
-pub HearsOne-behind : (c : Numbers) (i j e : ℕ) (old new : Cores) (h : Hearing) (before after now : List Vote) → HearsOne c i j e old new h [] after
-    → now ≡ before ++ after → HearsOne c i j e old new h before now
-HearsOne-behind c i j e old new h before after now hears is = record {
-  first = hears.first;
-  second = hears.second;
-  due = is ∙ ap (λ (votes : List Vote). before ++ votes) hears.due;
-  passes = hears.passes;
-  owed = hears.owed;
-  stands = hears.stands;
+pub drop_front : (xs ys : List Vote) → drop (length xs) (xs ++ ys) ≡ ys
+drop_front [] ys = refl
+drop_front (x ∷ xs) ys = drop_front xs ys
+
+-- ---- where memory is wanting
+
+pub broadcast_stands_on : (old new : Cores) → broadcast.Keeps old.rbc new.rbc → new.aba ≡ old.aba → StandOn old new
+broadcast_stands_on old new keeps same = record {
+  stand = λ e own heard stands. record {
+    rbc = keeps.stands (filter (in_broadcast e) own) (filter (heard_in_broadcast e) heard) stands.rbc;
+    aba = subst (λ (a : agreement.AbaView). standing.Stands a (filter (read_in_agreement e) own) (filter (heard_in_agreement e) heard)) (sym same) stands.aba;
+  };
 }
+
+-- ---- room
+
+pub agreement_fits : (cores : Cores) (vote : Vote) (spare : ℕ) → room_for cores vote ≤ spare → agreement_room cores ≤ spare
+agreement_fits cores vote spare room =
+    let most = agreement_room cores + (broadcast.place_of cores.rbc).config.n + 2 in
+    ⊎_elim
+    (λ is. omega (arith, room, cond-true {A = ℕ} (is_for_broadcast vote) most (agreement_room cores) is))
+    (λ no_one. omega (arith, room, cond-false {A = ℕ} (is_for_broadcast vote) most (agreement_room cores) no_one))
+    (cases_Bool (is_for_broadcast vote))
+
+-- also once the broadcast has heard its vote
+pub agreement_fits_then : (cores : Cores) (vote : Vote) (spare left : ℕ) → is_for_broadcast vote ≡ true → room_for cores vote ≤ spare
+    → spare ≤ left + (broadcast.place_of cores.rbc).config.n + 2 → agreement_room cores ≤ left
+agreement_fits_then cores vote spare left is room used =
+    omega (
+      arith,
+      room,
+      used,
+      cond-true {A = ℕ} (is_for_broadcast vote) (agreement_room cores + (broadcast.place_of cores.rbc).config.n + 2) (agreement_room cores) is,
+    )
+
+-- the votes that were added
+pub added_votes : (before first all votes : List Vote) (k : ℕ) → votes ≡ drop k all → k ≡ length before → all ≡ before ++ first → votes ≡ first
+added_votes before first all votes k is at whole =
+    is ∙ ap (λ (n : ℕ). drop n all) at ∙ ap (drop (length before)) whole ∙ drop_front before first

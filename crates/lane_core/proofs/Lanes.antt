@@ -1,6 +1,6 @@
 -- What the core of a lane stands for: at its start, after a restart, and after each hearing. The letters: lane j of node i,
 -- epochs e and k.
-use Rattle.std.proofs.Common.{◌≡◌, ℕ, ◌+◌, ◌*◌, ◌<◌, ◌≤◌, Bool, true, false, nat_lt, inl, inr, List, [], ◌∷◌, ◌++◌, length, get_or, set, Option, None, Some, refl, sym, ap, ◌∙◌, subst, append-nil, length-append, below_more, get_or-set_same, get_or-set_other, arith}
+use Rattle.std.proofs.Common.{◌≡◌, ℕ, ◌+◌, ◌*◌, ◌<◌, ◌≤◌, Bool, true, false, if◌then◌else◌, nat_lt, inl, inr, List, [], ◌∷◌, ◌++◌, length, get_or, set, Option, None, Some, refl, sym, ap, ◌∙◌, subst, append-nil, length-append, below_more, get_or-set_same, get_or-set_other, arith}
 use Rattle.std.specs.List.{list_any, list_all, filter, AllByRecursion}
 use Rattle.std.specs.Option.{is_some}
 use Rattle.std.proofs.lemmas.Bool.{cases_eq, cases_lt, eqb-true, ne_eqb, le-ltb, lt-ltb, or_parts}
@@ -23,8 +23,8 @@ use Rattle.hb_rules.proofs.LaneSlots.{lane-parts, lane_hears}
 use Rattle.rbc_core.specs.Broadcast as broadcast
 use Rattle.aba_core.specs.State as agreement
 use Rattle.lane_core.specs.declared.cores.Cores.{Cores}
-use Rattle.lane_core.specs.Cores.{StandFor, IsUntouched, StandsAt, HearsOne}
-use Rattle.lane_core.specs.Lane.{LaneView, slots_at, cores_at, is_open, AreAtEpoch, StaysAt, ArePlaced, Stands, Hears, Sets, Opens, HearsAt, IsOpenFor, HasRoom, AreRecovered, KeepsStanding}
+use Rattle.lane_core.specs.Cores.{is_for_broadcast, StandFor, IsUntouched, StandsAt, HearsOne}
+use Rattle.lane_core.specs.Lane.{LaneView, slots_at, cores_at, is_open, AreAtEpoch, StaysAt, ArePlaced, Stands, Hears, Sets, Opens, HearsAt, IsOpenFor, HasRoom, StandsOn, AreRecovered, KeepsStanding}
 use Rattle.lane_core.proofs.Parts.{broadcast_inside, agreement_inside, heard_broadcast_inside, read_agreement_inside, heard_agreement_inside, broadcast_slots-parts, agreement_slots-parts}
 
 -- ---- lists of which an epoch looks at the same
@@ -167,6 +167,27 @@ StaysAt-in epochs k e default new same below stays =
     (subst (λ (old : Option Cores). StaysAt old (cores_at (set epochs k new) k)) (get_or_default epochs k default None below)
     (subst (λ (now : Option Cores). StaysAt (get_or epochs k default) now) (sym (get_or-set_same epochs k new None below)) stays))
 
+-- and stands for what it stood for
+pub StandsOn-in : (epochs : List (Option Cores)) (k e : ℕ) (default new : Option Cores) → k ≡ e → k < length epochs
+    → StandsOn (get_or epochs k default) new → StandsOn (cores_at epochs e) (cores_at (set epochs k new) e)
+StandsOn-in epochs k e default new same below on =
+    subst (λ (e : ℕ). StandsOn (cores_at epochs e) (cores_at (set epochs k new) e)) same
+    (subst (λ (old : Option Cores). StandsOn old (cores_at (set epochs k new) k)) (get_or_default epochs k default None below)
+    (subst (λ (now : Option Cores). StandsOn (get_or epochs k default) now) (sym (get_or-set_same epochs k new None below)) on))
+
+-- a lane of which one epoch stands for what it stood for, and the others have not changed
+pub stands_there : (l : LaneView) (epochs : List (Option Cores)) (e : ℕ) → ((k : ℕ) → (k ≡ e → ⊥) → cores_at epochs k ≡ cores_at l.epochs k)
+    → StandsOn (cores_at l.epochs e) (cores_at epochs e) → KeepsStanding l (record l { epochs = epochs })
+stands_there l epochs e others on = λ own heard stands. record {
+  idle = stands.idle;
+  each = λ k below. elim (cases_eq k e) [
+    | inl same ↦
+        subst (λ (k : ℕ). StandsAt k (cores_at epochs k) own heard) (sym same)
+        (on.stands e own heard (subst (λ (k : ℕ). StandsAt k (cores_at l.epochs k) own heard) same (stands.each k below)))
+    | inr other ↦ subst (λ (place : Option Cores). StandsAt k place own heard) (sym (others k other)) (stands.each k below)
+  ];
+}
+
 pub open_for : (c : Numbers) (i j e : ℕ) (place : Option Cores) (from : ℕ) → AreAtEpoch c i j e place → is_some place ≡ true → from < c.n → IsOpenFor place from
 open_for c i j e None from at is below = absurd (cc (is))
 open_for c i j e (Some cores) from at is below = (
@@ -174,10 +195,13 @@ open_for c i j e (Some cores) from at is below = (
   subst (λ (p : agreement.Place). from < p.config.n) (sym at.aba) below,
 )
 
-pub has_room : (c : Numbers) (i j e : ℕ) (place : Option Cores) (spare : ℕ) → AreAtEpoch c i j e place → is_some place ≡ true → 7 * c.rounds + 1 ≤ spare
-    → HasRoom place spare
-has_room c i j e None spare at is room = absurd (cc (is))
-has_room c i j e (Some cores) spare at is room = subst (λ (p : agreement.Place). 7 * p.config.rounds + 1 ≤ spare) (sym at.aba) room
+pub has_room : (c : Numbers) (i j e : ℕ) (place : Option Cores) (vote : Vote) (spare : ℕ) → AreAtEpoch c i j e place → is_some place ≡ true
+    → (if is_for_broadcast vote then 7 * c.rounds + 1 + c.n + 2 else 7 * c.rounds + 1) ≤ spare → HasRoom place vote spare
+has_room c i j e None vote spare at is room = absurd (cc (is))
+has_room c i j e (Some cores) vote spare at is room =
+    subst (λ (p : agreement.Place). (if is_for_broadcast vote then 7 * p.config.rounds + 1 + (broadcast.place_of cores.rbc).config.n + 2
+    else 7 * p.config.rounds + 1) ≤ spare) (sym at.aba)
+    (subst (λ (p : broadcast.Place). (if is_for_broadcast vote then 7 * c.rounds + 1 + p.config.n + 2 else 7 * c.rounds + 1) ≤ spare) (sym at.rbc) room)
 
 -- ---- a hearing
 

@@ -1,5 +1,5 @@
 -- What follows from a result that is handed on.
-use Rattle.std.specs.Prelude.{Result, Ok, Err, OnOk, OnErr}
+use Rattle.std.specs.Prelude.{Result, Ok, Err, IsOk, OnOk, OnErr}
 
 pub on_ok : {A E : Type 0} (r : Result A E) (P Q : Type 0) → (P → Q) → OnOk r P → OnOk r Q
 on_ok (Ok a) P Q f h = f h
@@ -16,3 +16,11 @@ either_way (Err e) P Q R one two ok err = two err
 pub both_ok : {A E : Type 0} (r : Result A E) (P Q : Type 0) → OnOk r P → OnOk r Q → OnOk r (P × Q)
 both_ok (Ok a) P Q one two = (one, two)
 both_ok (Err e) P Q one two = tt
+
+pub err_not : {A E : Type 0} (r : Result A E) (P : Type 0) → IsOk r → OnErr r P
+err_not (Ok a) P ok = tt
+err_not (Err e) P ok = absurd (cc (ok))
+
+pub any_err : {A E : Type 0} (r : Result A E) (P : Type 0) → P → OnErr r P
+any_err (Ok a) P p = tt
+any_err (Err e) P p = p

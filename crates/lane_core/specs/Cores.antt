@@ -1,5 +1,5 @@
 -- What a lane has of one epoch. The letters: lane j of node i, epoch e.
-use Rattle.std.specs.Prelude.{◌≡◌, ℕ, ◌+◌, ◌*◌, ◌<◌, Bool, List, [], ◌∷◌, ◌++◌, Option, None, Some, filter}
+use Rattle.std.specs.Prelude.{◌≡◌, ℕ, ◌+◌, ◌*◌, ◌<◌, Bool, List, [], ◌∷◌, ◌++◌, Option, None, Some, filter, if◌then◌else◌}
 use Rattle.hb_base.specs.Numbers.{Numbers}
 use Rattle.hb_wire.specs.declared.vote.Vote.{Vote}
 use Rattle.hb_wire.specs.Votes.{epoch_of}
@@ -67,3 +67,13 @@ IsNodeOf cores from = (from < (broadcast.place_of cores.rbc).config.n) × (from 
 -- for how many votes the agreement asks for room
 abbrev pub agreement_room : Cores → ℕ
 agreement_room cores = 7 * (agreement.place_of cores.aba).config.rounds + 1
+
+-- how many votes there may be by one vote that is heard: those of the agreement, and by one of the broadcast, or by a proposal,
+-- n + 2 more
+abbrev pub room_for : Cores → Vote → ℕ
+room_for cores vote =
+    if is_for_broadcast vote then agreement_room cores + (broadcast.place_of cores.rbc).config.n + 2 else agreement_room cores
+
+-- they stand for whatever they stood for
+pub record StandOn (old new : Cores) : Type 0 where
+  pub stand : (e : ℕ) (own : List Vote) (heard : List Hearing) → StandFor e old own heard → StandFor e new own heard

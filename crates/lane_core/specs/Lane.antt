@@ -1,5 +1,5 @@
 -- What the core of a lane stands for: the votes that the lane has cast and those that it has heard, of all epochs.
-use Rattle.std.specs.Prelude.{◌≡◌, ℕ, ◌+◌, ◌*◌, ◌<◌, ◌≤◌, Bool, true, List, [], ◌∷◌, ◌++◌, length, Option, None, Some, slice_index_or, is_some}
+use Rattle.std.specs.Prelude.{◌≡◌, ℕ, ◌+◌, ◌*◌, ◌<◌, ◌≤◌, Bool, true, List, [], ◌∷◌, ◌++◌, length, Option, None, Some, slice_index_or, is_some, if◌then◌else◌}
 use Rattle.hb_base.specs.Numbers.{Numbers}
 use Rattle.hb_wire.specs.declared.vote.Vote.{Vote}
 use Rattle.hb_rules.specs.Hearing.{Hearing}
@@ -7,7 +7,7 @@ use Rattle.hb_rules.specs.Slots.{Slot, IsIdle, IsOwed}
 use Rattle.hb_rules.specs.Owing.{lane_slots}
 use Rattle.hb_rules.specs.Terms.{Terms, terms_of}
 use Rattle.lane_core.specs.declared.cores.Cores.{Cores}
-use Rattle.lane_core.specs.Cores.{AreAt, StandsAt, HearsInEpoch, IsNodeOf, agreement_room}
+use Rattle.lane_core.specs.Cores.{is_for_broadcast, AreAt, StandsAt, HearsInEpoch, IsNodeOf, room_for}
 
 -- whose lane it is, of which run, and what it has of each epoch
 pub record LaneView : Type 0 where
@@ -69,9 +69,12 @@ KeepsStanding old new = (own : List Vote) (heard : List Hearing) → Stands old 
 
 -- ---- parts of the calls
 
--- for how many votes the agreement of an epoch asks for room
+-- for how many votes the agreement of an epoch asks for room, and for how many the lane asks by the vote that it hears
 abbrev pub room_at : LaneView → ℕ
 room_at l = 7 * l.config.rounds + 1
+
+abbrev pub room_by : LaneView → Vote → ℕ
+room_by l vote = if is_for_broadcast vote then room_at l + l.config.n + 2 else room_at l
 
 -- node and lane are of the run, the deal is that of the run, and what there is of each epoch is of the lane
 pub record IsLane (c : Numbers) (i j : ℕ) (deal : Numbers) (epochs : List (Option Cores)) : Type 0 where
@@ -101,10 +104,14 @@ abbrev pub HearsAt : Option Cores → Option Cores → Hearing → List Vote →
 HearsAt (Some old) (Some new) h before after = HearsInEpoch old new h before after
 HearsAt _ _ h before after = ⊥
 
--- there is room for all votes of the agreement of the epoch
-abbrev pub HasRoom : Option Cores → ℕ → Type 0
-HasRoom None spare = ⊥
-HasRoom (Some cores) spare = agreement_room cores ≤ spare
+-- there are cores, and there is room for all votes that they may make due by this one
+abbrev pub HasRoom : Option Cores → Vote → ℕ → Type 0
+HasRoom None vote spare = ⊥
+HasRoom (Some cores) vote spare = room_for cores vote ≤ spare
+
+-- what there is of an epoch stands for whatever it stood for
+pub record StandsOn (old new : Option Cores) : Type 0 where
+  pub stands : (e : ℕ) (own : List Vote) (heard : List Hearing) → StandsAt e old own heard → StandsAt e new own heard
 
 -- What there is of the epochs below n at a lane that has cast these votes and has heard nothing since. It stands for them
 -- where they leave nothing owed.

@@ -1,4 +1,4 @@
-ghost use Rattle.std.specs.Prelude.{◌≡◌, ◌<◌, ◌≤◌, true, false, [], ◌++◌, filter, length, IsOk, IfOk, OnOk, OnErr};
+ghost use Rattle.std.specs.Prelude.{◌≡◌, ◌<◌, ◌≤◌, true, false, [], filter, drop, length, IsOk, IfOk, OnOk, OnErr};
 ghost use Rattle.std.specs.List.{list_any};
 ghost use Rattle.hb_wire.specs.Votes.{epoch_of};
 ghost use Rattle.hb_rules.specs.Claims.{is_any_delivery};
@@ -8,7 +8,7 @@ ghost use Rattle.hb_rules.specs.Parts.{read_in_agreement};
 ghost use Rattle.hb_rules.specs.Slots.{IsIdle};
 ghost use Rattle.hb_rules.specs.Terms.{AreSpelled};
 ghost use Rattle.rbc_core.specs.Broadcast.{IsShort};
-ghost use Rattle.lane_core.specs.Cores.{is_for_broadcast, is_for_agreement, AreAt, StayAt, StandFor, HearsInEpoch, IsNodeOf, agreement_room};
+ghost use Rattle.lane_core.specs.Cores.{is_for_broadcast, is_for_agreement, AreAt, StayAt, StandFor, StandOn, HearsInEpoch, IsNodeOf, room_for};
 
 use aba_core::Aba;
 use coin_deal::Deal;
@@ -53,8 +53,8 @@ impl Cores {
     }
 
     // Hears a vote of the epoch that node `from` has cast, and adds the votes that it makes due: first those of the
-    // broadcast, then those of the agreement, which a delivery starts. Want of memory adds no vote; the cores are of no use
-    // then.
+    // broadcast, then those of the agreement, which a delivery starts. There is room for all of them, so only a vote of the
+    // broadcast, or a proposal, can want memory. Want of memory changes nothing for which the cores stand.
     pub(crate) fn hear(
         &mut self,
         alloc: Global,
@@ -64,10 +64,12 @@ impl Cores {
     ) -> Result<(), AllocError>
         requires from { IsNodeOf self.old from }
         requires short { IsShort vote.now }
+        requires room { room_for self.old vote.now ≤ due.old.spare }
         ensures ok { OnOk result (HearsInEpoch self.old self.new (hearing from vote.now) due.old.votes due.new.votes) }
         ensures due { OnErr result (due.new.votes ≡ due.old.votes) }
+        ensures kept { OnErr result (StandOn self.old self.new) }
         ensures at { StayAt self.old self.new }
-        ensures room { is_for_broadcast vote.now ≡ false → agreement_room self.old ≤ due.old.spare → IsOk result }
+        ensures room { is_for_broadcast vote.now ≡ false → IsOk result }
     {
         if is_for_broadcast(vote) {
             self.hear_broadcast(alloc, from, vote, due)
@@ -78,7 +80,7 @@ impl Cores {
         }
     }
 
-    // Hears a vote of the broadcast, or a proposal.
+    // Hears a vote of the broadcast, or a proposal, and tells the agreement if the lane delivers by it.
     fn hear_broadcast(
         &mut self,
         alloc: Global,
@@ -89,32 +91,15 @@ impl Cores {
         requires from { IsNodeOf self.old from }
         requires short { IsShort vote.now }
         requires kind { is_for_broadcast vote.now ≡ true }
+        requires room { room_for self.old vote.now ≤ due.old.spare }
         ensures ok { OnOk result (HearsInEpoch self.old self.new (hearing from vote.now) due.old.votes due.new.votes) }
         ensures due { OnErr result (due.new.votes ≡ due.old.votes) }
+        ensures kept { OnErr result (StandOn self.old self.new) }
         ensures at { StayAt self.old self.new }
     {
-        let mut votes = Due::new(alloc);
-        self.pass_on(alloc, from, vote, &mut votes)?;
-        add_all(alloc, votes.votes(), due)
-    }
-
-    // Hears a vote of the broadcast, or a proposal, and tells the agreement if the lane delivers by it.
-    fn pass_on(
-        &mut self,
-        alloc: Global,
-        from: u8,
-        vote: &Vote,
-        due: &mut Due,
-    ) -> Result<(), AllocError>
-        requires from { IsNodeOf self.old from }
-        requires short { IsShort vote.now }
-        requires kind { is_for_broadcast vote.now ≡ true }
-        requires none { due.old.votes ≡ [] }
-        ensures ok { OnOk result (HearsInEpoch self.old self.new (hearing from vote.now) [] due.new.votes) }
-        ensures at { StayAt self.old self.new }
-    {
+        let before = due.votes().len();
         self.rbc.hear(alloc, from, vote, due)?;
-        if has_delivery(vote.epoch(), due.votes()) {
+        if has_delivery(vote.epoch(), votes_from(due.votes(), before)) {
             self.aba.input(true, due)
         } else {
             Ok(())
@@ -126,17 +111,17 @@ impl Cores {
         requires from { IsNodeOf self.old from }
         requires kind { is_for_agreement vote.now ≡ true }
         requires other { is_for_broadcast vote.now ≡ false }
+        requires room { room_for self.old vote.now ≤ due.old.spare }
         ensures ok { OnOk result (HearsInEpoch self.old self.new (hearing from vote.now) due.old.votes due.new.votes) }
-        ensures due { OnErr result (due.new.votes ≡ due.old.votes) }
         ensures at { StayAt self.old self.new }
-        ensures room { agreement_room self.old ≤ due.old.spare → IsOk result }
+        ensures room { IsOk result }
     {
         self.aba.hear(from, vote, due)
     }
 }
 
-// Whether the broadcast of its epoch hears a vote.
-fn is_for_broadcast(vote: &Vote) -> bool
+/// Whether the broadcast of its epoch hears a vote.
+pub(crate) fn is_for_broadcast(vote: &Vote) -> bool
     ensures { result ≡ is_for_broadcast vote.now }
 {
     matches!(
@@ -173,24 +158,10 @@ fn has_delivery(epoch: u8, votes: &[Vote]) -> bool
     votes.iter().any(|vote| matches!(vote, Vote::Delivered { epoch: other, .. } if *other == epoch))
 }
 
-// Adds copies of these votes behind the others. Want of memory adds none.
-fn add_all(alloc: Global, votes: &[Vote], due: &mut Due) -> Result<(), AllocError>
-    ensures ok { OnOk result (due.new.votes ≡ due.old.votes ++ votes.now) }
-    ensures err { OnErr result (due.new.votes ≡ due.old.votes) }
+// The votes from the k-th on.
+fn votes_from(votes: &[Vote], k: usize) -> &[Vote]
+    requires { k ≤ length votes.now }
+    ensures { result.now ≡ drop k votes.now }
 {
-    let copies = votes.to_vec(alloc)?;
-    let count = u32::try_from(copies.len()).map_err(|_| AllocError)?;
-    due.reserve(count)?;
-    push_all(copies, due);
-    Ok(())
-}
-
-// Adds votes for which there is room.
-fn push_all(votes: Vec<Vote>, due: &mut Due)
-    requires { length votes.items ≤ due.old.spare }
-    ensures { due.new.votes ≡ due.old.votes ++ votes.items }
-{
-    for vote in votes {
-        due.push_reserved(vote);
-    }
+    &votes[k..]
 }

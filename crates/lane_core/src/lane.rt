@@ -11,9 +11,9 @@ ghost use Rattle.hb_rules.specs.Slots.{IsIdle};
 ghost use Rattle.hb_rules.specs.Terms.{AreSpelled};
 ghost use Rattle.rbc_core.specs.Broadcast.{IsShort};
 ghost use Rattle.lane_core.specs.Cores.{is_for_broadcast, StandsAt};
-ghost use Rattle.lane_core.specs.Lane.{slots_at, cores_at, is_open, AreAtEpoch, StaysAt, IsSameLane, Stands, Hears, IsOpenFor, HearsAt, HasRoom, Sets, Opens, AreRecovered, KeepsStanding, room_at};
+ghost use Rattle.lane_core.specs.Lane.{slots_at, cores_at, is_open, AreAtEpoch, StaysAt, IsSameLane, Stands, Hears, IsOpenFor, HearsAt, HasRoom, Sets, Opens, AreRecovered, KeepsStanding, StandsOn, room_at, room_by};
 
-use crate::cores::Cores;
+use crate::cores::{Cores, is_for_broadcast};
 use coin_deal::Deal;
 use hb_base::Config;
 use hb_rules::{Due, term_laws};
@@ -89,10 +89,10 @@ impl LaneCore {
     }
 
     /// Hears a vote that node `from` has cast, and adds the votes that it makes due: those of its epoch's broadcast, and then
-    /// those of the agreement. A vote of an epoch that the run does not have makes nothing due. Room for all votes of the
-    /// agreement of one epoch is reserved before anything changes. Want of memory adds no vote. Where a vote of the
-    /// broadcast, or a proposal, wants memory, the state is of no use then; else it stands for what it stood for. Where
-    /// something of the epoch was cast or heard, only such a vote can want memory, if there was that room.
+    /// those of the agreement. A vote of an epoch that the run does not have makes nothing due. Room for all votes that may
+    /// become due is reserved before anything changes: those of the agreement of one epoch, and by a vote of the broadcast,
+    /// or a proposal, n + 2 more. Want of memory adds no vote, and the state stands for what it stood for. Where something
+    /// of the epoch was cast or heard, only a vote of the broadcast, or a proposal, can want memory, if there was that room.
     pub fn hear_vote(
         &mut self,
         alloc: Global,
@@ -104,7 +104,7 @@ impl LaneCore {
         requires short { IsShort vote.now }
         ensures ok { OnOk result (Hears self.old self.new (hearing from vote.now) due.old.votes due.new.votes) }
         ensures due { OnErr result (due.new.votes ≡ due.old.votes) }
-        ensures kept { is_for_broadcast vote.now ≡ false → OnErr result (KeepsStanding self.old self.new) }
+        ensures kept { OnErr result (KeepsStanding self.old self.new) }
         ensures same { IsSameLane self.old self.new }
         ensures known { self.old.lane < self.old.config.n }
         ensures room { is_open self.old (epoch_of vote.now) ≡ true → is_for_broadcast vote.now ≡ false → room_at self.old ≤ due.old.spare → IsOk result }
@@ -113,16 +113,21 @@ impl LaneCore {
         if epoch >= self.config.epochs() {
             return Ok(());
         }
-        due.reserve(self.room())?;
+        due.reserve(self.room(vote))?;
         self.make_cores(alloc, epoch)?;
         self.hear_open(alloc, from, vote, due)
     }
 
-    // How many votes the agreement of an epoch makes due at most.
-    fn room(&self) -> u32
-        ensures { result ≡ room_at self.now }
+    // How many votes one that is heard makes due at most.
+    fn room(&self, vote: &Vote) -> u32
+        ensures { result ≡ room_by self.now vote.now }
     {
-        7 * self.config.rounds() as u32 + 1
+        let agreement = 7 * self.config.rounds() as u32 + 1;
+        if is_for_broadcast(vote) {
+            agreement + self.config.n() as u32 + 2
+        } else {
+            agreement
+        }
     }
 
     // Sees to it that there are cores of an epoch. Want of memory leaves what the state stands for.
@@ -168,10 +173,12 @@ impl LaneCore {
         requires epoch { epoch_of vote.now < self.old.config.epochs }
         requires from { from < self.old.config.n }
         requires short { IsShort vote.now }
+        requires room { room_by self.old vote.now ≤ due.old.spare }
         ensures ok { OnOk result (Hears self.old self.new (hearing from vote.now) due.old.votes due.new.votes) }
         ensures due { OnErr result (due.new.votes ≡ due.old.votes) }
+        ensures kept { OnErr result (KeepsStanding self.old self.new) }
         ensures same { IsSameLane self.old self.new }
-        ensures room { is_for_broadcast vote.now ≡ false → room_at self.old ≤ due.old.spare → IsOk result }
+        ensures room { is_for_broadcast vote.now ≡ false → IsOk result }
     {
         hear_in(alloc, &mut self.epochs, from, vote, due)
     }
@@ -293,13 +300,15 @@ fn hear_in(
 ) -> Result<(), AllocError>
     requires cores { IsOpenFor (cores_at epochs.old (epoch_of vote.now)) from }
     requires short { IsShort vote.now }
+    requires room { HasRoom (cores_at epochs.old (epoch_of vote.now)) vote.now due.old.spare }
     ensures ok { OnOk result (HearsAt (cores_at epochs.old (epoch_of vote.now)) (cores_at epochs.new (epoch_of vote.now))
         (hearing from vote.now) due.old.votes due.new.votes) }
     ensures at { StaysAt (cores_at epochs.old (epoch_of vote.now)) (cores_at epochs.new (epoch_of vote.now)) }
     ensures count { length epochs.new ≡ length epochs.old }
     ensures others { (k : ℕ) → k ≢ epoch_of vote.now → cores_at epochs.new k ≡ cores_at epochs.old k }
     ensures due { OnErr result (due.new.votes ≡ due.old.votes) }
-    ensures room { is_for_broadcast vote.now ≡ false → HasRoom (cores_at epochs.old (epoch_of vote.now)) due.old.spare → IsOk result }
+    ensures kept { OnErr result (StandsOn (cores_at epochs.old (epoch_of vote.now)) (cores_at epochs.new (epoch_of vote.now))) }
+    ensures room { is_for_broadcast vote.now ≡ false → IsOk result }
 {
     let epoch = vote.epoch() as usize;
     hear_at(alloc, &mut epochs[epoch], from, vote, due)
@@ -315,10 +324,12 @@ fn hear_at(
 ) -> Result<(), AllocError>
     requires cores { IsOpenFor place.old from }
     requires short { IsShort vote.now }
+    requires room { HasRoom place.old vote.now due.old.spare }
     ensures ok { OnOk result (HearsAt place.old place.new (hearing from vote.now) due.old.votes due.new.votes) }
     ensures at { StaysAt place.old place.new }
     ensures due { OnErr result (due.new.votes ≡ due.old.votes) }
-    ensures room { is_for_broadcast vote.now ≡ false → HasRoom place.old due.old.spare → IsOk result }
+    ensures kept { OnErr result (StandsOn place.old place.new) }
+    ensures room { is_for_broadcast vote.now ≡ false → IsOk result }
 {
     match place {
         Some(cores) => cores.hear(alloc, from, vote, due),

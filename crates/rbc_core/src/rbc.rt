@@ -113,7 +113,7 @@ impl Rbc {
     /// Hears a vote that node `from` has cast, and adds the votes that it makes due. It does not heed a vote of another
     /// epoch or kind, a Val of another node than the sender or for another node, a Val or an Echo whose branch is not valid,
     /// or a proposal of another node. Want of memory changes nothing; a Ready for a known root that makes no delivery due
-    /// takes none where there is room for one vote.
+    /// takes none where there is room for one vote. Of the room that there was it uses that of n + 2 votes at most.
     pub fn hear(
         &mut self,
         alloc: Global,
@@ -127,6 +127,7 @@ impl Rbc {
         ensures err { OnErr result (Keeps self.old self.new) }
         ensures due { OnErr result (due.new.votes ≡ due.old.votes) }
         ensures enough { IsFurtherReady self.old from vote.now → 1 ≤ due.old.spare → IsOk result }
+        ensures room { due.old.spare ≤ due.new.spare + (place_of self.old).config.n + 2 }
     {
         if vote.epoch() != self.epoch {
             return Ok(());
@@ -204,6 +205,7 @@ impl Rbc {
         ensures ok { OnOk result (Hears self.old self.new (hearing from (Propose self.old.epoch value.now)) due.old.votes due.new.votes) }
         ensures err { OnErr result (Keeps self.old self.new) }
         ensures due { OnErr result (due.new.votes ≡ due.old.votes) }
+        ensures room { due.old.spare ≤ due.new.spare + (place_of self.old).config.n }
     {
         if from != self.node || self.node != self.lane {
             return Ok(());
@@ -233,6 +235,7 @@ impl Rbc {
             (hearing from (Val self.old.epoch target root.now shard.now branch.now)) due.old.votes due.new.votes) }
         ensures err { OnErr result (Keeps self.old self.new) }
         ensures due { OnErr result (due.new.votes ≡ due.old.votes) }
+        ensures room { due.old.spare ≤ due.new.spare + 1 }
     {
         if from != self.lane || target != self.node {
             return Ok(());
@@ -269,6 +272,7 @@ impl Rbc {
             (hearing from (Echo self.old.epoch root.now shard.now branch.now)) due.old.votes due.new.votes) }
         ensures err { OnErr result (Keeps self.old self.new) }
         ensures due { OnErr result (due.new.votes ≡ due.old.votes) }
+        ensures room { due.old.spare ≤ due.new.spare + 2 }
     {
         if !self.is_valid(from, root, shard, branch) {
             return Ok(());
@@ -303,6 +307,7 @@ impl Rbc {
             (hearing from (Ready self.old.epoch root.now)) due.old.votes due.new.votes) }
         ensures err { OnErr result (Keeps self.old self.new) }
         ensures due { OnErr result (due.new.votes ≡ due.old.votes) }
+        ensures room { due.old.spare ≤ due.new.spare + 2 }
         ensures enough { is_some (found self.old.roots root.now) ≡ true → MakesNoDelivery self.old from root.now → 1 ≤ due.old.spare → IsOk result }
     {
         let n = self.roots.config().n();
@@ -352,6 +357,7 @@ impl Rbc {
         requires { length (votes_in self.old.epoch root.now votes) ≤ due.old.spare }
         ensures votes { due.new.votes ≡ due.old.votes ++ votes_in self.old.epoch root.now votes }
         ensures state { self.new ≡ after_votes self.old votes }
+        ensures room { due.old.spare ≤ due.new.spare + 2 }
     {
         let RootVotes {
             is_ready_due,
@@ -390,6 +396,7 @@ fn root_votes(
     ensures delivered { IfOk result (λ v. v.delivered ≡ (if is_delivery_due then option_copied value.entry else None)) }
     ensures room { OnOk result ((if is_ready_due then 1 else 0) + (if is_delivery_due then 1 else 0) ≤ due.new.spare) }
     ensures votes { due.new.votes ≡ due.old.votes }
+    ensures no_less { due.old.spare ≤ due.new.spare }
     ensures enough { is_delivery_due ≡ false → 1 ≤ due.old.spare → IsOk result }
 {
     due.reserve(count_of(is_ready_due, is_delivery_due))?;
@@ -406,6 +413,7 @@ fn push_some(vote: Option<Vote>, due: &mut Due)
     requires { length (option_to_list vote) ≤ due.old.spare }
     ensures votes { due.new.votes ≡ due.old.votes ++ option_to_list vote }
     ensures room { due.new.spare + length (option_to_list vote) ≡ due.old.spare }
+    ensures one { due.old.spare ≤ due.new.spare + 1 }
 {
     match vote {
         Some(vote) => due.push_reserved(vote),
@@ -439,7 +447,8 @@ fn push_vals(epoch: u8, shards: Vec<Bytes>, tree: &Tree, cast: &NodeSet, due: &m
     requires tree { tree.now ≡ leaf_digests shards.items }
     requires few { length shards.items ≤ most_nodes }
     requires room { length shards.items ≤ due.old.spare }
-    ensures { due.new.votes ≡ due.old.votes ++ missing_vals epoch shards.items cast.now (length shards.items) }
+    ensures votes { due.new.votes ≡ due.old.votes ++ missing_vals epoch shards.items cast.now (length shards.items) }
+    ensures room { due.old.spare ≤ due.new.spare + length shards.items }
 {
     let mut target = 0u8;
     for shard in shards {

@@ -8,5 +8,6 @@ invariant-loop-shard l = record {
   target : l.target ≡ length l.yielded;
   split : l.yielded ++ into_iter_items l.shard-iterator ≡ l.fn.shards.items;
   room : length l.fn.shards.items ≤ l.due.spare + l.target;
+  spent : l.initial.due.spare ≤ l.due.spare + l.target;
   votes : l.due.votes ≡ l.initial.due.votes ++ missing_vals l.epoch l.fn.shards.items l.cast l.target;
 }

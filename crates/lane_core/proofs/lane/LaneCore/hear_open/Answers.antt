@@ -4,9 +4,9 @@ use Rattle.std.proofs.lemmas.List.{with_items_is}
 use Rattle.hb_wire.specs.Votes.{epoch_of}
 use Rattle.hb_rules.specs.Hearing.{hearing}
 use Rattle.lane_core.specs.declared.cores.Cores.{Cores}
-use Rattle.lane_core.specs.Lane.{LaneView, ArePlaced, StaysAt, cores_at, Hears, HearsAt}
-use Rattle.lane_core.proofs.Results.{on_ok}
-use Rattle.lane_core.proofs.Lanes.{ArePlaced-stay, hears_there}
+use Rattle.lane_core.specs.Lane.{LaneView, ArePlaced, StaysAt, StandsOn, KeepsStanding, cores_at, Hears, HearsAt}
+use Rattle.lane_core.proofs.Results.{on_ok, on_err}
+use Rattle.lane_core.proofs.Lanes.{ArePlaced-stay, hears_there, stands_there}
 use Rattle.lane_core.proofs.lane.LaneCore.hear_open.Goals as goal
 
 pub invariant_of-self : goal.invariant_of-self
@@ -46,3 +46,19 @@ returns-clause-ok c =
     (subst (λ (had : List (Option Cores)). (k : ℕ) → (k ≡ e → ⊥) → cores_at c.hear_in.new.epochs k ≡ cores_at had k) c.deref_mut.ensures.value c.hear_in.ensures.others)
     (subst (λ (had : List (Option Cores)). HearsAt (cores_at had e) (cores_at c.hear_in.new.epochs e) h before after) c.deref_mut.ensures.value hears))))
     c.hear_in.ensures.ok
+
+pub returns-clause-kept : goal.returns-clause-kept
+returns-clause-kept c =
+    let e : ℕ = epoch_of c.args.vote.now in
+    let keeps : (with_items c.self.inside.epochs c.hear_in.new.epochs).items ≡ c.hear_in.new.epochs =
+    with_items_is c.self.inside.epochs c.hear_in.new.epochs (omega (arith, c.hear_in.ensures.count, c.deref_mut.ensures.len, c.self.inside.epochs.ok.0)) in
+    let l : LaneView =
+    record { config = c.self.inside.config; node = c.self.inside.node; lane = c.self.inside.lane; epochs = c.self.inside.epochs.items } in
+    on_err c.hear_in.result (StandsOn (cores_at c.deref_mut.result.now e) (cores_at c.hear_in.new.epochs e)) _
+    (λ on.
+    subst (λ (old : LaneView). KeepsStanding old (record l { epochs = (with_items c.self.inside.epochs c.hear_in.new.epochs).items })) c.self.view_is
+    (subst (λ (epochs : List (Option Cores)). KeepsStanding l (record l { epochs = epochs })) (sym keeps)
+    (stands_there l c.hear_in.new.epochs e
+    (subst (λ (had : List (Option Cores)). (k : ℕ) → (k ≡ e → ⊥) → cores_at c.hear_in.new.epochs k ≡ cores_at had k) c.deref_mut.ensures.value c.hear_in.ensures.others)
+    (subst (λ (had : List (Option Cores)). StandsOn (cores_at had e) (cores_at c.hear_in.new.epochs e)) c.deref_mut.ensures.value on))))
+    c.hear_in.ensures.kept

@@ -3,7 +3,7 @@ use Rattle.hb_wire.specs.Votes.{epoch_of}
 use Rattle.hb_rules.specs.Hearing.{hearing}
 use Rattle.lane_core.specs.Lane.{LaneView, Opens, Hears}
 use Rattle.hb_wire.specs.declared.vote.Vote.{Vote}
-use Rattle.lane_core.proofs.Results.{on_ok}
+use Rattle.lane_core.proofs.Results.{on_ok, on_err}
 use Rattle.lane_core.proofs.Lanes.{Hears-outside, Hears-opened}
 use Rattle.lane_core.proofs.lane.LaneCore.hear_vote.Goals as goal
 
@@ -22,3 +22,9 @@ returns-clause-ok c =
     c.reserve.new.self.votes c.hear_open.new.due.votes
     (subst (λ (k : ℕ). Opens c.args.self.now c.make_cores.new.self k) c.epoch-epoch.ensures c.in_ok-make_cores.ensures.ok) hears))
     c.hear_open.ensures.ok
+
+pub returns-clause-kept : goal.returns-clause-kept
+returns-clause-kept c =
+    on_err c.hear_open.result _ _
+    (λ keeps own heard stands. keeps own heard (c.in_ok-make_cores.ensures.ok.stands own heard stands))
+    c.hear_open.ensures.kept

@@ -1,4 +1,4 @@
-use Rattle.std.proofs.Common.{◌≡◌, ◌∙◌, ◌++◌, ◌||◌, nat_lt, length, ap, List, ℕ}
+use Rattle.std.proofs.Common.{◌≡◌, ◌∙◌, ◌++◌, ◌||◌, nat_lt, length, ap, List, ℕ, arith}
 use Rattle.hb_base.specs.Numbers.{Numbers}
 use Rattle.hb_base.specs.NodeSet.{is_in}
 use Rattle.hb_wire.specs.declared.vote.Vote.{Vote}
@@ -19,6 +19,12 @@ returns-then-from-self-clause-ok c =
       | then-from-self-via-else-from-self+then-self w ↦ w.if-self.true lane
     ]))
 
+pub returns-clause-room : goal.returns-clause-room
+returns-clause-room c =
+    let n : c.n-n.result ≡ c.self.inside.roots.config.n = c.n-n.ensures.value ∙ ap (λ (v : Numbers). v.n) c.config.ensures in
+    let count : length c.in_ok-shards.shards.items ≡ c.self.inside.roots.config.n = c.in_ok-shards.ensures.encoding.codeword.count ∙ n in
+    rw (← c.self.view_is) (omega (arith, c.reserve.ensures.no_less, c.push_vals.ensures.room, count))
+
 pub returns-clause-ok : goal.returns-clause-ok
 returns-clause-ok c =
     let config = c.self.inside.roots.config in
@@ -31,7 +37,7 @@ returns-clause-ok c =
     rw (← c.self.view_is, c.if-from-self.false) (Hears-proposal _ c.add_below.new.nodes c.args.value.now c.args.due.now.votes c.push_vals.new.due.votes
     c.if-self.false c.self.invariant
     (λ m. c.add_below.ensures m ∙ ap (λ (n : ℕ). nat_lt m n || is_in c.self.inside.vals m) n)
-    (c.push_vals.ensures
+    (c.push_vals.ensures.votes
     ∙ ap (λ (votes : List Vote). votes ++ missing_vals c.self.inside.epoch c.in_ok-shards.shards.items c.self.inside.vals (length c.in_ok-shards.shards.items)) c.reserve.ensures.votes
     ∙ ap (λ (m : ℕ). c.args.due.now.votes ++ missing_vals c.self.inside.epoch c.in_ok-shards.shards.items c.self.inside.vals m) count
     ∙ ap (λ (xs : List (List ℕ)). c.args.due.now.votes ++ missing_vals c.self.inside.epoch xs c.self.inside.vals config.n) shards))
