@@ -1,0 +1,10 @@
+mod Actors
+mod Adding
+mod Epochs
+mod Heard
+mod Judging
+mod Kept
+mod Next
+mod Places
+mod Rounds
+mod Same
