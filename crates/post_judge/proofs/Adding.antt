@@ -83,13 +83,13 @@ told_later c seen post p t told = record {
 
 -- a post that was read, and put at its places
 pub AreTold-push : (c : Numbers) (seen : List Post) (old mid new : BTreeMap Place Bucket) (t : Told) → AreTold c seen old
-    → spelled c t.post ≡ Some t.vote → Adds old mid (cast_place c t.post) t → Adds mid new (told_place c t.post t.vote) t
+    → spelled c t.post ≡ Some t.vote → Adds old mid (cast_place c t.post t.vote) t → Adds mid new (told_place c t.post t.vote) t
     → AreTold c (seen ++ t.post ∷ []) new
 AreTold-push c seen old mid new t are is cast told = record { right = right; all = all }
   where
     right : (p : Place) (u : Told) → Contains (told_at new p) u → IsTold c (seen ++ t.post ∷ []) p u
     right p u stands = elim (there_from mid new (told_place c t.post t.vote) t told p u stands) [
-      | inl between ↦ elim (there_from old mid (cast_place c t.post) t cast p u between) [
+      | inl between ↦ elim (there_from old mid (cast_place c t.post t.vote) t cast p u between) [
         | inl before ↦ told_later c seen t.post p u (are.right p u before)
         | inr new_cast ↦
             subst (IsTold c (seen ++ t.post ∷ []) p) new_cast.0
@@ -109,16 +109,16 @@ AreTold-push c seen old mid new t are is cast told = record { right = right; all
     all p u is_told = elim (Contains-push_cases seen t.post u.post is_told.stands) [
       | inl before ↦
           kept_there mid new (told_place c t.post t.vote) t told p u
-          (kept_there old mid (cast_place c t.post) t cast p u
+          (kept_there old mid (cast_place c t.post t.vote) t cast p u
           (are.all p u (record { stands = before; is = is_told.is; placed = is_told.placed })))
       | inr now ↦
           let one : t ≡ u = same_told u now is_told.is in
-          subst (λ (v : Told). Contains (told_at new p) v) one (placed p (subst (λ (v : Told). (cast_place c v.post ≡ Some p) ⊎ (told_place c v.post v.vote ≡ Some p)) (sym one) is_told.placed))
+          subst (λ (v : Told). Contains (told_at new p) v) one (placed p (subst (λ (v : Told). (cast_place c v.post v.vote ≡ Some p) ⊎ (told_place c v.post v.vote ≡ Some p)) (sym one) is_told.placed))
     ]
       where
-        placed : (p : Place) → (cast_place c t.post ≡ Some p) ⊎ (told_place c t.post t.vote ≡ Some p) → Contains (told_at new p) t
+        placed : (p : Place) → (cast_place c t.post t.vote ≡ Some p) ⊎ (told_place c t.post t.vote ≡ Some p) → Contains (told_at new p) t
         placed p (inl there) =
-            kept_there mid new (told_place c t.post t.vote) t told p t (put_there old mid (cast_place c t.post) t cast p there)
+            kept_there mid new (told_place c t.post t.vote) t told p t (put_there old mid (cast_place c t.post t.vote) t cast p there)
         placed p (inr there) = put_there mid new (told_place c t.post t.vote) t told p there
 
 -- a post that spells nothing

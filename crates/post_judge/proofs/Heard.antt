@@ -1,14 +1,14 @@
 -- What a table of posts has for an actor is what the actor has cast, and what it hears and a rule looks at. The letters: actor x of node i.
-use Rattle.std.proofs.Common.{◌≡◌, ◌≢◌, ◌⊎◌, ℕ, ◌<◌, Bool, true, false, ◌&&◌, ◌==◌, inl, inr, List, [], ◌∷◌, ◌++◌, Contains, Option, None, Some, map, filter_map, if◌then◌else◌, refl, sym, ap, ◌∙◌, subst, arith}
+use Rattle.std.proofs.Common.{◌≡◌, ◌≢◌, ◌⊎◌, ℕ, ◌<◌, ◌≤◌, nat_lt, Bool, true, false, ◌&&◌, ◌==◌, inl, inr, List, [], ◌∷◌, ◌++◌, Contains, Option, None, Some, map, filter_map, if◌then◌else◌, refl, sym, ap, ◌∙◌, subst, arith}
 use Rattle.std.specs.BTreeMap.{BTreeMap}
 use Rattle.std.specs.List.{list_any, flat_map}
-use Rattle.std.proofs.lemmas.Bool.{and_parts, and_from, eqb-true, false_from_ne_true, both_ways}
+use Rattle.std.proofs.lemmas.Bool.{le-ltb, and_parts, and_from, eqb-true, false_from_ne_true, both_ways}
 use Rattle.std.proofs.lemmas.Option.{cond_some}
 use Rattle.std.proofs.lemmas.List.Elements.{All-weaker, All-contains_itself, recursion_from_All, Contains-append_left, Contains-append_right, Contains-append_cases}
 use Rattle.hb_base.specs.NodeSet.{is_in}
 use Rattle.hb_base.specs.Numbers.{Numbers}
 use Rattle.hb_wire.specs.Addresses.{reaches}
-use Rattle.hb_wire.specs.Votes.{address_of}
+use Rattle.hb_wire.specs.Votes.{address_of, epoch_of}
 use Rattle.hb_wire.specs.declared.post.Post.{Post}
 use Rattle.hb_wire.specs.declared.vote.To.TheVariants.{Home}
 use Rattle.hb_wire.specs.declared.vote.Vote.{Vote}
@@ -27,9 +27,11 @@ use Rattle.broadcast_judge.specs.Checked.{is_checked, AreChecked}
 use Rattle.post_judge.specs.declared.place.Place.{Place}
 use Rattle.post_judge.specs.declared.told.Told.{Told}
 use Rattle.post_judge.specs.declared.told.Bucket.{Bucket}
-use Rattle.post_judge.specs.Places.{own_place, heard_place, is_told, counts, told_place, cast_place}
+use Rattle.post_judge.specs.declared.place.Topic.TheVariants as topics
+use Rattle.post_judge.specs.Places.{place, own_place, heard_place, is_told, counts, told_place, cast_place}
 use Rattle.post_judge.specs.Tables.{told_at, own_votes, told_to, told_from, IsTold, AreTold}
 use Rattle.post_judge.proofs.Kept.{AreKept}
+use Rattle.post_judge.proofs.OwnEpoch.{AreAlike}
 use Rattle.post_judge.proofs.Places.{ListensAt, IsToldAs, told_heeded, not_own, heeded_told, same_lane}
 
 -- ---- lists
@@ -73,52 +75,80 @@ cond_some_place : (b : Bool) (o : Option Place) (p : Place) → (if b then o els
 cond_some_place true o p h = (refl, h)
 cond_some_place false o p h = absurd (cc (h))
 
--- lists of the same votes are told apart by no test
-same_votes : (one other : List Vote) → ((v : Vote) → Contains one v → Contains other v) → ((v : Vote) → Contains other v → Contains one v)
-    → AreSame one other
-same_votes one other there back = record { tests = λ test. by test (list_any test one) refl (list_any test other) refl }
+-- a test that the same votes of two lists pass
+same_test : (one other : List Vote) (test : Vote → Bool) → ((v : Vote) → Contains one v → test v ≡ true → Contains other v)
+    → ((v : Vote) → Contains other v → test v ≡ true → Contains one v) → list_any test one ≡ list_any test other
+same_test one other test there back = by (list_any test one) refl (list_any test other) refl
   where
-    by : (test : Vote → Bool) (a : Bool) → list_any test one ≡ a → (b : Bool) → list_any test other ≡ b → list_any test one ≡ list_any test other
-    by test true h b g =
-        let found = any_stands test one h in h ∙ sym (list_any-from test other found.0 (there found.0 found.1) found.2)
-    by test false h true g =
+    by : (a : Bool) → list_any test one ≡ a → (b : Bool) → list_any test other ≡ b → list_any test one ≡ list_any test other
+    by true h b g =
+        let found = any_stands test one h in
+        h ∙ sym (list_any-from test other found.0 (there found.0 found.1 found.2) found.2)
+    by false h true g =
         let found = any_stands test other g in
-        absurd (both_ways (list_any test one) h (list_any-from test one found.0 (back found.0 found.1) found.2))
-    by test false h false g = h ∙ sym g
+        absurd (both_ways (list_any test one) h (list_any-from test one found.0 (back found.0 found.1 found.2) found.2))
+    by false h false g = h ∙ sym g
 
 -- ---- what an actor has cast
 
 module _ (c : Numbers) (seen : List Post) (table : BTreeMap Place Bucket) (are : AreTold c seen table) (i x : ℕ) where
-  own_right : (v : Vote) → Contains (own_votes i x table) v → Contains (own_in c i x seen) v
-  own_right v stands =
-      let found = mapped_of (λ (t : Told). t.vote) (told_at table (own_place i x)) v stands in
-      let told = are.right (own_place i x) found.0 found.1 in
+  -- what the table has at the place of a vote the actor has cast
+  pub own_right : (vote v : Vote) → Contains (own_votes c.n i x vote table) v → Contains (own_in c i x seen) v
+  own_right vote v stands =
+      let found = mapped_of (λ (t : Told). t.vote) (told_at table (own_place c.n i x vote)) v stands in
+      let told = are.right (own_place c.n i x vote) found.0 found.1 in
       subst (λ (w : Vote). Contains (own_in c i x seen) w) found.2 (cast_stands c i x seen found.0.post found.0.vote told.stands (by found.0 told told.placed))
     where
-      by : (t : Told) → IsTold c seen (own_place i x) t → (cast_place c t.post ≡ Some (own_place i x)) ⊎ (told_place c t.post t.vote ≡ Some (own_place i x))
+      by : (t : Told) → IsTold c seen (own_place c.n i x vote) t
+          → (cast_place c t.post t.vote ≡ Some (own_place c.n i x vote)) ⊎ (told_place c t.post t.vote ≡ Some (own_place c.n i x vote))
           → IsCastBy c i x t.post t.vote
       by t told (inl cast) =
-          let is = (cond_some (is_correct c t.post.from) (own_place t.post.from t.post.actor) (own_place i x) cast).1 in
+          let is = (cond_some (is_correct c t.post.from) (own_place c.n t.post.from t.post.actor t.vote) (own_place c.n i x vote) cast).1 in
           record { from = ap (λ (p : Place). p.owner) is; actor = ap (λ (p : Place). p.part) is; is = told.is }
       by t told (inr heard) =
-          absurd (not_own i x t.post.from t.post.actor t.vote
+          absurd (not_own c.n i x t.post.from t.post.actor vote t.vote
           (cond_some_place (is_within c t.vote && (is_told c.n t.post.from t.post.actor t.vote && counts c t.post.from t.post.actor t.vote))
-          (heard_place t.post.from t.post.actor t.vote) (own_place i x) heard).1)
+          (heard_place t.post.from t.post.actor t.vote) (own_place c.n i x vote) heard).1)
 
-  own_all : is_correct c i ≡ true → (v : Vote) → Contains (own_in c i x seen) v → Contains (own_votes i x table) v
-  own_all correct v stands =
+  -- and it has all that the actor of a correct node has cast at the same place
+  pub own_all : is_correct c i ≡ true → (vote v : Vote) → own_place c.n i x v ≡ own_place c.n i x vote → Contains (own_in c i x seen) v
+      → Contains (own_votes c.n i x vote table) v
+  own_all correct vote v same stands =
       let source = cast_from c i x seen v stands in
       let t : Told = record { post = source.0; vote = v } in
       let known : is_correct c source.0.from ≡ true = ap (is_correct c) source.2.from ∙ correct in
-      let place : own_place source.0.from source.0.actor ≡ own_place i x = λ k. own_place (source.2.from k) (source.2.actor k) in
-      let placed : cast_place c source.0 ≡ Some (own_place i x) =
-      ap (λ (b : Bool). if b then Some (own_place source.0.from source.0.actor) else None) known ∙ ap Some place in
-      mapped_stands (λ (t : Told). t.vote) (told_at table (own_place i x)) t
-      (are.all (own_place i x) t (record { stands = source.1; is = source.2.is; placed = inl placed }))
+      let place : own_place c.n source.0.from source.0.actor v ≡ own_place c.n i x v = λ k. own_place c.n (source.2.from k) (source.2.actor k) v in
+      let placed : cast_place c source.0 v ≡ Some (own_place c.n i x vote) =
+      ap (λ (b : Bool). if b then Some (own_place c.n source.0.from source.0.actor v) else None) known ∙ ap Some (place ∙ same) in
+      mapped_stands (λ (t : Told). t.vote) (told_at table (own_place c.n i x vote)) t
+      (are.all (own_place c.n i x vote) t (record { stands = source.1; is = source.2.is; placed = inl placed }))
 
-  -- the table has the votes that the actor of a correct node has cast
-  pub own_same : is_correct c i ≡ true → AreSame (own_votes i x table) (own_in c i x seen)
-  own_same correct = same_votes (own_votes i x table) (own_in c i x seen) own_right (own_all correct)
+  lane_all : is_correct c i ≡ true → x < c.n → (vote v : Vote) → epoch_of v ≡ epoch_of vote → Contains (own_in c i x seen) v
+      → Contains (own_votes c.n i x vote table) v
+  lane_all correct lane vote v same stands =
+      own_all correct vote v (ap (λ (e : ℕ). place topics.Own i (if nat_lt x c.n then e else 0) x) same) stands
+
+  desk_all : is_correct c i ≡ true → c.n ≤ x → (vote v : Vote) → Contains (own_in c i x seen) v → Contains (own_votes c.n i x vote table) v
+  desk_all correct above vote v stands =
+      let out : nat_lt x c.n ≡ false = le-ltb x c.n above in
+      own_all correct vote v
+      (ap (λ (b : Bool). place topics.Own i (if b then epoch_of v else 0) x) out
+      ∙ sym (ap (λ (b : Bool). place topics.Own i (if b then epoch_of vote else 0) x) out)) stands
+
+  -- it has of a lane the votes of the epoch, and of a desk all
+  pub own_lane : is_correct c i ≡ true → x < c.n → (vote : Vote) → AreAlike (epoch_of vote) (own_votes c.n i x vote table) (own_in c i x seen)
+  own_lane correct lane vote = record {
+    tests = λ test at.
+        same_test (own_votes c.n i x vote table) (own_in c i x seen) test (λ v stands passes. own_right vote v stands)
+        (λ v stands passes. lane_all correct lane vote v (at v passes) stands);
+  }
+
+  pub own_desk : is_correct c i ≡ true → c.n ≤ x → (vote : Vote) → AreSame (own_votes c.n i x vote table) (own_in c i x seen)
+  own_desk correct above vote = record {
+    tests = λ test.
+        same_test (own_votes c.n i x vote table) (own_in c i x seen) test (λ v stands passes. own_right vote v stands)
+        (λ v stands passes. desk_all correct above vote v stands);
+  }
 
   -- ---- what it hears
 
@@ -138,9 +168,9 @@ module _ (c : Numbers) (seen : List Post) (table : BTreeMap Place Bucket) (are :
       told : IsTold c seen p t
       told = are.right p t stands
 
-      by : (cast_place c t.post ≡ Some p) ⊎ (told_place c t.post t.vote ≡ Some p) → IsHeardAt p t h
+      by : (cast_place c t.post t.vote ≡ Some p) ⊎ (told_place c t.post t.vote ≡ Some p) → IsHeardAt p t h
       by (inl cast) =
-          let is = (cond_some (is_correct c t.post.from) (own_place t.post.from t.post.actor) p cast).1 in
+          let is = (cond_some (is_correct c t.post.from) (own_place c.n t.post.from t.post.actor t.vote) p cast).1 in
           absurd ((subst (ListensAt c.n i x) (sym is) listens).listens)
       by (inr heard) =
           let chosen =

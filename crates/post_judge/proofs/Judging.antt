@@ -12,7 +12,7 @@ use Rattle.hb_wire.specs.declared.vote.Vote.TheVariants.{Propose, NoMore, Closed
 use Rattle.hb_wire.proofs.Equality.{one_vote}
 use Rattle.hb_wire.proofs.VoteLemmas.{vote_again, vote_takes}
 use Rattle.hb_rules.specs.Desk.{MayAtDesk}
-use Rattle.hb_rules.specs.Hearing.{spelled, own_in, heard_in}
+use Rattle.hb_rules.specs.Hearing.{Hearing, spelled, own_in, heard_in}
 use Rattle.hb_rules.specs.History.{IsAllowed, IsCorrectPost, MayFollow, IsLegal}
 use Rattle.hb_rules.specs.Lanes.{is_correct}
 use Rattle.hb_rules.specs.Parts.{part_of}
@@ -31,27 +31,14 @@ use Rattle.post_judge.specs.declared.place.Place.{Place}
 use Rattle.post_judge.specs.Places.{casts, is_cast_ever, looked_at}
 use Rattle.post_judge.specs.Tables.{own_votes, told_from, AreTold}
 use Rattle.post_judge.proofs.Epochs.{next_in_run}
-use Rattle.post_judge.proofs.Heard.{own_same, heard_among, heard_kept}
+use Rattle.post_judge.proofs.Heard.{own_right, own_all, own_lane, own_desk, heard_among, heard_kept}
+use Rattle.post_judge.proofs.OwnEpoch.{AreAlike, in_part_alike}
 use Rattle.post_judge.proofs.Kept.{may_by_part}
 use Rattle.post_judge.proofs.Places.{looked_at-listens}
 
 -- a node below n that is no liar
 pub correct_node : (c : Numbers) (i : ℕ) → i < c.n → is_in c.liars i ≡ false → is_correct c i ≡ true
 correct_node c i known correct = rw (lt-ltb i c.n known, correct) refl
-
--- ---- lists that no test tells apart
-
-same_back : (own other : List Vote) → AreSame own other → AreSame other own
-same_back own other same = record { tests = λ test. sym (same.tests test) }
-
-same_among : (vote : Vote) (own : List Vote) → list_any (same_vote vote) own ≡ true → Contains own vote
-same_among vote own h =
-    let found = any_stands (same_vote vote) own h in
-    subst (λ (v : Vote). Contains own v) (sym ((one_vote vote found.0).0 found.2)) found.1
-
--- a vote stands in both
-stands_in : (vote : Vote) (own other : List Vote) → AreSame own other → list_any (same_vote vote) own ≡ true → Contains other vote
-stands_in vote own other same h = same_among vote other (sym (same.tests (same_vote vote)) ∙ h)
 
 -- ---- which actors cast which votes
 
@@ -81,26 +68,52 @@ cast_ever c i x vote seen sound correct legal may =
     and_from (casts c.n x vote) (nat_lt (epoch_of vote) c.epochs) (casts_such c i x (own_in c i x seen) vote seen may)
     (lt-ltb (epoch_of vote) c.epochs (next_in_run c i x seen vote sound correct legal may))
 
+-- ---- by own votes that are alike
+
+-- own votes that are alike where the actor looks: for a lane in the epoch of the vote, for a desk everywhere
+pub record AreOwn (c : Numbers) (x : ℕ) (vote : Vote) (own other : List Vote) : Type 0 where
+  pub lane : x < c.n → AreAlike (epoch_of vote) own other
+  pub desk : x ≡ c.n → AreSame own other
+
+own_back : (c : Numbers) (x : ℕ) (vote : Vote) (own other : List Vote) → AreOwn c x vote own other → AreOwn c x vote other own
+own_back c x vote own other are = record {
+  lane = λ lane. record { tests = λ test at. sym ((are.lane lane).tests test at) };
+  desk = λ last. record { tests = λ test. sym ((are.desk last).tests test) };
+}
+
+cast_own : (c : Numbers) (i x : ℕ) (vote : Vote) (own other : List Vote) (heard : List Hearing) → AreOwn c x vote own other
+    → MayCast c i x own heard vote → MayCast c i x other heard vote
+cast_own c i x vote own other heard are (inl may) =
+    inl (may.0, in_part_alike (part_of vote) own other c i x heard vote (are.lane may.0) may.1)
+cast_own c i x vote own other heard are (inr may) = cast_same own other (are.desk may.0) c i x heard vote (inr may)
+
 -- ---- by a table
+
+table_own : (c : Numbers) (seen : List Post) (table : BTreeMap Place Bucket) → AreTold c seen table → (i x : ℕ) (vote : Vote) → is_correct c i ≡ true
+    → AreOwn c x vote (own_votes c.n i x vote table) (own_in c i x seen)
+table_own c seen table are i x vote known = record {
+  lane = λ lane. own_lane c seen table are i x known lane vote;
+  desk = λ last. own_desk c seen table are i x known (omega (arith, last)) vote;
+}
 
 module _ (c : Numbers) (seen : List Post) (table : BTreeMap Place Bucket) (are : AreTold c seen table) (i x : ℕ) (vote : Vote)
     (known : is_correct c i ≡ true) (such : casts c.n x vote ≡ true) where
   -- what may be cast by what the table has may be cast
-  pub cast_sound : MayCast c i x (own_votes i x table) (told_from c i x table (looked_at c i x vote)) vote
+  pub cast_sound : MayCast c i x (own_votes c.n i x vote table) (told_from c i x table (looked_at c i x vote)) vote
       → MayCast c i x (own_in c i x seen) (heard_in c i x seen) vote
   cast_sound may =
-      cast_same (own_votes i x table) (own_in c i x seen) (own_same c seen table are i x known) c i x (heard_in c i x seen) vote
-      (MayCast-among c i x (own_votes i x table) (told_from c i x table (looked_at c i x vote)) (heard_in c i x seen) vote
+      cast_own c i x vote (own_votes c.n i x vote table) (own_in c i x seen) (heard_in c i x seen) (table_own c seen table are i x vote known)
+      (MayCast-among c i x (own_votes c.n i x vote table) (told_from c i x table (looked_at c i x vote)) (heard_in c i x seen) vote
       (heard_among c seen table are i x (looked_at c i x vote) (looked_at-listens c i x vote such)) may)
 
   -- and the other way
   pub cast_complete : is_in c.liars i ≡ false → IsLegal c seen → MayCast c i x (own_in c i x seen) (heard_in c i x seen) vote
-      → MayCast c i x (own_votes i x table) (told_from c i x table (looked_at c i x vote)) vote
+      → MayCast c i x (own_votes c.n i x vote table) (told_from c i x table (looked_at c i x vote)) vote
   cast_complete correct legal may =
-      may_by_part c i x (heard_in c i x seen) (told_from c i x table (looked_at c i x vote)) (own_votes i x table) vote
+      may_by_part c i x (heard_in c i x seen) (told_from c i x table (looked_at c i x vote)) (own_votes c.n i x vote table) vote
       (λ p among. heard_kept c seen table are i x (legal_addressed c seen legal) correct (looked_at c i x vote) p among)
-      (cast_same (own_in c i x seen) (own_votes i x table) (same_back (own_votes i x table) (own_in c i x seen) (own_same c seen table are i x known))
-      c i x (heard_in c i x seen) vote may)
+      (cast_own c i x vote (own_in c i x seen) (own_votes c.n i x vote table) (heard_in c i x seen)
+      (own_back c x vote (own_votes c.n i x vote table) (own_in c i x seen) (table_own c seen table are i x vote known)) may)
 
   -- what it has for a lane was heard apart
   pub told_apart : is_in c.liars i ≡ false → IsLegal c seen → NoCollision c seen → x < c.n
@@ -115,16 +128,21 @@ module _ (c : Numbers) (seen : List Post) (table : BTreeMap Place Bucket) (are :
   }
 
 -- a vote that the actor has cast before
-pub cast_before : (c : Numbers) (seen : List Post) (table : BTreeMap Place Bucket) (i x : ℕ) (vote : Vote) → AreTold c seen table → is_correct c i ≡ true
-    → (list_any (same_vote vote) (own_votes i x table) ≡ true) → Contains (own_in c i x seen) vote
-cast_before c seen table i x vote are known h = stands_in vote (own_votes i x table) (own_in c i x seen) (own_same c seen table are i x known) h
+pub cast_before : (c : Numbers) (seen : List Post) (table : BTreeMap Place Bucket) (i x : ℕ) (vote : Vote) → AreTold c seen table
+    → list_any (same_vote vote) (own_votes c.n i x vote table) ≡ true → Contains (own_in c i x seen) vote
+cast_before c seen table i x vote are h =
+    let found = any_stands (same_vote vote) (own_votes c.n i x vote table) h in
+    own_right c seen table are i x vote vote
+    (subst (λ (v : Vote). Contains (own_votes c.n i x vote table) v) (sym ((one_vote vote found.0).0 found.2)) found.1)
 
-pub not_cast_before : (c : Numbers) (seen : List Post) (table : BTreeMap Place Bucket) (i x : ℕ) (vote : Vote) → AreTold c seen table → is_correct c i ≡ true
-    → list_any (same_vote vote) (own_votes i x table) ≡ false → IsAllowed c i x seen vote
+-- and one that it has not
+pub not_cast_before : (c : Numbers) (seen : List Post) (table : BTreeMap Place Bucket) (i x : ℕ) (vote : Vote) → AreTold c seen table
+    → is_correct c i ≡ true → list_any (same_vote vote) (own_votes c.n i x vote table) ≡ false → IsAllowed c i x seen vote
     → MayCast c i x (own_in c i x seen) (heard_in c i x seen) vote
 not_cast_before c seen table i x vote are known new (inl before) =
-    absurd (both_ways (list_any (same_vote vote) (own_votes i x table)) new
-    ((own_same c seen table are i x known).tests (same_vote vote) ∙ list_any-from (same_vote vote) (own_in c i x seen) vote before ((one_vote vote vote).1 refl)))
+    absurd (both_ways (list_any (same_vote vote) (own_votes c.n i x vote table)) new
+    (list_any-from (same_vote vote) (own_votes c.n i x vote table) vote (own_all c seen table are i x known vote vote refl before)
+    ((one_vote vote vote).1 refl)))
 not_cast_before c seen table i x vote are known new (inr may) = may
 
 -- ---- the answers

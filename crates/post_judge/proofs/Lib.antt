@@ -5,6 +5,7 @@ mod Heard
 mod Judging
 mod Kept
 mod Next
+mod OwnEpoch
 mod Places
 mod Rounds
 mod Same

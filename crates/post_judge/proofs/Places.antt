@@ -118,8 +118,8 @@ no_own a y (Decided e bit) p h = ap is_own (sym (same_Some _ p h))
 no_own a y vote p h = absurd (cc (h))
 
 -- nothing that is heard is told at the place of votes that were cast
-pub not_own : (i x a y : ℕ) (vote : Vote) → heard_place a y vote ≡ Some (own_place i x) → ⊥
-not_own i x a y vote h = both_ways true (no_own a y vote (own_place i x) h) refl
+pub not_own : (n i x a y : ℕ) (own vote : Vote) → heard_place a y vote ≡ Some (own_place n i x own) → ⊥
+not_own n i x a y own vote h = both_ways true (no_own a y vote (own_place n i x own) h) refl
 
 -- ---- what is heard is told there
 

@@ -19,9 +19,10 @@ use Rattle.post_judge.specs.declared.place.Place.{Place}
 abbrev pub place : Topic → ℕ → ℕ → ℕ → Place
 place topic owner e part = record { topic = topic; owner = owner; epoch = e; part = part }
 
--- the place of the votes that actor x of node i has cast
-abbrev pub own_place : ℕ → ℕ → Place
-own_place i x = place topics.Own i 0 x
+-- The place of a vote of actor x of node i, one of n nodes, among those that it has cast: those of a lane by their epochs, since it
+-- looks at those of one epoch alone.
+abbrev pub own_place : ℕ → ℕ → ℕ → Vote → Place
+own_place n i x vote = place topics.Own i (if nat_lt x n then epoch_of vote else 0) x
 
 -- The place at which actor x of node i hears a vote: those of the lanes of its number by the lane, those of its own node's desk
 -- and lanes by the node.
@@ -59,9 +60,9 @@ told_place c post vote =
     then heard_place post.from post.actor vote
     else None
 
--- the place of a post among those that its actor has cast, if its node is correct
-abbrev pub cast_place : Numbers → Post → Option Place
-cast_place c post = when (is_correct c post.from) (own_place post.from post.actor)
+-- the place of a post's vote among those that its actor has cast, if its node is correct
+abbrev pub cast_place : Numbers → Post → Vote → Option Place
+cast_place c post vote = when (is_correct c post.from) (own_place c.n post.from post.actor vote)
 
 -- whether actors of number x, of n nodes, cast votes of this kind: the desk, which is actor n, or the lanes
 abbrev pub casts : ℕ → ℕ → Vote → Bool

@@ -27,9 +27,9 @@ told_in (Some bucket) = bucket.told.items
 abbrev pub told_at : BTreeMap Place Bucket → Place → List Told
 told_at table p = told_in (get places.cmp table p)
 
--- the votes that actor x of node i has cast
-abbrev pub own_votes : ℕ → ℕ → BTreeMap Place Bucket → List Vote
-own_votes i x table = map (λ t. t.vote) (told_at table (own_place i x))
+-- the votes that actor x of node i, one of n nodes, has cast at the place of a vote
+abbrev pub own_votes : ℕ → ℕ → ℕ → Vote → BTreeMap Place Bucket → List Vote
+own_votes n i x vote table = map (λ t. t.vote) (told_at table (own_place n i x vote))
 
 -- the posts at a place, with one more behind them where that has the place
 abbrev pub added_at : BTreeMap Place Bucket → Option Place → Told → Place → List Told
@@ -52,7 +52,7 @@ told_from c i x table wanted = flat_map (λ p. filter_map (told_to c i x) (told_
 pub record IsTold (c : Numbers) (seen : List Post) (p : Place) (t : Told) : Type 0 where
   pub stands : Contains seen t.post
   pub is : spelled c t.post ≡ Some t.vote
-  pub placed : (cast_place c t.post ≡ Some p) ⊎ (told_place c t.post t.vote ≡ Some p)
+  pub placed : (cast_place c t.post t.vote ≡ Some p) ⊎ (told_place c t.post t.vote ≡ Some p)
 
 -- at each place the table has the posts of the history that have it
 pub record AreTold (c : Numbers) (seen : List Post) (table : BTreeMap Place Bucket) : Type 0 where

@@ -37,7 +37,7 @@ fn may_cast_now(
 ) -> Result<bool, AllocError>
     requires deal { table.now.deal ≡ table.now.config }
     requires told { AreTold table.now.config table.now.posts.items table.now.buckets.by_place }
-    requires own { own.now ≡ own_votes node actor table.now.buckets.by_place }
+    requires own { own.now ≡ own_votes table.now.config.n node actor vote.now table.now.buckets.by_place }
     requires node { node < table.now.config.n }
     requires correct { is_in table.now.config.liars node ≡ false }
     requires vote { HasSpelling table.now.config vote.now }
@@ -78,7 +78,7 @@ fn is_allowed(table: &Table, node: u8, actor: u8, vote: &Vote) -> Result<bool, A
     ensures complete { IfOk result (λ may. IsLegal table.now.config table.now.posts.items → NoCollision table.now.config table.now.posts.items
         → IsAllowed table.now.config node actor table.now.posts.items vote.now → may ≡ true) }
 {
-    let own = votes_of(table.alloc, table.buckets.at(own_place(node, actor)))?;
+    let own = votes_of(table.alloc, table.buckets.at(own_place(table.config.n(), node, actor, vote)))?;
     if is_among(vote, &own) {
         return Ok(true);
     }

@@ -111,24 +111,26 @@ pub(crate) fn told_place(config: &Config, deal: &Deal, post: &Post, vote: &Vote)
     }
 }
 
-// The place of the votes that an actor has cast.
-pub(crate) fn own_place(node: u8, actor: u8) -> Place
-    ensures { result ≡ own_place node actor }
+// The place of a vote of an actor among those that it has cast. A lane has a place for each epoch, a desk one for all: a lane casts a
+// few votes a round, and a desk three an epoch.
+pub(crate) fn own_place(n: u8, node: u8, actor: u8, vote: &Vote) -> Place
+    ensures { result ≡ own_place n node actor vote.now }
 {
+    let epoch = if actor < n { vote.epoch() } else { 0 };
     Place {
         topic: Topic::Own,
         owner: node,
-        epoch: 0,
+        epoch,
         part: actor,
     }
 }
 
-// The place of a post among those that its actor has cast, if its node is correct.
-pub(crate) fn cast_place(config: &Config, post: &Post) -> Option<Place>
-    ensures { result ≡ cast_place config.now post.now }
+// The place of a post's vote among those that its actor has cast, if its node is correct.
+pub(crate) fn cast_place(config: &Config, post: &Post, vote: &Vote) -> Option<Place>
+    ensures { result ≡ cast_place config.now post.now vote.now }
 {
     if is_correct(config, post.from) {
-        Some(own_place(post.from, post.actor))
+        Some(own_place(config.n(), post.from, post.actor, vote))
     } else {
         None
     }

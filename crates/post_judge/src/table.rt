@@ -65,7 +65,7 @@ impl Table {
         ensures posts { self.new.posts.items ≡ self.old.posts.items }
         ensures told { OnOk result (AreTold self.old.config (self.old.posts.items ++ post.now ∷ []) self.new.buckets.by_place) }
     {
-        let cast = cast_place(&self.config, post);
+        let cast = cast_place(&self.config, post, vote);
         let told = told_place(&self.config, &self.deal, post, vote);
         self.buckets.add_at(self.alloc, cast, post, vote)?;
         self.buckets.add_at(self.alloc, told, post, vote)?;
