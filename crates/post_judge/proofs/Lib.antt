@@ -1,0 +1,11 @@
+mod Actors
+mod Adding
+mod Epochs
+mod Heard
+mod Judging
+mod Kept
+mod Next
+mod OwnEpoch
+mod Places
+mod Rounds
+mod Same

@@ -1,0 +1,16 @@
+use Rattle.std.proofs.Common.{subst}
+use Rattle.std.specs.Prelude.{Option}
+use Rattle.post_judge.specs.declared.place.Place.{Place}
+use Rattle.post_judge.specs.Tables.{Adds}
+use Rattle.post_judge.proofs.Adding.{AreTold-push}
+use Rattle.post_judge.proofs.table.Table.put_vote.Goals as goal
+
+pub returns-clause-told : goal.returns-clause-told
+returns-clause-told c =
+    let t = c.args.self.now in
+    let old = t.buckets.by_place in
+    let mid = c.add_at.new.self.by_place in
+    let new = c.add_at-2.new.self.by_place in
+    AreTold-push t.config t.posts.items old mid new (record { post = c.args.post.now; vote = c.args.vote.now }) c.requires.told c.requires.vote
+    (subst (λ (o : Option Place). Adds old mid o (record { post = c.args.post.now; vote = c.args.vote.now })) c.cast_place-cast.ensures c.in_ok-add_at.ensures)
+    (subst (λ (o : Option Place). Adds mid new o (record { post = c.args.post.now; vote = c.args.vote.now })) c.told_place-told.ensures c.in_ok-add_at-2.ensures)

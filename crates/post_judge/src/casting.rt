@@ -1,0 +1,106 @@
+//! Whether an actor may cast a vote, by what it has cast and what it has heard.
+ghost use Rattle.std.specs.Prelude.{◌≡◌, ◌<◌, true, IfOk};
+ghost use Rattle.hb_wire.specs.Votes.{epoch_of};
+ghost use Rattle.hb_rules.specs.History.{HasSpelling};
+ghost use Rattle.hb_rules.specs.Parts.{is_broadcast, part_of};
+ghost use Rattle.hb_rules.specs.Rules.{MayCast};
+ghost use Rattle.hb_rules.specs.Terms.{AreHeardSpelled};
+ghost use Rattle.claim_count.specs.Apart.{IsHeardApart};
+ghost use Rattle.broadcast_judge.specs.Checked.{AreChecked};
+ghost use Rattle.post_judge.specs.Places.{casts};
+
+use agreement_judge::{Place as Agreement, may_agree};
+use broadcast_judge::{Lane, may_broadcast};
+use coin_deal::Deal;
+use desk_judge::may_at_desk;
+use hb_base::Config;
+use hb_rules::Heard;
+use hb_wire::Vote;
+use std::alloc::{AllocError, Global};
+
+// Whether actors of this number cast votes of this kind: the desk, which is actor n, or the lanes.
+pub(crate) fn casts(n: u8, actor: u8, vote: &Vote) -> bool
+    ensures { result ≡ casts n actor vote.now }
+{
+    match vote {
+        Vote::Propose { .. } | Vote::NoMore { .. } | Vote::Closed { .. } => actor == n,
+        _ => actor < n,
+    }
+}
+
+fn is_of_broadcast(vote: &Vote) -> bool
+    ensures { result ≡ is_broadcast (part_of vote.now) }
+{
+    matches!(
+        vote,
+        Vote::Val { .. } | Vote::Echo { .. } | Vote::Ready { .. } | Vote::Delivered { .. }
+    )
+}
+
+// Whether a lane may cast a vote that lanes cast, of an epoch that the run has.
+fn may_in_lane(
+    alloc: Global,
+    deal: &Deal,
+    lane: &Lane,
+    own: &[Vote],
+    heard: &[Heard],
+    vote: &Vote,
+) -> Result<bool, AllocError>
+    requires deal { deal.now ≡ lane.now.config }
+    requires node { lane.now.node < lane.now.config.n }
+    requires lane { lane.now.lane < lane.now.config.n }
+    requires casts { casts lane.now.config.n lane.now.lane vote.now ≡ true }
+    requires epoch { epoch_of vote.now < lane.now.config.epochs }
+    requires vote { HasSpelling lane.now.config vote.now }
+    requires checked { AreChecked lane.now.config.n heard.now }
+    requires spelled { AreHeardSpelled lane.now.config heard.now }
+    ensures sound { IfOk result (λ may. may ≡ true → MayCast lane.now.config lane.now.node lane.now.lane own.now heard.now vote.now) }
+    ensures complete { IfOk result (λ may. IsHeardApart lane.now.config lane.now.node lane.now.lane heard.now
+        → MayCast lane.now.config lane.now.node lane.now.lane own.now heard.now vote.now → may ≡ true) }
+{
+    if is_of_broadcast(vote) {
+        return may_broadcast(alloc, lane, own, heard, vote);
+    }
+    let place = Agreement {
+        config: lane.config,
+        node: lane.node,
+        lane: lane.lane,
+        epoch: vote.epoch(),
+    };
+    may_agree(alloc, deal, &place, own, heard, vote)
+}
+
+// Whether an actor of a node may cast a vote that actors of its number cast, of an epoch that the run has. A yes is always right, and
+// so is a no of a desk. The no of a lane is right where all was heard in a legal history in which no two strings that were hashed share
+// a digest.
+pub(crate) fn may_cast(
+    alloc: Global,
+    deal: &Deal,
+    config: &Config,
+    node: u8,
+    actor: u8,
+    own: &[Vote],
+    heard: &[Heard],
+    vote: &Vote,
+) -> Result<bool, AllocError>
+    requires deal { deal.now ≡ config.now }
+    requires node { node < config.now.n }
+    requires casts { casts config.now.n actor vote.now ≡ true }
+    requires epoch { epoch_of vote.now < config.now.epochs }
+    requires vote { HasSpelling config.now vote.now }
+    requires checked { actor < config.now.n → AreChecked config.now.n heard.now }
+    requires spelled { AreHeardSpelled config.now heard.now }
+    ensures sound { IfOk result (λ may. may ≡ true → MayCast config.now node actor own.now heard.now vote.now) }
+    ensures complete { IfOk result (λ may. (actor < config.now.n → IsHeardApart config.now node actor heard.now)
+        → MayCast config.now node actor own.now heard.now vote.now → may ≡ true) }
+{
+    if actor < config.n() {
+        let lane = Lane {
+            config: *config,
+            node,
+            lane: actor,
+        };
+        return may_in_lane(alloc, deal, &lane, own, heard, vote);
+    }
+    Ok(may_at_desk(config, own, heard, vote))
+}

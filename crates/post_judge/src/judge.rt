@@ -1,0 +1,63 @@
+//! The judge of a history.
+ghost use Rattle.std.specs.Prelude.{◌≡◌, [], IfOk};
+
+use crate::allowing::judged;
+use crate::table::{Table, vote_of};
+use hb_base::Config;
+use hb_wire::Post;
+use history_verdict::Judge;
+use std::alloc::{AllocError, Global};
+use std::marker::Model;
+
+/// Judges the posts of a history one after another, and keeps of each what later judgements look at. After want of memory it judges
+/// no more. Clauses see a `JudgeView`.
+#[derive(Drop)]
+pub struct HistoryJudge {
+    table: Table,
+
+    // False while a post is judged, and after want of memory: then it may be that a part of the post was kept.
+    is_whole: bool,
+}
+
+impl Model for HistoryJudge {
+    ghost use Rattle.std.specs.Prelude.{◌≡◌, true};
+    ghost use Rattle.post_judge.specs.Tables.{AreTold};
+    ghost use Rattle.post_judge.specs.Views.{JudgeView};
+
+    ghost Value = { JudgeView };
+
+    ghost view = { λ j. record { config = j.table.config; seen = j.table.posts.items } };
+
+    ghost invariant = { λ j. (j.table.deal ≡ j.table.config)
+        × (j.is_whole ≡ true → AreTold j.table.config j.table.posts.items j.table.buckets.by_place) };
+}
+
+impl HistoryJudge {
+    /// A judge that has judged no post of a run with this config. It deals the run's coins. Err where there is no memory.
+    pub fn new(alloc: Global, config: &Config) -> Result<HistoryJudge, AllocError>
+        ensures { IfOk result (λ judge. (judge.config ≡ config.now) × (judge.seen ≡ [])) }
+    {
+        Ok(HistoryJudge {
+            table: Table::new(alloc, config)?,
+            is_whole: true,
+        })
+    }
+}
+
+impl Judge for HistoryJudge {
+    ghost config = { λ judge. judge.config };
+
+    ghost seen = { λ judge. judge.seen };
+
+    fn judge(&mut self, post: &Post) -> Result<bool, AllocError> {
+        if !self.is_whole {
+            return Err(AllocError);
+        }
+        self.is_whole = false;
+        let vote = vote_of(self.table.alloc, &self.table.config, post)?;
+        let may_follow = judged(&self.table, post, &vote)?;
+        self.table.note(post, &vote)?;
+        self.is_whole = true;
+        Ok(may_follow)
+    }
+}

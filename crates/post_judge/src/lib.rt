@@ -1,0 +1,14 @@
+//! Judges the posts of a history one after another: whether a post may follow those before it.
+#![tactic(auto)]
+
+mod allowing;
+mod buckets;
+mod casting;
+mod gathering;
+mod judge;
+mod place;
+mod placing;
+mod table;
+mod told;
+
+pub use judge::HistoryJudge;

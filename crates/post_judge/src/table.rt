@@ -1,0 +1,105 @@
+//! What is kept of the posts that were judged.
+ghost use Rattle.std.specs.Prelude.{◌≡◌, [], ◌∷◌, ◌++◌, Some, IfOk, IfSome, OnOk};
+ghost use Rattle.hb_rules.specs.Hearing.{spelled};
+ghost use Rattle.hb_rules.specs.History.{HasSpelling};
+ghost use Rattle.post_judge.specs.Tables.{AreTold};
+
+use crate::buckets::Buckets;
+use crate::placing::{cast_place, told_place};
+use coin_deal::{Deal, deal};
+use hb_base::Config;
+use hb_wire::{Post, Vote, WireFault, read};
+use std::alloc::{AllocError, Global};
+
+// The posts of a run with this config, in order, and those that spell votes by their places. They share their bytes.
+#[derive(Drop)]
+pub(crate) struct Table {
+    pub(crate) alloc: Global,
+    pub(crate) config: Config,
+    pub(crate) deal: Deal,
+    pub(crate) posts: Vec<Post>,
+    pub(crate) buckets: Buckets,
+}
+
+// The vote that a post spells, if it spells one.
+pub(crate) fn vote_of(
+    alloc: Global,
+    config: &Config,
+    post: &Post,
+) -> Result<Option<Vote>, AllocError>
+    ensures exact { IfOk result (λ vote. vote ≡ spelled config.now post.now) }
+    ensures fits { IfOk result (λ vote. IfSome vote (HasSpelling config.now)) }
+{
+    match read(alloc, config.n(), config.version(), post.bytes.as_slice()) {
+        Ok(vote) => Ok(Some(vote)),
+        Err(WireFault::NotAMessage) => Ok(None),
+        Err(WireFault::Memory) => Err(AllocError),
+    }
+}
+
+impl Table {
+    // No post of a run with this config, and the deal of its coins.
+    pub(crate) fn new(alloc: Global, config: &Config) -> Result<Table, AllocError>
+        ensures config { IfOk result (λ table. table.config ≡ config.now) }
+        ensures deal { IfOk result (λ table. table.deal ≡ config.now) }
+        ensures posts { IfOk result (λ table. table.posts.items ≡ []) }
+        ensures told { IfOk result (λ table. AreTold config.now [] table.buckets.by_place) }
+    {
+        let deal = deal(alloc, config)?;
+        Ok(Table {
+            alloc,
+            config: *config,
+            deal,
+            posts: Vec::new(alloc),
+            buckets: Buckets::new(alloc),
+        })
+    }
+
+    // Puts a post that spells a vote at its places.
+    fn put_vote(&mut self, post: &Post, vote: &Vote) -> Result<(), AllocError>
+        requires deal { self.old.deal ≡ self.old.config }
+        requires told { AreTold self.old.config self.old.posts.items self.old.buckets.by_place }
+        requires vote { spelled self.old.config post.now ≡ Some vote.now }
+        ensures config { self.new.config ≡ self.old.config }
+        ensures deal { self.new.deal ≡ self.old.deal }
+        ensures posts { self.new.posts.items ≡ self.old.posts.items }
+        ensures told { OnOk result (AreTold self.old.config (self.old.posts.items ++ post.now ∷ []) self.new.buckets.by_place) }
+    {
+        let cast = cast_place(&self.config, post, vote);
+        let told = told_place(&self.config, &self.deal, post, vote);
+        self.buckets.add_at(self.alloc, cast, post, vote)?;
+        self.buckets.add_at(self.alloc, told, post, vote)?;
+        Ok(())
+    }
+
+    // The same of any post, which may spell none.
+    fn put(&mut self, post: &Post, vote: &Option<Vote>) -> Result<(), AllocError>
+        requires deal { self.old.deal ≡ self.old.config }
+        requires told { AreTold self.old.config self.old.posts.items self.old.buckets.by_place }
+        requires vote { vote.now ≡ spelled self.old.config post.now }
+        ensures config { self.new.config ≡ self.old.config }
+        ensures deal { self.new.deal ≡ self.old.deal }
+        ensures posts { self.new.posts.items ≡ self.old.posts.items }
+        ensures told { OnOk result (AreTold self.old.config (self.old.posts.items ++ post.now ∷ []) self.new.buckets.by_place) }
+    {
+        match vote {
+            Some(vote) => self.put_vote(post, vote),
+            None => Ok(()),
+        }
+    }
+
+    // Takes in a post, with the vote that it spells, if it spells one.
+    pub(crate) fn note(&mut self, post: &Post, vote: &Option<Vote>) -> Result<(), AllocError>
+        requires deal { self.old.deal ≡ self.old.config }
+        requires told { AreTold self.old.config self.old.posts.items self.old.buckets.by_place }
+        requires vote { vote.now ≡ spelled self.old.config post.now }
+        ensures config { self.new.config ≡ self.old.config }
+        ensures deal { self.new.deal ≡ self.old.deal }
+        ensures posts { OnOk result (self.new.posts.items ≡ self.old.posts.items ++ post.now ∷ []) }
+        ensures told { OnOk result (AreTold self.old.config (self.old.posts.items ++ post.now ∷ []) self.new.buckets.by_place) }
+    {
+        self.put(post, vote)?;
+        self.posts.push(post.clone()?)?;
+        Ok(())
+    }
+}
