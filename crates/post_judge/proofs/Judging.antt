@@ -24,7 +24,7 @@ use Rattle.hb_rules.proofs.Among.{any_stands}
 use Rattle.hb_rules.proofs.Lists.{list_any-from}
 use Rattle.hb_rules.proofs.MoreHeard.{MayCast-among}
 use Rattle.hb_rules.proofs.SameRules.{cast_same}
-use Rattle.claim_count.specs.Apart.{IsHeardApart}
+use Rattle.hb_rules.specs.Apart.{IsHeardApart}
 use Rattle.history_verdict.specs.Verdicts.{Judges}
 use Rattle.post_judge.specs.declared.told.Bucket.{Bucket}
 use Rattle.post_judge.specs.declared.place.Place.{Place}

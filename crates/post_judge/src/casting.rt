@@ -5,7 +5,7 @@ ghost use Rattle.hb_rules.specs.History.{HasSpelling};
 ghost use Rattle.hb_rules.specs.Parts.{is_broadcast, part_of};
 ghost use Rattle.hb_rules.specs.Rules.{MayCast};
 ghost use Rattle.hb_rules.specs.Terms.{AreHeardSpelled};
-ghost use Rattle.claim_count.specs.Apart.{IsHeardApart};
+ghost use Rattle.hb_rules.specs.Apart.{IsHeardApart};
 ghost use Rattle.broadcast_judge.specs.Checked.{AreChecked};
 ghost use Rattle.post_judge.specs.Places.{casts};
 

@@ -7,7 +7,7 @@ use Rattle.hb_rules.specs.Hearing.{Hearing}
 use Rattle.hb_rules.specs.Lanes.{is_correct}
 use Rattle.hb_rules.specs.Rules.{MayCast}
 use Rattle.hb_rules.specs.Terms.{AreHeardSpelled}
-use Rattle.claim_count.specs.Apart.{IsHeardApart}
+use Rattle.hb_rules.specs.Apart.{IsHeardApart}
 use Rattle.broadcast_judge.specs.Checked.{AreChecked}
 use Rattle.post_judge.specs.declared.place.Place.{Place}
 use Rattle.post_judge.specs.Places.{casts, is_cast_ever, looked_at}
