@@ -5,12 +5,13 @@ use Rattle.std.proofs.lemmas.List.Elements.{Contains-append_left, Contains-push,
 use Rattle.hb_base.specs.Numbers.{Numbers}
 use Rattle.hb_wire.specs.declared.post.Post.{Post}
 use Rattle.hb_rules.specs.Hearing.{spelled}
+use Rattle.hb_rules.proofs.Among.{any_stands}
 use Rattle.post_judge.specs.declared.place.Place.{Place}
 use Rattle.post_judge.specs.declared.told.Told.{Told}
 use Rattle.post_judge.specs.declared.told.Bucket.{Bucket}
 use Rattle.post_judge.specs.contracts.place.PlaceOrd.TheImpl.{ghosts as places}
 use Rattle.post_judge.specs.Places.{told_place, cast_place}
-use Rattle.post_judge.specs.Tables.{same_place, told_in, told_at, Adds, IsTold, AreTold}
+use Rattle.post_judge.specs.Tables.{same_place, same_post, has_post, told_in, told_at, Adds, IsTold, AreTold}
 use Rattle.post_judge.proofs.Same.{place_is, place_self}
 
 -- a bucket that was put where there was none
@@ -129,6 +130,25 @@ AreTold-unread c seen post table are none = record {
   all = λ p t told. elim (Contains-push_cases seen post t.post told.stands) [
     | inl before ↦ are.all p t (record { stands = before; is = told.is; placed = told.placed })
     | inr now ↦ absurd (cc (none, ap (spelled c) now, told.is))
+  ];
+}
+
+-- a post that is among those at some place was judged before
+pub judged_before : (c : Numbers) (seen : List Post) (table : BTreeMap Place Bucket) (p : Place) (post : Post)
+    → ((a b : Post) → same_post a b ≡ true → a ≡ b) → AreTold c seen table → has_post post (told_at table p) ≡ true → Contains seen post
+judged_before c seen table p post same are has =
+    let found = any_stands (λ (t : Told). same_post t.post post) (told_at table p) has in
+    subst (λ (q : Post). Contains seen q) (same found.0.post post found.2) (are.right p found.0 found.1).stands
+
+-- a post that was judged before
+pub AreTold-again : (c : Numbers) (seen : List Post) (post : Post) (table : BTreeMap Place Bucket) → AreTold c seen table → Contains seen post
+    → AreTold c (seen ++ post ∷ []) table
+AreTold-again c seen post table are before = record {
+  right = λ p t stands. told_later c seen post p t (are.right p t stands);
+  all = λ p t told. elim (Contains-push_cases seen post t.post told.stands) [
+    | inl stands ↦ are.all p t (record { stands = stands; is = told.is; placed = told.placed })
+    | inr now ↦
+        are.all p t (record { stands = subst (λ (q : Post). Contains seen q) now before; is = told.is; placed = told.placed })
   ];
 }
 

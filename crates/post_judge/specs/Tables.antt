@@ -1,9 +1,10 @@
 -- Tables of posts by their places, and what of them an actor hears.
 use Rattle.std.specs.Prelude.{◌≡◌, ℕ, ◌⊎◌, Bool, if◌then◌else◌, List, [], ◌∷◌, ◌++◌, Option, Some, None, Contains, filter_map, map}
 use Rattle.std.specs.BTreeMap.{BTreeMap, get, is_at}
-use Rattle.std.specs.List.{flat_map}
+use Rattle.std.specs.List.{flat_map, list_any}
 use Rattle.hb_base.specs.Numbers.{Numbers}
 use Rattle.hb_wire.specs.Addresses.{reaches}
+use Rattle.hb_wire.specs.contracts.post.PostPartialEq.TheImpl.{ghosts as posts}
 use Rattle.hb_wire.specs.declared.post.Post.{Post}
 use Rattle.hb_wire.specs.declared.vote.Vote.{Vote}
 use Rattle.hb_rules.specs.Hearing.{Hearing, hearing, name_at, spelled}
@@ -13,6 +14,14 @@ use Rattle.post_judge.specs.declared.told.Told.{Told}
 use Rattle.post_judge.specs.declared.told.Bucket.{Bucket}
 use Rattle.post_judge.specs.contracts.place.PlaceOrd.TheImpl.{ghosts as places}
 use Rattle.post_judge.specs.Places.{own_place, told_place, cast_place}
+
+-- whether two posts are the same
+abbrev pub same_post : Post → Post → Bool
+same_post p q = posts.eq p q
+
+-- whether a post is among these
+abbrev pub has_post : Post → List Told → Bool
+has_post post told = list_any (λ t. same_post t.post post) told
 
 -- whether two places are the same
 abbrev pub same_place : Place → Place → Bool

@@ -9,8 +9,14 @@ use history_verdict::Judge;
 use std::alloc::{AllocError, Global};
 use std::marker::Model;
 
-/// Judges the posts of a history one after another, and keeps of each what later judgements look at. After want of memory it judges
-/// no more. Clauses see a `JudgeView`.
+/// Judges the posts of a history one after another, by the rules of the whole protocol (CCS 2016, figures 2 to 4; PODC 2014, figure 2),
+/// and keeps of each what later judgements look at. After want of memory it judges no more. Clauses see a `JudgeView`.
+///
+/// The vote of a post is read once, and the branch of an Echo or a share of a coin is checked once. A post of a correct node is
+/// compared with the votes that its actor has cast in the epoch, a desk's with all of the desk. If it is new, its rule goes through the
+/// posts at the places at which it looks: a lane's Echoes and Readies of the epoch, the claims of a round, the shares of a round, or
+/// of each round for a decision, or what its own node's desk or lanes have said. So a post is looked at by 5n judgements at most, and
+/// a history is judged in time linear in its posts, but for look-ups in a table of places. Votes share their bytes with what is kept.
 #[derive(Drop)]
 pub struct HistoryJudge {
     table: Table,

@@ -9,6 +9,8 @@ mod judge;
 mod place;
 mod placing;
 mod table;
+#[cfg(test)]
+mod tests;
 mod told;
 
 pub use judge::HistoryJudge;

@@ -1,14 +1,15 @@
 //! What is kept of the posts that were judged.
-ghost use Rattle.std.specs.Prelude.{◌≡◌, [], ◌∷◌, ◌++◌, Some, IfOk, IfSome, OnOk};
+ghost use Rattle.std.specs.Prelude.{◌≡◌, [], ◌∷◌, ◌++◌, true, Some, Contains, IfOk, IfSome, OnOk};
 ghost use Rattle.hb_rules.specs.Hearing.{spelled};
 ghost use Rattle.hb_rules.specs.History.{HasSpelling};
-ghost use Rattle.post_judge.specs.Tables.{AreTold};
+ghost use Rattle.post_judge.specs.Tables.{has_post, AreTold};
 
 use crate::buckets::Buckets;
-use crate::placing::{cast_place, told_place};
+use crate::placing::{cast_place, own_place, told_place};
+use crate::told::Told;
 use coin_deal::{Deal, deal};
 use hb_base::Config;
-use hb_wire::{Post, Vote, WireFault, read};
+use hb_wire::{Post, Vote, WireFault, equality_laws, read};
 use std::alloc::{AllocError, Global};
 
 // The posts of a run with this config, in order, and those that spell votes by their places. They share their bytes.
@@ -37,6 +38,13 @@ pub(crate) fn vote_of(
     }
 }
 
+// Whether a post is among these.
+fn has_post(told: &[Told], post: &Post) -> bool
+    ensures { result ≡ has_post post.now told.now }
+{
+    told.iter().any(|one| one.post == *post)
+}
+
 impl Table {
     // No post of a run with this config, and the deal of its coins.
     pub(crate) fn new(alloc: Global, config: &Config) -> Result<Table, AllocError>
@@ -55,7 +63,19 @@ impl Table {
         })
     }
 
-    // Puts a post that spells a vote at its places.
+    // Whether a post that spells this vote was judged before, if its node is correct.
+    fn was_judged(&self, post: &Post, vote: &Vote) -> bool
+        requires told { AreTold self.now.config self.now.posts.items self.now.buckets.by_place }
+        ensures { result ≡ true → Contains self.now.posts.items post.now }
+    {
+        equality_laws();
+        let n = self.config.n();
+        let place = own_place(n, post.from, post.actor, vote);
+        has_post(self.buckets.at(place), post)
+    }
+
+    // Puts a post that spells a vote at its places. One that was judged before is there: an actor that is started again says again
+    // what it has said.
     fn put_vote(&mut self, post: &Post, vote: &Vote) -> Result<(), AllocError>
         requires deal { self.old.deal ≡ self.old.config }
         requires told { AreTold self.old.config self.old.posts.items self.old.buckets.by_place }
@@ -65,6 +85,9 @@ impl Table {
         ensures posts { self.new.posts.items ≡ self.old.posts.items }
         ensures told { OnOk result (AreTold self.old.config (self.old.posts.items ++ post.now ∷ []) self.new.buckets.by_place) }
     {
+        if self.was_judged(post, vote) {
+            return Ok(());
+        }
         let cast = cast_place(&self.config, post, vote);
         let told = told_place(&self.config, &self.deal, post, vote);
         self.buckets.add_at(self.alloc, cast, post, vote)?;

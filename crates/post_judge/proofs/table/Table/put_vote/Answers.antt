@@ -2,7 +2,7 @@ use Rattle.std.proofs.Common.{subst}
 use Rattle.std.specs.Prelude.{Option}
 use Rattle.post_judge.specs.declared.place.Place.{Place}
 use Rattle.post_judge.specs.Tables.{Adds}
-use Rattle.post_judge.proofs.Adding.{AreTold-push}
+use Rattle.post_judge.proofs.Adding.{AreTold-push, AreTold-again}
 use Rattle.post_judge.proofs.table.Table.put_vote.Goals as goal
 
 pub returns-clause-told : goal.returns-clause-told
@@ -14,3 +14,8 @@ returns-clause-told c =
     AreTold-push t.config t.posts.items old mid new (record { post = c.args.post.now; vote = c.args.vote.now }) c.requires.told c.requires.vote
     (subst (λ (o : Option Place). Adds old mid o (record { post = c.args.post.now; vote = c.args.vote.now })) c.cast_place-cast.ensures c.in_ok-add_at.ensures)
     (subst (λ (o : Option Place). Adds mid new o (record { post = c.args.post.now; vote = c.args.vote.now })) c.told_place-told.ensures c.in_ok-add_at-2.ensures)
+
+pub returns-then-was_judged-clause-told : goal.returns-then-was_judged-clause-told
+returns-then-was_judged-clause-told c =
+    let t = c.args.self.now in
+    AreTold-again t.config t.posts.items c.args.post.now t.buckets.by_place c.requires.told (c.was_judged.ensures c.if-was_judged.true)

@@ -1,0 +1,80 @@
+//! What no clause says: that the calls find memory, and that verdicts on histories by hand are what was meant.
+
+use crate::audit;
+use hb_base::{Bytes, MemorySource};
+use history_verdict::Verdict;
+use std::alloc::{AllocError, Global};
+use std::process::Abort;
+use std::test::Fail;
+use trace_reader::TraceFault;
+
+const NUMBERS: &str =
+    "trace nodes 1 faulty 0 version 1 epochs 1 rounds 3 batch 64 seed 0 liars 0\n";
+
+// Audits the text of one node whose lines these are behind the first.
+fn audit_of(
+    alloc: Global,
+    lines: &str,
+    take: u32,
+) -> Result<Result<Verdict, TraceFault>, AllocError> {
+    let text = format!(in alloc; "{NUMBERS}{lines}")?;
+    let bytes = Bytes::copy(alloc, text.as_str().as_bytes())?;
+    let mut source = MemorySource::new(bytes, 16, vec![in alloc; take]?);
+    Ok(audit(alloc, &mut source))
+}
+
+// A desk may propose at once, and no more than that; a proposal may be said again. A line that breaks the form is told of whatever
+// stands before it.
+const ROWS: [(&str, Result<Verdict, TraceFault>); 8] = [
+    ("end 0\n", Ok(Verdict::Legal { posts: 0 })),
+    (
+        "post 0 from 0 actor 1 to home 100000000006000100026869\nend 1\n",
+        Ok(Verdict::Legal { posts: 1 }),
+    ),
+    (
+        "post 0 from 0 actor 1 to home 100000000006000100026869\npost 1 from 0 actor 1 to home 100000000006000100026869\nend 2\n",
+        Ok(Verdict::Legal { posts: 2 }),
+    ),
+    (
+        "post 0 from 0 actor 1 to home 1100\nend 1\n",
+        Ok(Verdict::Illegal { post: 0 }),
+    ),
+    (
+        "post 0 from 0 actor 1 to home 100000000006000100026869\npost 1 from 0 actor 1 to home 1100\nend 2\n",
+        Ok(Verdict::Illegal { post: 1 }),
+    ),
+    (
+        "post 0 from 0 actor 1 to home 1100\nend 2\n",
+        Err(TraceFault::NotATrace { line: 3 }),
+    ),
+    (
+        "post 0 from 0 actor 1 to home 1100\nend 1\n\n",
+        Err(TraceFault::NotATrace { line: 4 }),
+    ),
+    ("", Err(TraceFault::NotATrace { line: 2 })),
+];
+
+#[test]
+fn histories_of_one_node(rt: HostRuntime) -> Result<(), Fail> {
+    for (lines, wanted) in ROWS {
+        assert!(rt; audit_of(rt.alloc(), lines, 0)? == wanted, "{lines}");
+    }
+    Ok(())
+}
+
+// The text of no post comes in five pieces and a rest, and a take more finds its end.
+#[test]
+fn takes_that_fail(rt: HostRuntime) -> Result<(), Fail> {
+    for (take, wanted) in [
+        (1u32, Err(TraceFault::ReadFault)),
+        (6, Err(TraceFault::ReadFault)),
+        (7, Err(TraceFault::ReadFault)),
+        (8, Ok(Verdict::Legal { posts: 0 })),
+    ] {
+        assert!(rt;
+            audit_of(rt.alloc(), "end 0\n", take)? == wanted,
+            "take {take}"
+        );
+    }
+    Ok(())
+}
