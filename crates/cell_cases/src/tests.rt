@@ -1,0 +1,68 @@
+//! A lane that hears one post, and then nothing.
+ghost use Rattle.std.specs.Prelude.{◌≡◌, ◌<◌, true, false, []};
+ghost use Rattle.std.specs.Arc.{arc_value};
+ghost use Rattle.hb_base.specs.NodeSet.{is_in};
+
+use super::*;
+use actor_cell::Served;
+use coin_deal::{Deal, deal};
+use hb_base::{Config, NodeSet};
+use hb_rules::Fate;
+use net_script::{Order, Script};
+use post_book::Naming;
+use std::alloc::{AllocError, Global};
+use std::marker::Brand;
+use std::sync::{Arc, Wait};
+use std::test::*;
+
+// Four nodes, of which node 3 lies.
+fn four() -> Option<Config> {
+    let mut liars = NodeSet::new();
+    liars.add(3);
+    Config::new(4, 1, 1, 1, 1, 0, 1, liars)
+}
+
+// A run of these nodes with no plans, in which each post comes once.
+fn plain_script(alloc: Global, config: Config) -> Script
+    ensures { (result.config ≡ config) × (result.plans.items ≡ []) }
+{
+    Script {
+        config,
+        workers: 1,
+        order: Order::Fifo,
+        submit: Vec::new(alloc),
+        liars: Vec::new(alloc),
+        links: Vec::new(alloc),
+        plans: Vec::new(alloc),
+    }
+}
+
+// The turns, where the script is of four nodes of which node 3 lies.
+fn turns<K: Naming, R: Wait>(
+    rt: &R,
+    alloc: Global,
+    script: &Script,
+) -> Result<Option<Turns>, AllocError>
+    requires config { script.now.config ≡ K.config }
+    requires plans { script.now.plans.items ≡ [] }
+{
+    let liars = script.config.liars();
+    if script.config.n() != 4 || liars.has(0) || !liars.has(3) {
+        return Ok(None);
+    }
+    let dealt = Arc::new(alloc, deal(alloc, &script.config)?)?;
+    hear_a_lie::<K, R>(rt, alloc, script, dealt)
+}
+
+#[test]
+fn one_post_and_then_none(rt: HostRuntime) -> Result<(), Fail> {
+    let config = four().expect(&rt, "a config");
+    let script = plain_script(rt.alloc(), config);
+    let turns = turns::<Brand, HostRuntime>(&rt, rt.alloc(), &script)?.expect(&rt, "turns");
+    assert_eq!(rt; turns.one, Served::Did);
+    assert_eq!(rt; turns.two, Served::Idle);
+    assert_eq!(rt; turns.fate, Fate::Running);
+    assert_eq!(rt; turns.entered, 1);
+    assert_eq!(rt; turns.got, 1);
+    Ok(())
+}
