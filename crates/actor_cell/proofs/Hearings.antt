@@ -17,7 +17,7 @@ use Rattle.step_driver.specs.Places.{PlayerView}
 use Rattle.step_driver.specs.Delivering.{HasFate}
 use Rattle.step_driver.specs.Playing.{IsRefused, Explains, fate_of, may_restart}
 use Rattle.step_driver.proofs.Playing.{HasFate-fault}
-use Rattle.actor_cell.specs.Turning.{IsSameSeat, IsShown, Keeps, Recovers, Hears}
+use Rattle.actor_cell.specs.Turning.{IsSameSeat, IsShown, Keeps, Recovers, Starts, Hears}
 
 pub Contains-none : {A : Type 0} (xs : List A) (x : A) → xs ≡ [] → Contains xs x → ⊥
 Contains-none xs x none stands = omega (arith, stands.1, ap length none)
@@ -149,6 +149,14 @@ not_running_after faults.Journal is = cc (is)
 not_running_after faults.Full is = cc (is)
 not_running_after faults.Memory is = cc (is)
 
+-- what a call that was refused made, and then the restarts
+told_by_both : (old p new : PlayerView) (fault : ActorFault) (before out after : List ℕ) → Goes old.view p.view
+    → ((fault ≡ faults.Memory → ⊥) → Told old.view.terms old.seat.seen p.seat.seen before out) → Recovers p new out after
+    → (new.fate ≡ Running → fault ≡ faults.Journal) → new.fate ≡ Running → Told old.view.terms old.seat.seen new.seat.seen before after
+told_by_both old p new fault before out after goes told recovers journal running =
+    told_trans old.view.terms old.seat.seen p.seat.seen new.seat.seen before out after (told (not_memory fault (journal running)))
+    (subst (λ t. Told t p.seat.seen new.seat.seen out after) goes.terms (recovers.told running))
+
 abbrev pub ended_with : PlayerView → ActorFault → PlayerView
 ended_with p fault = record p { fate = fate_of fault }
 
@@ -163,6 +171,33 @@ Recovers-ended old p first fault before out was not = record {
   got = was.got;
   again = λ running. absurd (not_running_after fault running);
   told = λ running. absurd (not_running_after fault running);
+}
+
+-- ---- starting
+
+-- it was started
+pub Starts-begun : (old new : PlayerView) (before after : List ℕ) → IsSameSeat old new → IsPrefix old.seat.seen new.seat.seen → Goes old.view new.view → new.view.live ≡ true
+    → new.fate ≡ Running → new.view.got ≡ [] → Told old.view.terms old.seat.seen new.seat.seen before after → Starts old new before after
+Starts-begun old new before after seat seen goes live running got told = record {
+  seat = seat;
+  seen = seen;
+  keeps = Keeps-goes old.view new.view goes;
+  fate = subst (λ (f : Fate). HasFate true f new.seat new.view) (sym running) live;
+  none = λ k. Contains-none new.view.got k got;
+  told = λ _. told;
+}
+
+-- its call was refused
+pub Starts-recovers : (old p new : PlayerView) (fault : ActorFault) (before out after : List ℕ) → IsSameSeat old p → IsPrefix old.seat.seen p.seat.seen → Goes old.view p.view
+    → p.view.got ≡ [] → ((fault ≡ faults.Memory → ⊥) → Told old.view.terms old.seat.seen p.seat.seen before out) → Recovers p new out after
+    → (new.fate ≡ Running → fault ≡ faults.Journal) → Starts old new before after
+Starts-recovers old p new fault before out after seat seen goes got told recovers journal = record {
+  seat = IsSameSeat-then old p new seat recovers.seat;
+  seen = IsPrefix-then old.seat.seen p.seat.seen new.seat.seen seen recovers.seen;
+  keeps = Keeps-then old.view p.view new.view (Keeps-goes old.view p.view goes) recovers.keeps;
+  fate = recovers.fate;
+  none = λ k stands. Contains-none p.view.got k got (recovers.got k stands);
+  told = λ running. told_by_both old p new fault before out after goes told recovers journal running;
 }
 
 -- ---- hearing
@@ -199,9 +234,7 @@ Hears-recovers k old p new fault before out after seat seen goes kept told recov
   fate = recovers.fate;
   got = λ j stands. got_more old.view p.view k kept j (recovers.got j stands);
   received = λ running. inr ((recovers.again running).0, omega (arith, (recovers.again running).1, goes.restarts));
-  told = λ running.
-      told_trans old.view.terms old.seat.seen p.seat.seen new.seat.seen before out after (told (not_memory fault (journal running)))
-      (subst (λ t. Told t p.seat.seen new.seat.seen out after) goes.terms (recovers.told running));
+  told = λ running. told_by_both old p new fault before out after goes told recovers journal running;
 }
 
 -- ---- looks in a row
@@ -229,12 +262,16 @@ IsItsSeat-shown p q shown is = (
   shown.seat.actor ∙ is.2 ∙ ap (λ (v : ActorView). v.terms.actor) (sym shown.view),
 )
 
+-- calls by the same seat
+pub moved_by : {B : Type 0} (moved : ℕ → ℕ → B → B → Type 0) (a b : B) (p q : PlayerView) → IsSameSeat p q → moved q.seat.node q.seat.actor a b → moved p.seat.node p.seat.actor a b
+moved_by moved a b p q same went =
+    subst (λ (x : ℕ). moved p.seat.node x a b) same.actor (subst (λ (i : ℕ). moved i q.seat.actor a b) same.node went)
+
 -- the same book after more calls by the same seat
 pub moved_on : {B : Type 0} (moved : ℕ → ℕ → B → B → Type 0) → ((i x : ℕ) (a b c : B) → moved i x a b → moved i x b c → moved i x a c) → (a b c : B) (p q : PlayerView)
     → IsSameSeat p q → moved p.seat.node p.seat.actor a b → moved q.seat.node q.seat.actor b c → moved p.seat.node p.seat.actor a c
 moved_on moved goes_on a b c p q same one two =
-    goes_on p.seat.node p.seat.actor a b c one
-    (subst (λ (x : ℕ). moved p.seat.node x b c) same.actor (subst (λ (i : ℕ). moved i q.seat.actor b c) same.node two))
+    goes_on p.seat.node p.seat.actor a b c one (moved_by moved b c p q same two)
 
 pub Explains-of : (fault : ActorFault) (p : PlayerView) → (fault ≡ faults.Full → length p.seat.seen ≡ most_posts) → (fault ≡ faults.Journal → IsNamed p.view.supply) → Explains fault p.seat p.view
 Explains-of faults.Journal p full journal = journal refl

@@ -42,7 +42,7 @@ firsts_more c i = map-range_with_len_more (λ a. length (owners_below c a)) 0 i 
 
 -- those of node i, among n nodes, where it lies or not
 abbrev pub row : Bool → ℕ → ℕ → List (ℕ × ℕ)
-row lies n i = cond lies ((i, 255) ∷ []) (map (λ x. (i, x)) (range_with_len 0 (n + 1)))
+row lies n i = cond lies ((i, 0) ∷ []) (map (λ x. (i, x)) (range_with_len 0 (n + 1)))
 
 abbrev pair : ℕ → ℕ → ℕ × ℕ
 pair i x = (i, x)
@@ -54,7 +54,7 @@ row_within : (lies : Bool) (n i x : ℕ) → x ≤ n → cond lies 0 x < length 
 row_within true n i x known = omega arith
 row_within false n i x known = omega (arith, known, pairs_length i n)
 
-row_at : (lies : Bool) (n i x : ℕ) (d : ℕ × ℕ) → x ≤ n → get_or (row lies n i) (cond lies 0 x) d ≡ (i, cond lies 255 x)
+row_at : (lies : Bool) (n i x : ℕ) (d : ℕ × ℕ) → x ≤ n → get_or (row lies n i) (cond lies 0 x) d ≡ (i, cond lies 0 x)
 row_at true n i x d known = refl
 row_at false n i x d known = get_or-map-range_with_len (pair i) 0 (n + 1) x x d (omega (arith, known)) (omega arith)
 

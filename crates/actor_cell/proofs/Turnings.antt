@@ -1,5 +1,5 @@
 -- The turns of an actor.
-use Rattle.std.proofs.Common.{◌≡◌, ◌⊎◌, ℕ, ◌+◌, Bool, true, false, inl, inr, List, [], ◌∷◌, ◌++◌, length, Contains, Option, None, Some, refl, sym, ap, ◌∙◌, subst, arith, slice_get, if◌then◌else◌, MatchOption, IfSome}
+use Rattle.std.proofs.Common.{◌≡◌, ◌⊎◌, ℕ, ◌+◌, Bool, true, false, inl, inr, List, [], ◌∷◌, ◌++◌, length, Contains, Option, None, Some, refl, sym, ap, ◌∙◌, subst, arith, slice_get, length-append, if◌then◌else◌, MatchOption, IfSome}
 use Rattle.std.proofs.lemmas.List.{append-nil, append_assoc}
 use Rattle.std.proofs.lemmas.List.Elements.{Contains-push_cases}
 use Rattle.hb_base.specs.Numbers.{Numbers}
@@ -19,26 +19,28 @@ use Rattle.step_driver.proofs.Playing.{IsSound-on, IsReceived-on, slice_get-fron
 use Rattle.actor_cell.specs.declared.arrival.Arrival.{Arrival}
 use Rattle.actor_cell.specs.declared.arrival.Arrival.TheVariants as arrivals
 use Rattle.mailbox.specs.Interleaving.{HasAll}
+use Rattle.atomic_table.specs.Seated.{TableId}
 use Rattle.hb_rules.specs.Book.{SeatView}
 use Rattle.actor_cell.specs.declared.served.Served.{Served}
 use Rattle.actor_cell.specs.declared.served.Served.TheVariants as answers
 use Rattle.actor_cell.specs.Boxes.{BoxesView, place_of}
 use Rattle.actor_cell.specs.Mail.{MailView, Sent, sent_of, ArePut, IsSameTaker, deliveries}
-use Rattle.actor_cell.specs.Held.{IsHeld}
-use Rattle.actor_cell.specs.Turning.{IsSameSeat, IsShown, Hears, HasReceived, IsHeard, Fares, Turning, TookOnly, HoldsBack, IsDelivered, Delivers, IsServed, ServesBack, ServesNew, TakesOne, TakesNone, Turned, arrival, arrival_found, by_lateness, arrives, is_late}
-use Rattle.actor_cell.proofs.Hearings.{shown_longer, IsSameSeat-then, IsPrefix-then, IsShown-refl, IsShown-then, Contains-none}
+use Rattle.actor_cell.specs.Held.{IsHeld, WasShown}
+use Rattle.actor_cell.specs.Turning.{IsSameSeat, IsShown, Keeps, Starts, Begins, HasSent, Hears, HasReceived, IsHeard, Fares, Turning, TookOnly, HoldsBack, IsDelivered, Delivers, IsServed, ServesBack, ServesNew, TakesOne, TakesNone, Turned, arrival, arrival_found, by_lateness, arrives, is_late}
+use Rattle.actor_cell.proofs.Hearings.{shown_longer, moved_by, IsPrefix-refl, IsSameSeat-then, IsPrefix-then, IsShown-refl, IsShown-then, Contains-none}
 
 -- ---- what holds under the lock
 
 -- an actor and its mail went on
-pub IsHeld-on : {B S : Type 0} (knows : B → S → Type 0) (is_book : B → Type 0) (is_script : Script → Type 0) (seat seat' : S) (b b' : B) (s : Script) (mail mail' : MailView) (p q : PlayerView)
-    → IsHeld knows is_book is_script seat b s mail p → knows b' seat' → is_book b' → IsSameSeat p q → mail'.boxes ≡ mail.boxes → mail'.passes.place ≡ mail.passes.place
-    → IsPlayer s.config s true q → IsHeld knows is_book is_script seat' b' s mail' q
-IsHeld-on knows is_book is_script seat seat' b b' s mail mail' p q was known book same boxes place player = record {
-  known = known;
-  book = book;
+pub IsHeld-on : {B S : Type 0} (knows : B → S → Type 0) (is_script : Script → Type 0) (run : TableId) (seat seat' : S) (b b' : B) (name name' : TableId) (s : Script) (mail mail' : MailView)
+    (p q : PlayerView) → IsHeld knows is_script run seat b name s mail p → knows b' seat' → name' ≡ name → IsSameSeat p q → mail'.boxes ≡ mail.boxes
+    → mail'.passes.place ≡ mail.passes.place → IsPlayer s.config s true q → IsHeld knows is_script run seat' b' name' s mail' q
+IsHeld-on knows is_script run seat seat' b b' name name' s mail mail' p q was of_book named same boxes place player = record {
+  of_book = of_book;
+  book = named ∙ was.book;
   script = was.script;
   config = same.config ∙ was.config;
+  known = rw (same.node, same.actor) was.known;
   boxes = ap (λ (all : BoxesView). all.config) boxes ∙ was.boxes;
   place =
       place ∙ was.place ∙ ap (λ (i : ℕ). place_of s.config i p.seat.actor) (sym same.node)
@@ -154,12 +156,27 @@ IsHeard-ended s k o q out sent comes hears ended = record {
   comes = rw (hears.seat.node, hears.seat.actor) (IsReceived-on s.config s o.seat.seen q.seat.seen o.seat.node o.seat.actor k hears.seen comes);
   seat = hears.seat;
   seen = hears.seen;
+  keeps = hears.keeps;
   received = λ running. absurd (ended running);
   sent = record { numbers = []; put = refl; all = λ running. absurd (ended running); some = inl refl };
 }
 
 received_shown : (k : ℕ) (u v w : ActorView) → w ≡ v → HasReceived k u v → HasReceived k u w
 received_shown k u v w same received = subst (λ (a : ActorView). HasReceived k u a) (sym same) received
+
+-- the numbers of what it made are put
+HasSent-of : (s : Script) (o m q : PlayerView) (out front rest : List ℕ) (before after : Sent) → Told o.view.terms o.seat.seen m.seat.seen [] out → m.view.terms ≡ o.view.terms
+    → IsShown m q → out ≡ front ++ rest → (q.fate ≡ Running → rest ≡ []) → ArePut s.config (deliveries s.config s q.seat.seen front) before after → HasSent s o q before after
+HasSent-of s o m q out front rest before after made terms shown parts all put =
+    let told : Told o.view.terms o.seat.seen q.seat.seen [] out =
+    told_trans o.view.terms o.seat.seen m.seat.seen q.seat.seen [] out out made
+    (told_beside o.view.terms m.seat.seen q.seat.seen out (subst (λ (t : Terms). Told t m.seat.seen q.seat.seen [] []) terms shown.others)) in
+    record {
+      numbers = front;
+      put = put;
+      all = λ works. subst (λ (ns : List ℕ). Told o.view.terms o.seat.seen q.seat.seen [] ns) (parts ∙ ap (λ (ns : List ℕ). front ++ ns) (all works) ∙ append-nil front) told;
+      some = inr (rest, subst (λ (ns : List ℕ). Told o.view.terms o.seat.seen q.seat.seen [] ns) parts told);
+    }
 
 -- one that works sends what it made
 pub IsHeard-sent : (s : Script) (k : ℕ) (o m q : PlayerView) (out front rest : List ℕ) (before after : Sent) → IsReceived s.config s o.seat.seen o.seat.node o.seat.actor k → Hears k o m [] out
@@ -168,20 +185,13 @@ pub IsHeard-sent : (s : Script) (k : ℕ) (o m q : PlayerView) (out front rest :
 IsHeard-sent s k o m q out front rest before after comes hears running shown parts all put =
     let same = IsSameSeat-then o m q hears.seat shown.seat in
     let more = IsPrefix-then o.seat.seen m.seat.seen q.seat.seen hears.seen (shown_longer m q shown) in
-    let told : Told o.view.terms o.seat.seen q.seat.seen [] out =
-    told_trans o.view.terms o.seat.seen m.seat.seen q.seat.seen [] out out (hears.told running)
-    (told_beside o.view.terms m.seat.seen q.seat.seen out (subst (λ (t : Terms). Told t m.seat.seen q.seat.seen [] []) hears.keeps.terms shown.others)) in
     record {
       comes = rw (same.node, same.actor) (IsReceived-on s.config s o.seat.seen q.seat.seen o.seat.node o.seat.actor k more comes);
       seat = same;
       seen = more;
+      keeps = subst (λ (v : ActorView). Keeps o.view v) (sym shown.view) hears.keeps;
       received = λ _. received_shown k o.view m.view q.view shown.view (hears.received running);
-      sent = record {
-        numbers = front;
-        put = put;
-        all = λ works. subst (λ (ns : List ℕ). Told o.view.terms o.seat.seen q.seat.seen [] ns) (parts ∙ ap (λ (ns : List ℕ). front ++ ns) (all works) ∙ append-nil front) told;
-        some = inr (rest, subst (λ (ns : List ℕ). Told o.view.terms o.seat.seen q.seat.seen [] ns) parts told);
-      };
+      sent = HasSent-of s o m q out front rest before after (hears.told running) hears.keeps.terms shown parts all put;
     }
 
 -- looks before a delivery
@@ -190,6 +200,7 @@ IsHeard-shown s k o m q before after shown heard = record {
   comes = heard.comes;
   seat = IsSameSeat-then o m q shown.seat heard.seat;
   seen = IsPrefix-then o.seat.seen m.seat.seen q.seat.seen (shown_longer o m shown) heard.seen;
+  keeps = subst (λ (v : ActorView). Keeps v q.view) shown.view heard.keeps;
   received = λ works. subst (λ (v : ActorView). HasReceived k v q.view) shown.view (heard.received works);
   sent = record {
     numbers = heard.sent.numbers;
@@ -206,6 +217,75 @@ IsHeard-shown s k o m q before after shown heard = record {
     told_after {ns} shown told =
         told_trans o.view.terms o.seat.seen m.seat.seen q.seat.seen [] [] ns shown.others
         (subst (λ (v : ActorView). Told v.terms m.seat.seen q.seat.seen [] ns) shown.view told)
+
+-- ---- a start
+
+pub IsPlayer-starts : (c : Numbers) (s : Script) (p q : PlayerView) (before after : List ℕ) → IsPlayer c s false p → Starts p q before after → IsPlayer c s true q
+IsPlayer-starts c s p q before after player starts = record {
+  sound =
+      IsSound-on c s p q player.sound starts.seat.node starts.seat.actor starts.seen starts.keeps.terms starts.keeps.planned starts.keeps.budget
+      (record { each = λ k stands. absurd (starts.none k stands) });
+  fate = starts.fate;
+}
+
+-- an actor that has ended sends nothing
+pub Begins-ended : (s : Script) (o q : PlayerView) (out : List ℕ) (sent : Sent) → Starts o q [] out → (q.fate ≡ Running → ⊥) → Begins s o q sent sent
+Begins-ended s o q out sent starts ended = record {
+  seat = starts.seat;
+  seen = starts.seen;
+  keeps = starts.keeps;
+  none = starts.none;
+  sent = record { numbers = []; put = refl; all = λ running. absurd (ended running); some = inl refl };
+}
+
+-- one that works sends what it made
+pub Begins-sent : (s : Script) (o m q : PlayerView) (out front rest : List ℕ) (before after : Sent) → Starts o m [] out → m.fate ≡ Running → IsShown m q → out ≡ front ++ rest
+    → (q.fate ≡ Running → rest ≡ []) → ArePut s.config (deliveries s.config s q.seat.seen front) before after → Begins s o q before after
+Begins-sent s o m q out front rest before after starts running shown parts all put = record {
+  seat = IsSameSeat-then o m q starts.seat shown.seat;
+  seen = IsPrefix-then o.seat.seen m.seat.seen q.seat.seen starts.seen (shown_longer m q shown);
+  keeps = subst (λ (v : ActorView). Keeps o.view v) (sym shown.view) starts.keeps;
+  none = λ k stands. starts.none k (subst (λ (v : ActorView). Contains v.got k) shown.view stands);
+  sent = HasSent-of s o m q out front rest before after (starts.told running) starts.keeps.terms shown parts all put;
+}
+
+-- ---- what was shown
+
+pub WasShown-look : {B S : Type 0} (is_whole : B → B → S → S → Type 0) (moved : ℕ → ℕ → B → B → Type 0) (seen : S → List Post) → ((i x : ℕ) (b : B) → moved i x b b)
+    → (a b c : B) (from to last : S) (p q : PlayerView) → IsSameSeat p q → is_whole a b from to → moved q.seat.node q.seat.actor b c → IsPrefix (seen to) (seen last)
+    → WasShown is_whole moved seen p.seat.node p.seat.actor a c last
+WasShown-look is_whole moved seen stays a b c from to last p q same whole went more = record {
+  before = a;
+  after = b;
+  seat_before = from;
+  seat_after = to;
+  first = stays p.seat.node p.seat.actor a;
+  whole = whole;
+  last = moved_by moved b c p q same went;
+  more = more;
+}
+
+-- and before that the same seat made other calls
+pub WasShown-later : {B S : Type 0} (is_whole : B → B → S → S → Type 0) (moved : ℕ → ℕ → B → B → Type 0) (seen : S → List Post)
+    → ((i x : ℕ) (a b c : B) → moved i x a b → moved i x b c → moved i x a c) → (a b c : B) (last : S) (p q : PlayerView) → IsSameSeat p q → moved p.seat.node p.seat.actor a b
+    → WasShown is_whole moved seen q.seat.node q.seat.actor b c last → WasShown is_whole moved seen p.seat.node p.seat.actor a c last
+WasShown-later is_whole moved seen goes_on a b c last p q same went shown = record {
+  before = shown.before;
+  after = shown.after;
+  seat_before = shown.seat_before;
+  seat_after = shown.seat_after;
+  first = goes_on p.seat.node p.seat.actor a b shown.before went (moved_by moved b shown.before p q same shown.first);
+  whole = shown.whole;
+  last = moved_by moved shown.after c p q same shown.last;
+  more = shown.more;
+}
+
+-- a delivery leaves what was seen before
+pub Delivers-longer : (s : Script) (k : ℕ) (found : Option Arrival) (o q : Turning) → Delivers s k found o q → IsPrefix o.player.seat.seen q.player.seat.seen
+Delivers-longer s k None o q same = subst (λ (t : Turning). IsPrefix o.player.seat.seen t.player.seat.seen) (sym same) (IsPrefix-refl o.player.seat.seen)
+Delivers-longer s k (Some arrivals.Aside) o q same = subst (λ (t : Turning). IsPrefix o.player.seat.seen t.player.seat.seen) (sym same) (IsPrefix-refl o.player.seat.seen)
+Delivers-longer s k (Some arrivals.Prompt) o q delivered = delivered.heard.seen
+Delivers-longer s k (Some arrivals.Late) o q delivered = delivered.heard.seen
 
 -- ---- one number
 
@@ -291,6 +371,7 @@ pub record Took (old new : Turning) (more : List ℕ) : Type 0 where
   pub player : new.player ≡ old.player
   pub back : new.back ≡ old.back
   pub mail : TookOnly old.mail new.mail more
+  pub looked : new.mail.passes.take.looks ≡ old.mail.passes.take.looks + 1
 
 TookOnly-then : (a b c : MailView) (xs ys : List ℕ) → TookOnly a b xs → TookOnly b c ys → TookOnly a c (xs ++ ys)
 TookOnly-then a b c xs ys one two = record {
@@ -301,14 +382,16 @@ TookOnly-then a b c xs ys one two = record {
   sent = two.sent ∙ one.sent;
 }
 
-TookOnly-taker : (a b c : MailView) (xs : List ℕ) → TookOnly a b xs → IsSameTaker b c → (c.boxes ≡ a.boxes) × (c.passes.take.taken ≡ a.passes.take.taken ++ xs)
-TookOnly-taker a b c xs one same = (same.boxes ∙ one.boxes, ap (λ t. t.taken) same.take ∙ one.taken)
+TookOnly-taker : (a b c : MailView) (xs : List ℕ) → TookOnly a b xs → IsSameTaker b c
+    → (c.boxes ≡ a.boxes) × (c.passes.take.taken ≡ a.passes.take.taken ++ xs) × (c.passes.take.joined ≡ a.passes.take.joined)
+TookOnly-taker a b c xs one same = (same.boxes ∙ one.boxes, ap (λ t. t.taken) same.take ∙ one.taken, ap (λ t. t.joined) same.take ∙ one.joined)
 
 none_in : (k : ℕ) → Contains [] k → ⊥
 none_in k stands = Contains-none [] k refl stands
 
 pub HoldsBack-start : (s : Script) (o : Turning) → HoldsBack s [] o o
 HoldsBack-start s o = record {
+  looks = omega arith;
   shown = IsShown-refl o.player;
   fate = refl;
   each = λ k stands. absurd (none_in k stands);
@@ -323,12 +406,17 @@ each_later : (s : Script) (moved : List ℕ) (m q : PlayerView) → IsSameSeat m
     → (k : ℕ) → Contains moved k → arrival s q k ≡ arrivals.Late
 each_later s moved m q seat more each k stands = arrival-on s m q k arrivals.Late seat more late_not_aside (each k stands)
 
+-- the seat after numbers were held back, and one was looked for
+pub seat_taken : (s : Script) (moved more : List ℕ) (o m m1 : Turning) → HoldsBack s moved o m → Took m m1 more → IsSameSeat o.player m1.player
+seat_taken s moved more o m m1 was took = subst (λ (p : PlayerView). IsSameSeat o.player p) (sym took.player) was.shown.seat
+
 -- one more was held back
 pub HoldsBack-on : (s : Script) (moved : List ℕ) (k : ℕ) (o m m1 q : Turning) → HoldsBack s moved o m → m.player.fate ≡ Running → Took m m1 (k ∷ []) → ServesNew s k false m1 q
     → HoldsBack s (moved ++ k ∷ []) o q
 HoldsBack-on s moved k o m m1 q was running took served =
     let here : IsShown m.player q.player = subst (λ (p : PlayerView). IsShown p q.player) took.player served.0 in
     record {
+      looks = omega (arith, was.looks, took.looked, ap (λ (all : MailView). all.passes.take.looks) served.3, length-append moved (k ∷ []));
       shown = IsShown-then o.player m.player q.player was.shown here;
       fate = served.1 ∙ sym running ∙ was.fate;
       each = λ j stands. elim (Contains-push_cases moved k j stands) [
@@ -376,6 +464,7 @@ TakesOne-new s moved k o m m1 q was took served =
       source = inl (record { taken = all.1; back = served.0.back ∙ took.back ∙ was.back; late = served.1 });
       fares = fares_of s k moved (k ∷ []) o m m1 q was took served.0.fares;
       boxes = all.0;
+      joined = all.2;
     }
 
 -- the first of those held back was served
@@ -388,6 +477,7 @@ TakesOne-back s moved o m m1 q was took empty done =
       moved = moved;
       each = each_of s done.0 moved [] o m m1 q was took done.2;
       source = inr (record {
+        looked = omega (arith, was.looks, took.looked, ap (λ t. t.looks) done.3.take);
         taken = all.1 ∙ ap (λ (ks : List ℕ). o.mail.passes.take.taken ++ ks) (append-nil moved);
         empty = subst (λ (ks : List ℕ). HasAll o.mail.passes.take.joined ks) was.mail.taken
             (subst (λ (js : List (List ℕ)). HasAll js m.mail.passes.take.taken) was.mail.joined empty);
@@ -395,6 +485,7 @@ TakesOne-back s moved o m m1 q was took empty done =
       });
       fares = fares_of s done.0 moved [] o m m1 q was took done.2;
       boxes = all.0;
+      joined = all.2;
     }
 
 both_none : (xs ys : List ℕ) → xs ++ ys ≡ [] → (xs ≡ []) × (ys ≡ [])
@@ -410,6 +501,7 @@ TakesNone-of s moved o m m1 q was took empty done =
     let all = TookOnly-then o.mail m.mail m1.mail moved [] was.mail took.mail in
     let took_all : TookOnly o.mail q.mail (moved ++ []) = subst (λ (t : Turning). TookOnly o.mail t.mail (moved ++ [])) (sym done.1) all in
     record {
+      looked = omega (arith, was.looks, took.looked, ap (λ (t : Turning). t.mail.passes.take.looks) done.1);
       shown = subst (λ (p : PlayerView). IsShown o.player p) (sym player) was.shown;
       fate = ap (λ (p : PlayerView). p.fate) player ∙ was.fate;
       mail = subst (λ (ks : List ℕ). TookOnly o.mail q.mail ks) (append-nil moved ∙ none.1) took_all;
@@ -423,20 +515,18 @@ TakesNone-of s moved o m m1 q was took empty done =
 
 -- ---- what holds under the lock, after a look and after a delivery
 
-pub IsHeld-shown : {B S : Type 0} (knows : B → S → Type 0) (is_book : B → Type 0) (is_script : Script → Type 0) (moved : ℕ → ℕ → B → B → Type 0)
-    → ((i x : ℕ) (a b : B) → is_book a → moved i x a b → is_book b) → (seat seat' : S) (b b' : B) (s : Script) (mail mail' : MailView) (p q : PlayerView)
-    → IsHeld knows is_book is_script seat b s mail p → p.fate ≡ Running → (q.fate ≡ Running) ⊎ (q.fate ≡ Memory) → knows b' seat' → moved p.seat.node p.seat.actor b b' → IsShown p q
-    → mail'.boxes ≡ mail.boxes → mail'.passes.place ≡ mail.passes.place → IsHeld knows is_book is_script seat' b' s mail' q
-IsHeld-shown knows is_book is_script moved stays seat seat' b b' s mail mail' p q was running fate known went shown boxes place =
-    IsHeld-on knows is_book is_script seat seat' b b' s mail mail' p q was known (stays p.seat.node p.seat.actor b b' was.book went) shown.seat boxes place
+pub IsHeld-shown : {B S : Type 0} (knows : B → S → Type 0) (is_script : Script → Type 0) (run : TableId) (seat seat' : S) (b b' : B) (name name' : TableId) (s : Script) (mail mail' : MailView)
+    (p q : PlayerView) → IsHeld knows is_script run seat b name s mail p → p.fate ≡ Running → (q.fate ≡ Running) ⊎ (q.fate ≡ Memory) → knows b' seat' → name' ≡ name → IsShown p q
+    → mail'.boxes ≡ mail.boxes → mail'.passes.place ≡ mail.passes.place → IsHeld knows is_script run seat' b' name' s mail' q
+IsHeld-shown knows is_script run seat seat' b b' name name' s mail mail' p q was running fate of_book named shown boxes place =
+    IsHeld-on knows is_script run seat seat' b b' name name' s mail mail' p q was of_book named shown.seat boxes place
     (IsPlayer-shown s.config s p q was.player running shown fate)
 
-pub IsHeld-hears : {B S : Type 0} (knows : B → S → Type 0) (is_book : B → Type 0) (is_script : Script → Type 0) (moved : ℕ → ℕ → B → B → Type 0)
-    → ((i x : ℕ) (a b : B) → is_book a → moved i x a b → is_book b) → (seat seat' : S) (b b' : B) (s : Script) (mail : MailView) (k : ℕ) (p q : PlayerView) (before after : List ℕ)
-    → IsHeld knows is_book is_script seat b s mail p → IsReceived s.config s p.seat.seen p.seat.node p.seat.actor k → knows b' seat' → moved p.seat.node p.seat.actor b b'
-    → Hears k p q before after → IsHeld knows is_book is_script seat' b' s mail q
-IsHeld-hears knows is_book is_script moved stays seat seat' b b' s mail k p q before after was comes known went hears =
-    IsHeld-on knows is_book is_script seat seat' b b' s mail mail p q was known (stays p.seat.node p.seat.actor b b' was.book went) hears.seat refl refl
+pub IsHeld-hears : {B S : Type 0} (knows : B → S → Type 0) (is_script : Script → Type 0) (run : TableId) (seat seat' : S) (b b' : B) (name name' : TableId) (s : Script) (mail : MailView) (k : ℕ)
+    (p q : PlayerView) (before after : List ℕ) → IsHeld knows is_script run seat b name s mail p → IsReceived s.config s p.seat.seen p.seat.node p.seat.actor k → knows b' seat' → name' ≡ name
+    → Hears k p q before after → IsHeld knows is_script run seat' b' name' s mail q
+IsHeld-hears knows is_script run seat seat' b b' name name' s mail k p q before after was comes of_book named hears =
+    IsHeld-on knows is_script run seat seat' b b' name name' s mail mail p q was of_book named hears.seat refl refl
     (IsPlayer-hears s.config s k p q before after was.player comes hears)
 
 -- ---- what was found

@@ -5,9 +5,9 @@ use Rattle.atomic_blocks.specs.Laid.{WebId}
 use Rattle.hb_base.specs.Numbers.{Numbers}
 use Rattle.hb_base.specs.NodeSet.{is_in}
 
--- whose mailboxes node i has: one for each actor, or, if it lies, one for all that is said in its name, as of actor 255
+-- whose mailboxes node i has: one for each actor, or, if it lies, one for all its actors, as of actor 0
 abbrev pub owners_at : Numbers → ℕ → List (ℕ × ℕ)
-owners_at c i = if is_in c.liars i then (i, 255) ∷ [] else map (λ x. (i, x)) (range_with_len 0 (c.n + 1))
+owners_at c i = if is_in c.liars i then (i, 0) ∷ [] else map (λ x. (i, x)) (range_with_len 0 (c.n + 1))
 
 -- those of the nodes below i, by node and then actor
 abbrev pub owners_below : Numbers → ℕ → List (ℕ × ℕ)
@@ -19,7 +19,7 @@ owners c = owners_below c c.n
 
 -- whose the mailbox is into which comes what is for actor x of node i
 abbrev pub owner_of : Numbers → ℕ → ℕ → ℕ × ℕ
-owner_of c i x = (i, if is_in c.liars i then 255 else x)
+owner_of c i x = (i, if is_in c.liars i then 0 else x)
 
 -- where that mailbox stands: behind those of the nodes before
 abbrev pub place_of : Numbers → ℕ → ℕ → ℕ

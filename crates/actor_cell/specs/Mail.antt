@@ -1,6 +1,6 @@
 -- The mail of an actor: which numbers it has to put into whose mailboxes, and what comes of that. The letters: a run of config c and
 -- script s, post k, actor x of node i.
-use Rattle.std.specs.Prelude.{◌≡◌, ◌⊎◌, ℕ, ◌+◌, ◌==◌, ◌&&◌, ◌||◌, Bool, List, [], ◌∷◌, if◌then◌else◌, Option, None, Some, slice_get, replicate}
+use Rattle.std.specs.Prelude.{◌≡◌, ◌⊎◌, ℕ, ◌+◌, ◌==◌, ◌&&◌, ◌||◌, Bool, true, false, List, [], ◌∷◌, map, if◌then◌else◌, Option, None, Some, slice_get, slice_index_or, replicate}
 use Rattle.std.specs.List.{list_any, flat_map, range_with_len}
 use Rattle.hb_base.specs.Numbers.{Numbers}
 use Rattle.hb_base.specs.NodeSet.{is_in}
@@ -12,7 +12,7 @@ use Rattle.net_script.specs.declared.script.Shape.TheVariants.{Once, Twice, Late
 use Rattle.net_script.specs.Delivery.{shape_of}
 use Rattle.actor_cell.specs.Boxes.{BoxesView, place_of}
 use Rattle.actor_cell.specs.Marks.{is_marked}
-use Rattle.actor_cell.specs.Passes.{PassesView, puts_of, with_put}
+use Rattle.actor_cell.specs.Passes.{PassesView, puts_of, blocks_of, with_put}
 
 -- the mailboxes of the run, the actor's passes to them, and the actors whose mailbox refused a number
 pub record MailView : Type 0 where
@@ -73,28 +73,30 @@ deliveries c s posts numbers = flat_map (λ k. of_found c s (slice_get posts k) 
 
 -- ---- what was put
 
--- what was put through each pass, in the order of the mailboxes, and who was noted
+-- what was put through each pass, in the order of the mailboxes, whether it saw last that a new block is needed, and who was noted
 pub record Sent : Type 0 where
   pub puts : List (List ℕ)
+  pub blocks : List Bool
   pub noted : List (List Bool)
 
 abbrev pub sent_of : MailView → Sent
-sent_of mail = record { puts = puts_of mail.passes; noted = mail.noted }
+sent_of mail = record { puts = puts_of mail.passes; blocks = blocks_of mail.passes; noted = mail.noted }
 
 -- the number was added to the list of the pass for the mailbox of that actor, and to no other
 pub record IsPut (c : Numbers) (d : Delivery) (old new : Sent) : Type 0 where
   pub puts : new.puts ≡ with_put (place_of c d.node d.actor) d.number old.puts
   pub noted : new.noted ≡ old.noted
 
--- the number was not put, and the actor was noted
-pub record IsRefusedBy (d : Delivery) (old new : Sent) : Type 0 where
+-- the number was not put, since the mailbox needs a new block for it, and the actor was noted
+pub record IsRefusedBy (c : Numbers) (d : Delivery) (old new : Sent) : Type 0 where
   pub puts : new.puts ≡ old.puts
+  pub cause : slice_index_or new.blocks (place_of c d.node d.actor) false ≡ true
   pub noted : (i x : ℕ) → is_marked new.noted i x ≡ (((i == d.node) && (x == d.actor)) || is_marked old.noted i x)
 
 -- one after another, each was put or refused, and nothing else was put
 abbrev pub ArePut : Numbers → List Delivery → Sent → Sent → Type 0
 ArePut c [] old new = new ≡ old
-ArePut c (d ∷ ds) old new = (mid : Sent) × (IsPut c d old mid ⊎ IsRefusedBy d old mid) × ArePut c ds mid new
+ArePut c (d ∷ ds) old new = (mid : Sent) × (IsPut c d old mid ⊎ IsRefusedBy c d old mid) × ArePut c ds mid new
 
 -- the same mailboxes, and what was taken is as before
 pub record IsSameTaker (old new : MailView) : Type 0 where

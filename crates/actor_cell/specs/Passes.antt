@@ -21,9 +21,12 @@ splits_of passes = map (λ p. p.splits) passes.puts
 abbrev pub puts_of : PassesView → List (List ℕ)
 puts_of passes = map (λ p. p.put) passes.puts
 
--- whether the pass of the mailbox at a place saw last that a new block is needed there
+-- whether each pass saw last that a new block is needed, and so that of the mailbox at a place
+abbrev pub blocks_of : PassesView → List Bool
+blocks_of passes = map (λ p. p.needs_block) passes.puts
+
 abbrev pub needs_block_at : ℕ → PassesView → Bool
-needs_block_at place passes = slice_index_or (map (λ p. p.needs_block) passes.puts) place false
+needs_block_at place passes = slice_index_or (blocks_of passes) place false
 
 -- one number more was put into the mailbox at a place, and nothing into the others
 abbrev pub with_put : ℕ → ℕ → List (List ℕ) → List (List ℕ)

@@ -1,5 +1,5 @@
 -- The turns of an actor. The letters: a run of script s, post k, actor x of node i.
-use Rattle.std.specs.Prelude.{◌≡◌, ◌⊎◌, ℕ, ◌<◌, ◌≤◌, Bool, true, false, List, [], ◌∷◌, ◌++◌, if◌then◌else◌, Contains, Option, None, Some, slice_get}
+use Rattle.std.specs.Prelude.{◌≡◌, ◌⊎◌, ℕ, ◌+◌, ◌<◌, ◌≤◌, Bool, true, false, List, [], ◌∷◌, ◌++◌, length, if◌then◌else◌, Contains, Option, None, Some, slice_get}
 use Rattle.mailbox.specs.Interleaving.{HasAll}
 use Rattle.hb_base.specs.Numbers.{Numbers}
 use Rattle.hb_wire.specs.declared.post.Post.{Post}
@@ -17,7 +17,7 @@ use Rattle.actor_cell.specs.declared.arrival.Arrival.{Arrival}
 use Rattle.actor_cell.specs.declared.arrival.Arrival.TheVariants as arrivals
 use Rattle.actor_cell.specs.declared.served.Served.{Served}
 use Rattle.actor_cell.specs.declared.served.Served.TheVariants as served
-use Rattle.actor_cell.specs.Held.{HeldView, player_at}
+use Rattle.actor_cell.specs.Held.{HeldView, player_at, WasShown}
 use Rattle.actor_cell.specs.Mail.{MailView, Sent, sent_of, ArePut, IsSameTaker, deliveries}
 
 -- ---- how a post arrives
@@ -103,6 +103,23 @@ pub record HasSent (s : Script) (old new : PlayerView) (before after : Sent) : T
   pub all : new.fate ≡ Running → Told old.view.terms old.seat.seen new.seat.seen [] numbers
   pub some : (numbers ≡ []) ⊎ ((rest : List ℕ) × Told old.view.terms old.seat.seen new.seat.seen [] (numbers ++ rest))
 
+-- an actor that was never started was started, and restarted if a stop left it without power: it works, or has ended for a cause
+pub record Starts (old new : PlayerView) (before after : List ℕ) : Type 0 where
+  pub seat : IsSameSeat old new
+  pub seen : IsPrefix old.seat.seen new.seat.seen
+  pub keeps : Keeps old.view new.view
+  pub fate : HasFate true new.fate new.seat new.view
+  pub none : (k : ℕ) → ¬ Contains new.view.got k
+  pub told : new.fate ≡ Running → Told old.view.terms old.seat.seen new.seat.seen before after
+
+-- it was started, it has received nothing, and the numbers of its posts were put
+pub record Begins (s : Script) (old new : PlayerView) (before after : Sent) : Type 0 where
+  pub seat : IsSameSeat old new
+  pub seen : IsPrefix old.seat.seen new.seat.seen
+  pub keeps : Keeps old.view new.view
+  pub none : (k : ℕ) → ¬ Contains new.view.got k
+  pub sent : HasSent s old new before after
+
 -- ---- what becomes of the number that a turn takes
 
 -- its post does not stand in what the actor has seen, does not reach the actor or is dropped, and it was thrown away
@@ -123,6 +140,7 @@ pub record IsHeard (s : Script) (k : ℕ) (old new : PlayerView) (before after :
   pub comes : IsReceived s.config s new.seat.seen new.seat.node new.seat.actor k
   pub seat : IsSameSeat old new
   pub seen : IsPrefix old.seat.seen new.seat.seen
+  pub keeps : Keeps old.view new.view
   pub received : new.fate ≡ Running → HasReceived k old.view new.view
   pub sent : HasSent s old new before after
 
@@ -150,6 +168,7 @@ pub record TookOnly (old new : MailView) (more : List ℕ) : Type 0 where
 
 -- these numbers were moved from the mailbox to those held back, since their posts are late, and nothing else happened
 pub record HoldsBack (s : Script) (moved : List ℕ) (old new : Turning) : Type 0 where
+  pub looks : old.mail.passes.take.looks + length moved ≤ new.mail.passes.take.looks
   pub shown : IsShown old.player new.player
   pub fate : new.player.fate ≡ old.player.fate
   pub each : (k : ℕ) → Contains moved k → arrival s new.player k ≡ arrivals.Late
@@ -181,8 +200,10 @@ pub record IsFromMailbox (s : Script) (k : ℕ) (moved : List ℕ) (old new : Tu
   pub back : new.back ≡ old.back ++ moved
   pub late : arrival s new.player k ≡ arrivals.Late → new.player.fate ≡ Memory
 
--- the mailbox was empty at a step of this turn, and the number was the first of those held back
+-- the mailbox was empty at a step of this turn, which was one look more than those that found the moved numbers, and the number was
+-- the first of those held back
 pub record IsFromBack (k : ℕ) (moved : List ℕ) (old new : Turning) : Type 0 where
+  pub looked : old.mail.passes.take.looks + length moved < new.mail.passes.take.looks
   pub taken : new.mail.passes.take.taken ≡ old.mail.passes.take.taken ++ moved
   pub empty : HasAll old.mail.passes.take.joined (old.mail.passes.take.taken ++ moved)
   pub back : old.back ++ moved ≡ k ∷ new.back
@@ -195,9 +216,11 @@ pub record TakesOne (s : Script) (old new : Turning) : Type 0 where
   pub source : IsFromMailbox s number moved old new ⊎ IsFromBack number moved old new
   pub fares : Fares s number old.player new.player (sent_of old.mail) (sent_of new.mail)
   pub boxes : new.mail.boxes ≡ old.mail.boxes
+  pub joined : new.mail.passes.take.joined ≡ old.mail.passes.take.joined
 
--- no number was taken: the mailbox was empty at a step of this turn, and nothing is held back
+-- no number was taken: the mailbox was looked at and was empty at a step of this turn, and nothing is held back
 pub record TakesNone (old new : Turning) : Type 0 where
+  pub looked : old.mail.passes.take.looks < new.mail.passes.take.looks
   pub shown : IsShown old.player new.player
   pub fate : new.player.fate ≡ old.player.fate
   pub mail : TookOnly old.mail new.mail []
@@ -223,3 +246,15 @@ abbrev pub ServesNew : Script → ℕ → Bool → Turning → Turning → Type 
 ServesNew s k true old new = IsServed s k old new × (arrival s new.player k ≡ arrivals.Late → new.player.fate ≡ Memory)
 ServesNew s k false old new =
     IsShown old.player new.player × (new.player.fate ≡ Running) × (arrival s new.player k ≡ arrivals.Late) × (new.mail ≡ old.mail) × (new.back ≡ old.back ++ k ∷ [])
+
+-- There is an actor that lies under a lock, and it made a turn with this answer. `held` is what holds under the lock.
+pub record WasServed {A B S : Type 0} (held : HeldView A B → Type 0) (config : S → Numbers) (node actor : S → ℕ) (seen : S → List Post) (seat : A → S) (view : A → ActorView)
+    (is_whole : B → B → S → S → Type 0) (moved : ℕ → ℕ → B → B → Type 0) (answer : Served) : Type 0 where
+  pub old : HeldView A B
+  pub new : HeldView A B
+  pub before : held old
+  pub after : held new
+  pub script : new.script ≡ old.script
+  pub book : moved (node (seat old.actor)) (actor (seat old.actor)) old.book new.book
+  pub whole : answer ≡ served.Did → WasShown is_whole moved seen (node (seat old.actor)) (actor (seat old.actor)) old.book new.book (seat new.actor)
+  pub turned : Turned old.script answer (turning config node actor seen seat view old) (turning config node actor seen seat view new)

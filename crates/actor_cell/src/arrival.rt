@@ -18,14 +18,8 @@ pub enum Arrival {
     Late,
 }
 
-// How post k, where it was found, arrives at this actor of this node.
-pub(crate) fn arrival_found(
-    script: &Script,
-    found: &Option<Post>,
-    node: u8,
-    actor: u8,
-    k: u32,
-) -> Arrival
+/// How post k, where it was found, arrives at this actor of this node.
+pub fn arrival_found(script: &Script, found: &Option<Post>, node: u8, actor: u8, k: u32) -> Arrival
     ensures { result ≡ arrival_found script.now found.now node actor k }
 {
     match found {
@@ -40,8 +34,8 @@ pub(crate) fn arrival_found(
     }
 }
 
-// How posts of this shape arrive.
-fn by_lateness(shape: Shape) -> Arrival
+/// How posts of this shape arrive.
+pub fn by_lateness(shape: Shape) -> Arrival
     ensures { result ≡ by_lateness shape }
 {
     match shape {

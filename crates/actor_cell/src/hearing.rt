@@ -5,7 +5,7 @@ ghost use Rattle.std.specs.List.{AllByRecursion};
 ghost use Rattle.hb_rules.specs.Actor.{ReachesActor};
 ghost use Rattle.step_driver.specs.Playing.{IsRefused};
 ghost use Rattle.actor_cell.specs.Held.{player_at};
-ghost use Rattle.actor_cell.specs.Turning.{arrival_found, IsShown, Recovers, Hears};
+ghost use Rattle.actor_cell.specs.Turning.{arrival_found, IsShown, Recovers, Starts, Hears};
 
 use crate::arrival::{Arrival, arrival_found};
 use hb_rules::{Actor, ActorFault, Book, Fate, Outbox};
@@ -23,6 +23,7 @@ pub(crate) fn look<B: Book, A: Actor<B>>(
     requires seat { B.knows book.old (A.seat actor.old) }
     ensures seat { B.knows book.new (A.seat actor.new) }
     ensures moved { B.moved (B.node (A.seat actor.old)) (B.actor (A.seat actor.old)) book.old book.new }
+    ensures whole { B.is_whole book.old book.new (A.seat actor.old) (A.seat actor.new) }
     ensures shown { IsShown (player_at B.config B.node B.actor B.seen A.seat A.view actor.old Fate.Running)
         (player_at B.config B.node B.actor B.seen A.seat A.view actor.new Fate.Running) }
     ensures arrival { IfOk result (λ arrival. arrival ≡ arrival_found script.now (slice_get (B.seen (A.seat actor.new)) k)
@@ -33,8 +34,30 @@ pub(crate) fn look<B: Book, A: Actor<B>>(
     Ok(arrival_found(script, &found, actor.node(), actor.actor(), k))
 }
 
-// Lets the actor hear post k. A power stop is followed by restarts. The answer is its fate after that.
-pub(crate) fn hear<B: Book, A: Actor<B>>(
+/// Starts an actor that was never started. A power stop is followed by restarts. The answer is its fate after that, and `out` has
+/// the numbers of the posts that it made, if it works.
+pub fn start<B: Book, A: Actor<B>>(
+    alloc: Global,
+    book: &mut B,
+    actor: &mut A,
+    out: &mut Outbox,
+) -> Fate
+    requires seat { B.knows book.old (A.seat actor.old) }
+    requires fresh { (A.view actor.old).fresh ≡ true }
+    ensures seat { B.knows book.new (A.seat actor.new) }
+    ensures moved { B.moved (B.node (A.seat actor.old)) (B.actor (A.seat actor.old)) book.old book.new }
+    ensures starts { Starts (player_at B.config B.node B.actor B.seen A.seat A.view actor.old Fate.Running)
+        (player_at B.config B.node B.actor B.seen A.seat A.view actor.new result) out.old out.new }
+{
+    match actor.start(alloc, book, out) {
+        Ok(()) => Fate::Running,
+        Err(fault) => recover(alloc, book, actor, out, fault),
+    }
+}
+
+/// Lets the actor hear post k. A power stop is followed by restarts. The answer is its fate after that, and `out` has the numbers of
+/// the posts that it made, if it works.
+pub fn hear<B: Book, A: Actor<B>>(
     alloc: Global,
     book: &mut B,
     actor: &mut A,
@@ -55,9 +78,9 @@ pub(crate) fn hear<B: Book, A: Actor<B>>(
     }
 }
 
-// Restarts the actor while a stop has left it without power. Another refusal ends it, and so does a fault that leaves the power on.
-// `out` has the numbers of the posts that the refused call made.
-fn recover<B: Book, A: Actor<B>>(
+/// Restarts an actor whose call was refused while a stop has left it without power. Another refusal ends it, and so does a fault that
+/// leaves the power on. `out` has the numbers of the posts that the refused call made.
+pub fn recover<B: Book, A: Actor<B>>(
     alloc: Global,
     book: &mut B,
     actor: &mut A,

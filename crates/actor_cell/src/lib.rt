@@ -8,18 +8,21 @@ mod hearing;
 mod held;
 mod mail;
 mod marks;
-mod naming;
 mod passes;
+mod run_name;
 mod sending;
 mod served;
 #[cfg(test)]
 mod tests;
 
-pub use arrival::Arrival;
+pub use arrival::{Arrival, arrival_found, by_lateness};
 pub use boxes::Boxes;
 pub use cell::Cell;
+pub use hearing::{hear, recover, start};
 pub use held::Held;
+pub use mail::Mail;
 pub use marks::Marks;
-pub use naming::Naming;
 pub use passes::Passes;
+pub use run_name::RunName;
+pub use sending::send_all;
 pub use served::Served;

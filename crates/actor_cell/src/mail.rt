@@ -1,6 +1,6 @@
 //! How an actor takes numbers from its mailbox, and puts those of its posts into the mailboxes of others.
 
-ghost use Rattle.std.specs.Prelude.{◌≡◌, ℕ, ◌<◌, ◌≤◌, true, false, [], ◌∷◌, ◌++◌, IfNone, MatchOption};
+ghost use Rattle.std.specs.Prelude.{◌≡◌, ℕ, ◌+◌, ◌<◌, ◌≤◌, true, false, [], ◌∷◌, ◌++◌, IfNone, MatchOption};
 ghost use Rattle.std.specs.List.{flat_map, range_with_len};
 ghost use Rattle.hb_base.specs.NodeSet.{is_in};
 ghost use Rattle.mailbox.specs.Interleaving.{HasAll};
@@ -20,7 +20,7 @@ use std::sync::Wait;
 /// The mailboxes of a run with the passes of one actor, and the actors whose mailbox refused a number of it. Clauses see a
 /// `MailView`.
 #[derive(Drop)]
-pub(crate) struct Mail<'b> {
+pub struct Mail<'b> {
     boxes: &'b Boxes,
     passes: Passes,
     noted: Marks,
@@ -38,8 +38,8 @@ impl<'b> Model for Mail<'b> {
 }
 
 impl<'b> Mail<'b> {
-    // Nobody is noted.
-    pub(crate) fn new(boxes: &'b Boxes, passes: Passes) -> Mail<'b>
+    /// The mailboxes of a run, and the passes of one actor, or of a node that lies. Nobody is noted.
+    pub fn new(boxes: &'b Boxes, passes: Passes) -> Mail<'b>
         requires { ArePassesOf boxes.now passes }
         ensures boxes { result.boxes ≡ boxes.now }
         ensures passes { result.passes ≡ passes }
@@ -52,19 +52,20 @@ impl<'b> Mail<'b> {
         }
     }
 
-    // The actors whose mailbox refused a number.
-    pub(crate) fn noted(&self) -> Marks
+    /// The actors whose mailbox refused a number. A node that lies is noted as actor 0.
+    pub fn noted(&self) -> Marks
         ensures { result ≡ self.now.noted }
     {
         self.noted
     }
 
-    // Takes the oldest number from the actor's mailbox, as `Boxes::take`.
-    pub(crate) fn take<R: Wait>(&mut self, rt: &R) -> Option<u32>
+    /// Takes the oldest number from the own mailbox, as `Boxes::take`.
+    pub fn take<R: Wait>(&mut self, rt: &R) -> Option<u32>
         ensures boxes { self.new.boxes ≡ self.old.boxes }
         ensures place { self.new.passes.place ≡ self.old.passes.place }
         ensures sent { sent_of self.new ≡ sent_of self.old }
         ensures joined { self.new.passes.take.joined ≡ self.old.passes.take.joined }
+        ensures looked { self.new.passes.take.looks ≡ self.old.passes.take.looks + 1 }
         ensures empty { IfNone result (HasAll self.old.passes.take.joined self.old.passes.take.taken) }
         ensures taken { MatchOption result (self.new.passes.take.taken ≡ self.old.passes.take.taken)
             (λ number. self.new.passes.take.taken ≡ self.old.passes.take.taken ++ number ∷ []) }
@@ -161,8 +162,9 @@ impl<'b> Mail<'b> {
         }
     }
 
-    // Puts the number of a post, by shape, for all whom it reaches. An actor whose mailbox refuses it is noted.
-    pub(crate) fn send<R: Wait>(&mut self, rt: &R, script: &Script, post: &Post, k: u32)
+    /// Puts the number of a post, by shape, for all whom it reaches: one that is dropped not at all, one that comes twice twice. An
+    /// actor whose mailbox refuses it is noted, and a node that lies as its actor 0.
+    pub fn send<R: Wait>(&mut self, rt: &R, script: &Script, post: &Post, k: u32)
         ensures { AreSent self.old.boxes.config (of_post self.old.boxes.config script.now post.now k) self.old self.new }
     {
         let n = self.boxes.config().n();

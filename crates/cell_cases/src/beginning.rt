@@ -1,55 +1,46 @@
-//! The beginning: a desk proposes, a liar says something, and a lane is started.
-ghost use Rattle.std.specs.Prelude.{◌≡◌, ◌<◌, true, false, [], IfOk, IfSome};
+//! A lane that is started, over any kind of book that threads may share.
+ghost use Rattle.std.specs.Prelude.{◌≡◌, ◌<◌, true, false, []};
 ghost use Rattle.std.specs.Arc.{arc_value};
 ghost use Rattle.hb_base.specs.NodeSet.{is_in};
 ghost use Rattle.disk_model.specs.Memory.{new_disk};
-ghost use Rattle.hb_rules.specs.Book.{IsSeatOf, Moved};
-ghost use Rattle.hb_rules.specs.declared.report.Fate.TheVariants.{Running};
-ghost use Rattle.cell_cases.specs.Begun.{IsBegun};
+ghost use Rattle.hb_rules.specs.Hearing.{own_in};
+ghost use Rattle.actor_cell.specs.Mail.{IsSameTaker};
 
+use actor_cell::{Held, Mail, RunName};
 use coin_deal::Deal;
-use desk_core::new_desk;
 use disk_model::{MemoryDisk, Plan};
-use hb_base::Config;
-use hb_rules::{Actor, Book, Outbox, PlainBook, PlainSeat};
-use hb_wire::To;
 use lane_core::{Lane, new_lane};
 use net_script::Script;
+use post_book::NamedBook;
 use std::alloc::Global;
-use std::sync::Arc;
+use std::sync::{Arc, Wait};
 
-/// A lane over a plain book and a disk in memory.
-pub type PlainLane = Lane<PlainBook, MemoryDisk>;
-
-/// A book, and a lane that was started over it.
-#[derive(Drop)]
-pub struct Begun {
-    pub book: PlainBook,
-    pub lane: PlainLane,
-}
-
-/// A book in which post 0 is what the desk of node 0 proposes, with nothing submitted, and post 1 is a lie of node 3 to lane 0 of all
-/// nodes, with one byte; and lane 0 of node 0, which was started after that. None where there was no memory for it.
-pub fn begin(alloc: Global, script: &Script, deal: Arc<Deal, Global>) -> Option<Begun>
+/// Lane 0 of node 0 with a disk that never fails, started by its seat of this book.
+pub fn begin<'b, B: NamedBook + Drop, J: RunName, R: Wait>(
+    rt: &R,
+    alloc: Global,
+    script: &'b Script,
+    deal: Arc<Deal, Global>,
+    book: B,
+    seat: B::Seat,
+    mail: Mail<'b>,
+) -> Held<'b, B, Lane<B, MemoryDisk>, J>
     requires plans { script.now.plans.items ≡ [] }
     requires deal { arc_value deal ≡ script.now.config }
     requires honest { is_in script.now.config.liars 0 ≡ false }
-    requires liar { (is_in script.now.config.liars 3 ≡ true) × (3 < script.now.config.n) }
-    ensures { IfSome result (IsBegun script.now) }
+    requires nodes { 0 < script.now.config.n }
+    requires book { B.knows book seat × (B.name book ≡ J.book) }
+    requires script { J.is_script script.now }
+    requires seat { (B.config seat ≡ script.now.config) × (B.node seat ≡ 0) × (B.actor seat ≡ 0) }
+    requires unused { own_in script.now.config 0 0 (B.seen seat) ≡ [] }
+    requires boxes { mail.boxes.config ≡ script.now.config }
+    requires place { mail.passes.place ≡ 0 }
+    ensures script { (result.script ≡ script.now) × (result.back ≡ []) }
+    ensures moved { B.moved 0 0 book result.book }
+    ensures taker { IsSameTaker mail.entry result.mail }
 {
-    let config = script.config;
-    let mut book = PlainBook::new(alloc, &config);
-    let desk = book.seat(0, config.n());
-    let liar = book.seat(3, 255);
-    let seat = book.seat(0, 0);
-    let mut lane = new_lane(alloc, &config, 0, 0, deal, quiet_disk(alloc), seat);
-    propose(alloc, &config, &mut book, desk);
-    tell(&mut book, liar);
-    let mut out = Outbox::new(alloc);
-    match lane.start(alloc, &mut book, &mut out) {
-        Ok(()) => Some(Begun { book, lane }),
-        Err(_) => None,
-    }
+    let lane = new_lane(alloc, &script.config, 0, 0, deal, quiet_disk(alloc), seat);
+    Held::begin(rt, alloc, lane, script, book, mail)
 }
 
 // A disk that never fails.
@@ -59,26 +50,4 @@ fn quiet_disk(alloc: Global) -> MemoryDisk
     let stops = Vec::new(alloc);
     let faults = Vec::new(alloc);
     MemoryDisk::new(alloc, Plan { stops, faults })
-}
-
-// The desk of node 0 proposes, unless there is no memory for that.
-fn propose(alloc: Global, config: &Config, book: &mut PlainBook, seat: PlainSeat)
-    requires known { 0 < config.now.n }
-    requires seat { seat ≡ record { config = config.now; node = 0; actor = config.now.n; seen = [] } }
-    requires knows { IsSeatOf book.old seat }
-    ensures { Moved 0 config.now.n book.old book.new }
-{
-    let submitted = Vec::new(alloc);
-    let mut desk = new_desk(alloc, config, 0, submitted, quiet_disk(alloc), seat);
-    let mut out = Outbox::new(alloc);
-    let _ = desk.start(alloc, book, &mut out);
-}
-
-// A liar says something to lane 0 of all nodes, unless there is no memory for that.
-fn tell(book: &mut PlainBook, mut seat: PlainSeat)
-    requires knows { IsSeatOf book.old seat }
-    requires liar { is_in seat.config.liars seat.node ≡ true }
-    ensures { Moved seat.node seat.actor book.old book.new }
-{
-    let _ = book.lie(&mut seat, 0, To::All, b"?");
 }

@@ -1,12 +1,14 @@
-//! A lane of a correct node that was started over a plain book, behind its lock: a caller of cells, with contracts of its own.
+//! A lane of a correct node that is started over a shared book and put behind its lock: a caller of cells, with contracts of its own.
 #![tactic(auto)]
 
 mod beginning;
-mod locking;
 mod marking;
+mod sharing;
 #[cfg(test)]
 mod tests;
+mod turning;
 
-pub use beginning::{Begun, PlainLane, begin};
-pub use locking::{first_passes, locked};
+pub use beginning::begin;
 pub use marking::CountingGate;
+pub use sharing::{SharedLane, begin_shared};
+pub use turning::{Turns, first_passes, hear_a_lie};

@@ -11,7 +11,7 @@ use Rattle.crossbeam_queue.proofs.Lists.{set_else}
 use Rattle.mailbox.specs.declared.rule.View.{View}
 use Rattle.mailbox.specs.Interleaving.{IsInterleaving, HasAll}
 use Rattle.mailbox.specs.Shares.{AreAtMost, parts_of, AreWhole}
-use Rattle.mailbox.specs.Ordered.{putter, opener, spent, halved, other_half, put_side, take_side, after_put, after_take, joined_with}
+use Rattle.mailbox.specs.Ordered.{putter, opener, spent, halved, other_half, put_side, take_side, after_put, after_take, looked_once, joined_with}
 use Rattle.mailbox.specs.Ordered.{pass_number, joined_place, Put, sent_by, total, FitsPass, IsInOrder}
 use Rattle.mailbox.proofs.Places.{within, stands, get_or-length, get_or-snoc_here, get_or-snoc_else, EachView, EachView-set, EachView-snoc}
 use Rattle.mailbox.proofs.Places.{total-set, total-snoc, others_none}
@@ -168,6 +168,40 @@ forks_sides port v may items views b at =
             coarse = tt;
             idle = λ _. refl;
             takes = λ _. record { one = refl; taken_is = mine.taken_is; silent = refl; known = mine.known };
+          };
+    }
+
+-- a look changes nothing but how often the pass looked
+pub forks_looked : (port : ℕ) (v : View) → Forks IsInOrder port v (looked_once v) spent
+forks_looked port v items views b at =
+    let left : View = looked_once v in
+    let vs : List View = set views port left in
+    let old = b.fits port v at in
+    let f : View → ℕ = λ u. parts_of b.finest u.splits in
+    let F : ℕ → View → Type 0 = FitsPass b.taker_number b.taken b.log b.finest in
+    let same : length vs ≡ length views = length-set views port left in
+    record {
+      taker_number = b.taker_number;
+      taken = b.taken;
+      log = b.log;
+      finest = b.finest;
+      in_order = b.in_order;
+      whole = let s = total-set f views port v left at in let t = total-snoc f vs spent in let u = b.whole in omega arith;
+      none_beyond = λ number far. b.none_beyond number (let l = length-snoc vs spent in omega arith);
+      fits = EachView-snoc F vs spent
+          (EachView-set F views port left
+          record {
+            sent_is = old.sent_is;
+            coarse = old.coarse;
+            idle = old.idle;
+            takes = λ t. let o = old.takes t in record { one = o.one; taken_is = o.taken_is; silent = o.silent; known = o.known };
+          }
+          (λ j u apart e. b.fits j u e))
+          record {
+            sent_is = b.none_beyond (length vs) (omega arith);
+            coarse = tt;
+            idle = λ _. refl;
+            takes = λ t. absurd (true≢false (sym t));
           };
     }
 

@@ -13,6 +13,7 @@ pub struct View {
     pub sent: LinkedList<u32>,
     pub taken: LinkedList<u32>,
     pub joined: LinkedList<LinkedList<u32>>,
+    pub looks: u64,
 }
 
 pub struct InOrder;
@@ -61,6 +62,17 @@ impl Outcome<u32, View> for Takes {
     ghost use Rattle.mailbox.specs.Ordered.{after_take};
 
     ghost then = { λ v x w. w ≡ after_take v x };
+}
+
+// The take pass looks at the queue. Beside it comes a pass with no right at all, which is dropped.
+pub struct Glances;
+
+impl Split<View> for Glances {
+    ghost use Rattle.mailbox.specs.Ordered.{looked_once, spent};
+
+    ghost left = { looked_once };
+
+    ghost right = { λ v. spent };
 }
 
 // What was taken and then what is left has all that the passes which were taken in had put. Once these are the whole right

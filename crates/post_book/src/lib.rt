@@ -8,6 +8,7 @@
 
 mod book;
 mod first_seat;
+mod named_book;
 mod named_posts;
 mod naming;
 mod seat;
@@ -15,6 +16,7 @@ mod shared_book;
 
 pub use book::PostBook;
 pub use first_seat::FirstSeat;
+pub use named_book::NamedBook;
 pub use naming::Naming;
 pub use seat::SharedSeat;
 pub use shared_book::SharedBook;

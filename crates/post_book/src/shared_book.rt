@@ -11,6 +11,7 @@ use std::alloc::AllocError;
 use std::sync::Wait;
 
 /// A handle of a shared book, and what waits for its turns there. Each actor may have one of its own.
+#[derive(Drop)]
 pub struct SharedBook<'a, R, J: Naming> {
     rt: &'a R,
     book: &'a PostBook<J>,

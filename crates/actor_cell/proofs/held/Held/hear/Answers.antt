@@ -14,26 +14,28 @@ use Rattle.actor_cell.proofs.held.Held.hear.Goals as goal
 pub invariant_of-self : goal.invariant_of-self
 invariant_of-self g c =
     let b = g.B.Book in
+    let n = g.B.NamedBook in
     let a = g.A.Actor in
     let o = player_at b.config b.node b.actor b.seen a.seat a.view c.self.inside.actor c.self.inside.fate in
     let q = player_at b.config b.node b.actor b.seen a.seat a.view c.hear-self-inside.new.actor c.hear-self-inside.result in
     let comes = subst (λ (v : HeldView _ _). IsReceived v.script.config v.script (b.seen (a.seat v.actor)) (b.node (a.seat v.actor)) (b.actor (a.seat v.actor)) c.args.k) (sym c.self.view_is) c.requires.comes in
     let hears : Hears c.args.k o q c.new-out.result c.hear-self-inside.new.out = Hears-fates c.args.k (player_at b.config b.node b.actor b.seen a.seat a.view c.self.inside.actor Running) q c.self.inside.fate
     c.new-out.result c.hear-self-inside.new.out c.hear-self-inside.ensures.hears in
-    IsHeld-hears b.knows g.J.Naming.is_book g.J.Naming.is_script b.moved g.met.J.Naming.stays (a.seat c.self.inside.actor) (a.seat c.hear-self-inside.new.actor) c.self.inside.book c.hear-self-inside.new.book
-    c.self.inside.script.now c.self.inside.mail c.args.k o q c.new-out.result c.hear-self-inside.new.out c.self.invariant comes c.hear-self-inside.ensures.seat c.hear-self-inside.ensures.moved hears
+    IsHeld-hears b.knows g.J.RunName.is_script g.J.RunName.book (a.seat c.self.inside.actor) (a.seat c.hear-self-inside.new.actor) c.self.inside.book c.hear-self-inside.new.book (n.name c.self.inside.book) (n.name c.hear-self-inside.new.book)
+    c.self.inside.script.now c.self.inside.mail c.args.k o q c.new-out.result c.hear-self-inside.new.out c.self.invariant comes c.hear-self-inside.ensures.seat (g.met.B.NamedBook.stays_named (b.node (a.seat c.self.inside.actor)) (b.actor (a.seat c.self.inside.actor)) c.self.inside.book c.hear-self-inside.new.book c.hear-self-inside.ensures.moved) hears
 
 pub invariant_of-self-else-is_running : goal.invariant_of-self-else-is_running
 invariant_of-self-else-is_running g c =
     let b = g.B.Book in
+    let n = g.B.NamedBook in
     let a = g.A.Actor in
     let o = player_at b.config b.node b.actor b.seen a.seat a.view c.self.inside.actor c.self.inside.fate in
     let q = player_at b.config b.node b.actor b.seen a.seat a.view c.hear-self-inside.new.actor c.hear-self-inside.result in
     let comes = subst (λ (v : HeldView _ _). IsReceived v.script.config v.script (b.seen (a.seat v.actor)) (b.node (a.seat v.actor)) (b.actor (a.seat v.actor)) c.args.k) (sym c.self.view_is) c.requires.comes in
     let hears : Hears c.args.k o q c.new-out.result c.hear-self-inside.new.out = Hears-fates c.args.k (player_at b.config b.node b.actor b.seen a.seat a.view c.self.inside.actor Running) q c.self.inside.fate
     c.new-out.result c.hear-self-inside.new.out c.hear-self-inside.ensures.hears in
-    IsHeld-hears b.knows g.J.Naming.is_book g.J.Naming.is_script b.moved g.met.J.Naming.stays (a.seat c.self.inside.actor) (a.seat c.hear-self-inside.new.actor) c.self.inside.book c.hear-self-inside.new.book
-    c.self.inside.script.now c.self.inside.mail c.args.k o q c.new-out.result c.hear-self-inside.new.out c.self.invariant comes c.hear-self-inside.ensures.seat c.hear-self-inside.ensures.moved hears
+    IsHeld-hears b.knows g.J.RunName.is_script g.J.RunName.book (a.seat c.self.inside.actor) (a.seat c.hear-self-inside.new.actor) c.self.inside.book c.hear-self-inside.new.book (n.name c.self.inside.book) (n.name c.hear-self-inside.new.book)
+    c.self.inside.script.now c.self.inside.mail c.args.k o q c.new-out.result c.hear-self-inside.new.out c.self.invariant comes c.hear-self-inside.ensures.seat (g.met.B.NamedBook.stays_named (b.node (a.seat c.self.inside.actor)) (b.actor (a.seat c.self.inside.actor)) c.self.inside.book c.hear-self-inside.new.book c.hear-self-inside.ensures.moved) hears
 
 pub send-requires-clause-stand : goal.send-requires-clause-stand
 send-requires-clause-stand g c =

@@ -8,23 +8,25 @@ use Rattle.actor_cell.proofs.held.Held.look.Goals as goal
 pub invariant_of-self : goal.invariant_of-self
 invariant_of-self g c =
     let b = g.B.Book in
+    let n = g.B.NamedBook in
     let a = g.A.Actor in
     let run : c.self.inside.fate ≡ Running = ap (λ (v : HeldView _ _). v.fate) c.self.view_is ∙ c.requires.running in
     let o = player_at b.config b.node b.actor b.seen a.seat a.view c.self.inside.actor c.self.inside.fate in
     let q = player_at b.config b.node b.actor b.seen a.seat a.view c.look.new.actor c.self.inside.fate in
     let shown : IsShown o q = IsShown-fates (player_at b.config b.node b.actor b.seen a.seat a.view c.self.inside.actor Running)
     (player_at b.config b.node b.actor b.seen a.seat a.view c.look.new.actor Running) c.self.inside.fate c.self.inside.fate c.look.ensures.shown in
-    IsHeld-shown b.knows g.J.Naming.is_book g.J.Naming.is_script b.moved g.met.J.Naming.stays (a.seat c.self.inside.actor) (a.seat c.look.new.actor) c.self.inside.book c.look.new.book
-    c.self.inside.script.now c.self.inside.mail c.self.inside.mail o q c.self.invariant run (inl run) c.look.ensures.seat c.look.ensures.moved shown refl refl
+    IsHeld-shown b.knows g.J.RunName.is_script g.J.RunName.book (a.seat c.self.inside.actor) (a.seat c.look.new.actor) c.self.inside.book c.look.new.book (n.name c.self.inside.book) (n.name c.look.new.book)
+    c.self.inside.script.now c.self.inside.mail c.self.inside.mail o q c.self.invariant run (inl run) c.look.ensures.seat (g.met.B.NamedBook.stays_named (b.node (a.seat c.self.inside.actor)) (b.actor (a.seat c.self.inside.actor)) c.self.inside.book c.look.new.book c.look.ensures.moved) shown refl refl
 
 pub invariant_of-self-in-Err : goal.invariant_of-self-in-Err
 invariant_of-self-in-Err g c =
     let b = g.B.Book in
+    let n = g.B.NamedBook in
     let a = g.A.Actor in
     let run : c.self.inside.fate ≡ Running = ap (λ (v : HeldView _ _). v.fate) c.self.view_is ∙ c.requires.running in
     let o = player_at b.config b.node b.actor b.seen a.seat a.view c.self.inside.actor c.self.inside.fate in
     let q = player_at b.config b.node b.actor b.seen a.seat a.view c.look.new.actor Memory in
     let shown : IsShown o q = IsShown-fates (player_at b.config b.node b.actor b.seen a.seat a.view c.self.inside.actor Running)
     (player_at b.config b.node b.actor b.seen a.seat a.view c.look.new.actor Running) c.self.inside.fate Memory c.look.ensures.shown in
-    IsHeld-shown b.knows g.J.Naming.is_book g.J.Naming.is_script b.moved g.met.J.Naming.stays (a.seat c.self.inside.actor) (a.seat c.look.new.actor) c.self.inside.book c.look.new.book
-    c.self.inside.script.now c.self.inside.mail c.self.inside.mail o q c.self.invariant run (inr refl) c.look.ensures.seat c.look.ensures.moved shown refl refl
+    IsHeld-shown b.knows g.J.RunName.is_script g.J.RunName.book (a.seat c.self.inside.actor) (a.seat c.look.new.actor) c.self.inside.book c.look.new.book (n.name c.self.inside.book) (n.name c.look.new.book)
+    c.self.inside.script.now c.self.inside.mail c.self.inside.mail o q c.self.invariant run (inr refl) c.look.ensures.seat (g.met.B.NamedBook.stays_named (b.node (a.seat c.self.inside.actor)) (b.actor (a.seat c.self.inside.actor)) c.self.inside.book c.look.new.book c.look.ensures.moved) shown refl refl

@@ -11,5 +11,6 @@ invariant-loop g l =
     record {
       script : l.self.script ≡ l.fn.self.script;
       running : l.self.fate ≡ Running;
+      moved : b.moved (b.node (a.seat l.fn.self.actor)) (b.actor (a.seat l.fn.self.actor)) l.fn.self.book l.self.book;
       held : (moved : List ℕ) × HoldsBack l.fn.self.script moved (turning b.config b.node b.actor b.seen a.seat a.view l.fn.self) (turning b.config b.node b.actor b.seen a.seat a.view l.self);
     }
