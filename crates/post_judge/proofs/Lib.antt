@@ -1,4 +1,3 @@
-mod Actors
 mod Adding
 mod Epochs
 mod Heard

@@ -9,13 +9,16 @@ ghost use Rattle.hb_rules.specs.Hearing.{own_in, heard_in, spelled};
 ghost use Rattle.hb_rules.specs.Same.{same_vote};
 ghost use Rattle.hb_rules.specs.Strings.{NoCollision};
 ghost use Rattle.history_verdict.specs.Verdicts.{Judges};
-ghost use Rattle.post_judge.specs.Places.{is_cast_ever};
-ghost use Rattle.post_judge.specs.Tables.{own_votes, AreTold};
+ghost use Rattle.hb_rules.specs.Terms.{AreHeardSpelled};
+ghost use Rattle.broadcast_judge.specs.Checked.{AreChecked};
+ghost use Rattle.post_judge.specs.Places.{casts, is_cast_ever, looked_at};
+ghost use Rattle.post_judge.specs.Tables.{own_votes, told_from, AreTold};
 
-use crate::casting::{casts, may_cast};
+use crate::casting::{Caster, casts, may_cast};
 use crate::gathering::{told_from, votes_of};
 use crate::placing::{looked_at, own_place};
 use crate::table::Table;
+use hb_rules::Heard;
 use hb_wire::{Post, Vote, equality_laws};
 use history_verdict::verdict_laws;
 use std::alloc::AllocError;
@@ -25,6 +28,21 @@ fn is_cast_ever(table: &Table, actor: u8, vote: &Vote) -> bool
     ensures { result ≡ is_cast_ever table.now.config actor vote.now }
 {
     casts(table.config.n(), actor, vote) && vote.epoch() < table.config.epochs()
+}
+
+// What an actor hears of the posts at which the rule for a vote looks that actors of its number cast.
+fn heard_for(table: &Table, node: u8, actor: u8, vote: &Vote) -> Result<Vec<Heard>, AllocError>
+    requires told { AreTold table.now.config table.now.posts.items table.now.buckets.by_place }
+    requires casts { casts table.now.config.n actor vote.now ≡ true }
+    ensures exact { IfOk result (λ heard. heard.items
+        ≡ told_from table.now.config node actor table.now.buckets.by_place (looked_at table.now.config node actor vote.now)) }
+    ensures checked { IfOk result (λ heard. actor < table.now.config.n → AreChecked table.now.config.n heard.items) }
+    ensures spelled { IfOk result (λ heard. AreHeardSpelled table.now.config heard.items) }
+{
+    let alloc = table.alloc;
+    let places = looked_at(alloc, &table.config, node, actor, vote)?;
+    let heard = told_from(alloc, &table.config, node, actor, &table.buckets, &places)?;
+    Ok(heard)
 }
 
 // Whether an actor of a correct node may cast a vote now, by the votes that it has cast.
@@ -52,19 +70,13 @@ fn may_cast_now(
     if !is_cast_ever(table, actor, vote) {
         return Ok(false);
     }
-    let alloc = table.alloc;
-    let places = looked_at(alloc, &table.config, node, actor, vote)?;
-    let heard = told_from(alloc, &table.config, node, actor, &table.buckets, &places)?;
-    may_cast(
-        alloc,
-        &table.deal,
-        &table.config,
+    let heard = heard_for(table, node, actor, vote)?;
+    let caster = Caster {
+        config: table.config,
         node,
         actor,
-        own,
-        &heard,
-        vote,
-    )
+    };
+    may_cast(table.alloc, &table.deal, &caster, own, &heard, vote)
 }
 
 // Whether an actor of a correct node has cast a vote before, or may cast it now.
@@ -78,7 +90,8 @@ fn is_allowed(table: &Table, node: u8, actor: u8, vote: &Vote) -> Result<bool, A
     ensures complete { IfOk result (λ may. IsLegal table.now.config table.now.posts.items → NoCollision table.now.config table.now.posts.items
         → IsAllowed table.now.config node actor table.now.posts.items vote.now → may ≡ true) }
 {
-    let own = votes_of(table.alloc, table.buckets.at(own_place(table.config.n(), node, actor, vote)))?;
+    let place = own_place(table.config.n(), node, actor, vote);
+    let own = votes_of(table.alloc, table.buckets.at(place))?;
     if is_among(vote, &own) {
         return Ok(true);
     }

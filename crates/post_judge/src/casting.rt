@@ -18,6 +18,14 @@ use hb_rules::Heard;
 use hb_wire::Vote;
 use std::alloc::{AllocError, Global};
 
+// An actor of a node, in a run with this config.
+#[derive(Clone, Copy)]
+pub(crate) struct Caster {
+    pub(crate) config: Config,
+    pub(crate) node: u8,
+    pub(crate) actor: u8,
+}
+
 // Whether actors of this number cast votes of this kind: the desk, which is actor n, or the lanes.
 pub(crate) fn casts(n: u8, actor: u8, vote: &Vote) -> bool
     ensures { result ≡ casts n actor vote.now }
@@ -70,37 +78,34 @@ fn may_in_lane(
     may_agree(alloc, deal, &place, own, heard, vote)
 }
 
-// Whether an actor of a node may cast a vote that actors of its number cast, of an epoch that the run has. A yes is always right, and
-// so is a no of a desk. The no of a lane is right where all was heard in a legal history in which no two strings that were hashed share
-// a digest.
+// Whether an actor may cast a vote that actors of its number cast, of an epoch that the run has. A yes is always right, and so is a no
+// of a desk. The no of a lane is right where all was heard in a legal history in which no two strings that were hashed share a digest.
 pub(crate) fn may_cast(
     alloc: Global,
     deal: &Deal,
-    config: &Config,
-    node: u8,
-    actor: u8,
+    caster: &Caster,
     own: &[Vote],
     heard: &[Heard],
     vote: &Vote,
 ) -> Result<bool, AllocError>
-    requires deal { deal.now ≡ config.now }
-    requires node { node < config.now.n }
-    requires casts { casts config.now.n actor vote.now ≡ true }
-    requires epoch { epoch_of vote.now < config.now.epochs }
-    requires vote { HasSpelling config.now vote.now }
-    requires checked { actor < config.now.n → AreChecked config.now.n heard.now }
-    requires spelled { AreHeardSpelled config.now heard.now }
-    ensures sound { IfOk result (λ may. may ≡ true → MayCast config.now node actor own.now heard.now vote.now) }
-    ensures complete { IfOk result (λ may. (actor < config.now.n → IsHeardApart config.now node actor heard.now)
-        → MayCast config.now node actor own.now heard.now vote.now → may ≡ true) }
+    requires deal { deal.now ≡ caster.now.config }
+    requires node { caster.now.node < caster.now.config.n }
+    requires casts { casts caster.now.config.n caster.now.actor vote.now ≡ true }
+    requires epoch { epoch_of vote.now < caster.now.config.epochs }
+    requires vote { HasSpelling caster.now.config vote.now }
+    requires checked { caster.now.actor < caster.now.config.n → AreChecked caster.now.config.n heard.now }
+    requires spelled { AreHeardSpelled caster.now.config heard.now }
+    ensures sound { IfOk result (λ may. may ≡ true → MayCast caster.now.config caster.now.node caster.now.actor own.now heard.now vote.now) }
+    ensures complete { IfOk result (λ may. (caster.now.actor < caster.now.config.n → IsHeardApart caster.now.config caster.now.node caster.now.actor heard.now)
+        → MayCast caster.now.config caster.now.node caster.now.actor own.now heard.now vote.now → may ≡ true) }
 {
-    if actor < config.n() {
+    if caster.actor < caster.config.n() {
         let lane = Lane {
-            config: *config,
-            node,
-            lane: actor,
+            config: caster.config,
+            node: caster.node,
+            lane: caster.actor,
         };
         return may_in_lane(alloc, deal, &lane, own, heard, vote);
     }
-    Ok(may_at_desk(config, own, heard, vote))
+    Ok(may_at_desk(&caster.config, own, heard, vote))
 }

@@ -15,7 +15,7 @@ returns-then-is_among-clause-sound c =
     let own : c.deref.result.now ≡ own_votes t.config.n c.args.node c.args.actor c.args.vote.now t.buckets.by_place =
     c.deref.ensures.value ∙ c.in_ok-own.ensures
     ∙ ap (λ (ts : List Told). map (λ (u : Told). u.vote) ts) (c.at.ensures ∙ ap (told_at t.buckets.by_place)
-    (c.own_place.ensures ∙ ap (λ (n : ℕ). own_place n c.args.node c.args.actor c.args.vote.now) c.n.ensures.value)) in
+    (c.own_place-place.ensures ∙ ap (λ (n : ℕ). own_place n c.args.node c.args.actor c.args.vote.now) c.n.ensures.value)) in
     λ _. inl (cast_before t.config t.posts.items t.buckets.by_place c.args.node c.args.actor c.args.vote.now c.requires.told
     (ap (λ (vs : List Vote). list_any (same_vote c.args.vote.now) vs) (sym own) ∙ sym c.is_among.ensures ∙ c.if-is_among.true))
 
@@ -25,7 +25,7 @@ returns-clause-complete c =
     let own : c.deref.result.now ≡ own_votes t.config.n c.args.node c.args.actor c.args.vote.now t.buckets.by_place =
     c.deref.ensures.value ∙ c.in_ok-own.ensures
     ∙ ap (λ (ts : List Told). map (λ (u : Told). u.vote) ts) (c.at.ensures ∙ ap (told_at t.buckets.by_place)
-    (c.own_place.ensures ∙ ap (λ (n : ℕ). own_place n c.args.node c.args.actor c.args.vote.now) c.n.ensures.value)) in
+    (c.own_place-place.ensures ∙ ap (λ (n : ℕ). own_place n c.args.node c.args.actor c.args.vote.now) c.n.ensures.value)) in
     IfOk-weaker c.may_cast_now.result _ _
     (λ may told legal apart allowed.
     told legal apart

@@ -1,20 +1,14 @@
-use Rattle.std.proofs.Common.{◌≡◌, true, sym, ap, ◌∙◌, subst, List, nat_lt}
+use Rattle.std.proofs.Common.{◌≡◌, true, nat_lt, sym, ◌∙◌, subst, List}
 use Rattle.std.proofs.lemmas.Bool.{and_parts, both_ways}
 use Rattle.std.proofs.lemmas.Result.{IfOk-weaker}
 use Rattle.hb_wire.specs.Votes.{epoch_of}
 use Rattle.hb_wire.specs.declared.vote.Vote.{Vote}
 use Rattle.hb_rules.specs.Hearing.{Hearing}
-use Rattle.hb_rules.specs.Lanes.{is_correct}
 use Rattle.hb_rules.specs.Rules.{MayCast}
-use Rattle.hb_rules.specs.Terms.{AreHeardSpelled}
 use Rattle.hb_rules.specs.Apart.{IsHeardApart}
-use Rattle.broadcast_judge.specs.Checked.{AreChecked}
-use Rattle.post_judge.specs.declared.place.Place.{Place}
 use Rattle.post_judge.specs.Places.{casts, is_cast_ever, looked_at}
 use Rattle.post_judge.specs.Tables.{told_from}
-use Rattle.post_judge.proofs.Heard.{told_checked, told_spelled}
 use Rattle.post_judge.proofs.Judging.{correct_node, cast_ever, cast_sound, cast_complete, told_apart}
-use Rattle.post_judge.proofs.Places.{looked_at-listens}
 use Rattle.post_judge.proofs.allowing.may_cast_now.Goals as goal
 
 pub returns-then-not-is_cast_ever-clause-complete : goal.returns-then-not-is_cast_ever-clause-complete
@@ -24,34 +18,6 @@ returns-then-not-is_cast_ever-clause-complete c =
     (sym c.is_cast_ever.ensures ∙ c.if-not-is_cast_ever.true)
     (cast_ever t.config c.args.node c.args.actor c.args.vote.now t.posts.items c.liars-sound.ensures.sound c.requires.correct legal may))
 
-pub may_cast-requires-clause-checked : goal.may_cast-requires-clause-checked
-may_cast-requires-clause-checked c =
-    let t = c.args.table.now in
-    let i = c.args.node in
-    let x = c.args.actor in
-    let vote : Vote = c.args.vote.now in
-    let such : casts t.config.n x vote ≡ true =
-    (and_parts (casts t.config.n x vote) (nat_lt (epoch_of vote) t.config.epochs) (sym c.is_cast_ever.ensures ∙ c.if-not-is_cast_ever.false)).0 in
-    let heard : c.deref-2.result.now ≡ told_from t.config i x t.buckets.by_place (looked_at t.config i x vote) =
-    c.deref-2.ensures.value ∙ c.in_ok-heard.ensures
-    ∙ ap (λ (ps : List Place). told_from t.config i x t.buckets.by_place ps) (c.deref.ensures.value ∙ c.in_ok-places.ensures) in
-    λ lane. subst (AreChecked t.config.n) (sym heard)
-    (told_checked t.config t.posts.items t.buckets.by_place c.requires.told i x lane (looked_at t.config i x vote) (looked_at-listens t.config i x vote such))
-
-pub may_cast-requires-clause-spelled : goal.may_cast-requires-clause-spelled
-may_cast-requires-clause-spelled c =
-    let t = c.args.table.now in
-    let i = c.args.node in
-    let x = c.args.actor in
-    let vote : Vote = c.args.vote.now in
-    let such : casts t.config.n x vote ≡ true =
-    (and_parts (casts t.config.n x vote) (nat_lt (epoch_of vote) t.config.epochs) (sym c.is_cast_ever.ensures ∙ c.if-not-is_cast_ever.false)).0 in
-    let heard : c.deref-2.result.now ≡ told_from t.config i x t.buckets.by_place (looked_at t.config i x vote) =
-    c.deref-2.ensures.value ∙ c.in_ok-heard.ensures
-    ∙ ap (λ (ps : List Place). told_from t.config i x t.buckets.by_place ps) (c.deref.ensures.value ∙ c.in_ok-places.ensures) in
-    subst (AreHeardSpelled t.config) (sym heard)
-    (told_spelled t.config t.posts.items t.buckets.by_place c.requires.told i x (looked_at t.config i x vote) (looked_at-listens t.config i x vote such))
-
 pub returns-clause-sound : goal.returns-clause-sound
 returns-clause-sound c =
     let t = c.args.table.now in
@@ -60,14 +26,11 @@ returns-clause-sound c =
     let vote : Vote = c.args.vote.now in
     let such : casts t.config.n x vote ≡ true =
     (and_parts (casts t.config.n x vote) (nat_lt (epoch_of vote) t.config.epochs) (sym c.is_cast_ever.ensures ∙ c.if-not-is_cast_ever.false)).0 in
-    let heard : c.deref-2.result.now ≡ told_from t.config i x t.buckets.by_place (looked_at t.config i x vote) =
-    c.deref-2.ensures.value ∙ c.in_ok-heard.ensures
-    ∙ ap (λ (ps : List Place). told_from t.config i x t.buckets.by_place ps) (c.deref.ensures.value ∙ c.in_ok-places.ensures) in
     IfOk-weaker c.may_cast.result _ _
     (λ may told yes.
     cast_sound t.config t.posts.items t.buckets.by_place c.requires.told i x vote (correct_node t.config i c.requires.node c.requires.correct) such
     (subst (λ (own : List Vote). MayCast t.config i x own (told_from t.config i x t.buckets.by_place (looked_at t.config i x vote)) vote) c.requires.own
-    (subst (λ (hs : List Hearing). MayCast t.config i x c.args.own.now hs vote) heard (told yes))))
+    (subst (λ (hs : List Hearing). MayCast t.config i x c.args.own.now hs vote) (c.deref.ensures.value ∙ c.in_ok-heard.ensures.exact) (told yes))))
     c.may_cast.ensures.sound
 
 pub returns-clause-complete : goal.returns-clause-complete
@@ -78,10 +41,9 @@ returns-clause-complete c =
     let vote : Vote = c.args.vote.now in
     let such : casts t.config.n x vote ≡ true =
     (and_parts (casts t.config.n x vote) (nat_lt (epoch_of vote) t.config.epochs) (sym c.is_cast_ever.ensures ∙ c.if-not-is_cast_ever.false)).0 in
-    let heard : c.deref-2.result.now ≡ told_from t.config i x t.buckets.by_place (looked_at t.config i x vote) =
-    c.deref-2.ensures.value ∙ c.in_ok-heard.ensures
-    ∙ ap (λ (ps : List Place). told_from t.config i x t.buckets.by_place ps) (c.deref.ensures.value ∙ c.in_ok-places.ensures) in
-    let known : is_correct t.config i ≡ true = correct_node t.config i c.requires.node c.requires.correct in
+    let heard : c.deref.result.now ≡ told_from t.config i x t.buckets.by_place (looked_at t.config i x vote) =
+    c.deref.ensures.value ∙ c.in_ok-heard.ensures.exact in
+    let known = correct_node t.config i c.requires.node c.requires.correct in
     IfOk-weaker c.may_cast.result _ _
     (λ may told legal apart allowed.
     told
