@@ -1,5 +1,5 @@
 -- From what an audit came to, to the answers of the call.
-use Rattle.std.proofs.Common.{inl, inr, ◌⊎◌, ◌≡◌, ◌≢◌, ℕ, ◌+◌, ◌<◌, ◌≤◌, List, length, Some, Result, Ok, Err, refl, sym, ap, ◌∙◌, arith}
+use Rattle.std.proofs.Common.{inl, inr, ◌⊎◌, ◌≡◌, ◌≢◌, ℕ, ◌+◌, ◌<◌, ◌≤◌, List, length, Some, Result, Ok, Err, ap, arith}
 use Rattle.hb_base.specs.Numbers.{Numbers}
 use Rattle.hb_base.specs.Outside.{Rose}
 use Rattle.hb_wire.specs.declared.post.Post.{Post}
@@ -15,7 +15,7 @@ use Rattle.trace_audit.specs.Audits.{Audits, IsRightOn}
 use Rattle.trace_audit.proofs.Left.{all_left}
 use Rattle.verdict_text.specs.Text.{refusal_line}
 use Rattle.hb_app.specs.Answers.{Scene, NoPutFails}
-use Rattle.hb_app.specs.Audited.{verdict_status, IsOfBytes, TellsAudit, IsNotAudited, AuditCauses, AuditAnswers}
+use Rattle.hb_app.specs.Audited.{IsOfBytes, TellsAudit, IsNotAudited, AuditCauses, AuditAnswers}
 use Rattle.hb_app.specs.Lines.{read_line}
 use Rattle.hb_app.specs.Streams.{FailsWithin, PutsOr7}
 
