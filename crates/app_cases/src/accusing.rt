@@ -12,7 +12,7 @@ use std::process::Abort;
 use std::test::Fail;
 
 // One node, whose run of three rounds has 23 posts.
-const ALONE: &str =
+pub(crate) const ALONE: &str =
     r#"{"nodes":1,"faulty":0,"epochs":1,"rounds":3,"seed":0,"submit":[{"node":0,"tx":"6869"}]}"#;
 
 const FIRST_LINES: &str =

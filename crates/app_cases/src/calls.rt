@@ -109,14 +109,23 @@ pub(crate) fn check_ran(rt: &impl Abort, answer: &Answer, status: u8, text: &str
     assert!(rt; answer.err.held().is_empty(), "{name}");
 }
 
-// Checks that there was no run: the report is as it was handed in, nothing was printed, and this was told.
-pub(crate) fn check_none(rt: &impl Abort, answer: &Answer, status: u8, told: &str, name: &str) {
+// What a call wrote that ran nothing: its status, what was printed, and what was told.
+pub(crate) type Written<'a> = (u8, &'a str, &'a str);
+
+// Checks that there was no run: the report is as it was handed in, and this was written.
+pub(crate) fn check_written(rt: &impl Abort, answer: &Answer, written: Written<'_>, name: &str) {
+    let (status, printed, told) = written;
     assert_eq!(rt; answer.status, status, "{name}");
     assert_eq!(rt; answer.report.status, 255, "{name}");
     assert!(rt; answer.report.history.is_empty(), "{name}");
     assert!(rt; answer.report.ends.is_empty(), "{name}");
-    assert!(rt; answer.out.held().is_empty(), "{name}");
+    assert_eq!(rt; answer.out.held(), printed.as_bytes(), "{name}");
     assert_eq!(rt; answer.err.held(), told.as_bytes(), "{name}");
+}
+
+// Checks that there was no run, that nothing was printed, and that this was told.
+pub(crate) fn check_none(rt: &impl Abort, answer: &Answer, status: u8, told: &str, name: &str) {
+    check_written(rt, answer, (status, "", told), name);
 }
 
 // The first byte of each post of a node, in order, 0 for a post of no bytes.

@@ -28,7 +28,7 @@ const NO_COMMANDS: [&[&str]; 22] = [
     &["1"],
     &["walk"],
     &["trace", ""],
-    &["audit"],
+    &["audit", "audit"],
     &["observe", "observe"],
     &["accuse", "accuse"],
 ];

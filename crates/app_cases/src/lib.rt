@@ -7,6 +7,10 @@
 mod accusing;
 #[cfg(test)]
 mod alone;
+#[cfg(test)]
+mod auditing;
+#[cfg(test)]
+mod bending;
 mod callers;
 #[cfg(test)]
 mod calls;

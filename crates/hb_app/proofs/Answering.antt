@@ -1,7 +1,6 @@
 -- From what a call came to, to its answers.
-use Rattle.std.proofs.Common.{inl, inr, ◌⊎◌, ◌≡◌, ◌≢◌, ℕ, Bool, true, false, not, ◌&&◌, List, ◌++◌, Option, None, Some, Ok, Err, append-nil, if◌then◌else◌, refl, sym, ap, subst, ◌∙◌, arith}
+use Rattle.std.proofs.Common.{inl, inr, ◌⊎◌, ◌≡◌, ◌≢◌, ℕ, Bool, true, false, not, ◌&&◌, List, Option, None, Some, Ok, Err, if◌then◌else◌, refl, sym, ap, subst, ◌∙◌, arith}
 use Rattle.std.specs.List.{list_any, range_with_len}
-use Rattle.std.specs.Io.KnownBytes.{Consumes, IsAtEnd}
 use Rattle.std.proofs.lemmas.Bool.{cases_eq}
 use Rattle.hb_base.specs.NodeSet.{is_in}
 use Rattle.hb_base.specs.Outside.{Rose}
@@ -21,6 +20,7 @@ use Rattle.hb_app.specs.Outcomes.{Work, HasFault, HasRun, RunComes, SoakComes}
 use Rattle.hb_app.specs.Answers.{Scene, Tells, IsRunStatus, Answers, NoPutFails, RunAnswers, SoakAnswers}
 use Rattle.hb_app.specs.Lines.{read_line, memory_line}
 use Rattle.input_reader.specs.Streams.{SourceView, ReadsAll, TakesAtMost}
+use Rattle.trace_audit.proofs.Left.{all_left}
 use Rattle.hb_app.specs.Streams.{FailsWithin, PutsOrFails}
 use Rattle.hb_app.proofs.Commands.{one_text}
 
@@ -154,14 +154,7 @@ answers_of comes before after Ran status keeps came told =
 -- what a source has left is what was read, where all was read
 pub read_whole : (names : List (List ℕ)) (old new : SourceView) (input read : List ℕ) → ReadsAll old new read → old.left ≡ Some input
     → scenario_of input names ≡ scenario_of read names
-read_whole names old new input read all is = by old.left new.left is all.0 all.1
-  where
-    by : (left left_after : Option (List ℕ)) → left ≡ Some input → Consumes left left_after read → IsAtEnd left_after → scenario_of input names ≡ scenario_of read names
-    by None left_after is taken at_end = absurd (cc (is))
-    by (Some xs) None is taken at_end = absurd taken
-    by (Some xs) (Some ys) is taken at_end =
-        let same : input ≡ read = (cc (is)) ∙ taken ∙ ap (λ (rest : List ℕ). read ++ rest) at_end ∙ append-nil read in
-        ap (λ (bytes : List ℕ). scenario_of bytes names) same
+read_whole names old new input read all is = ap (λ (bytes : List ℕ). scenario_of bytes names) (all_left old new input read all is)
 
 -- input with a fault says no run, and the other way round
 no_run : (names : List (List ℕ)) (before after : Work) (input : List ℕ) (fault : ScriptFault) → HasRun names before after → before.source.left ≡ Some input

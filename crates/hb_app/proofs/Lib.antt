@@ -1,4 +1,5 @@
 pub mod Answering
+pub mod AuditAnswers
 pub mod Commands
 pub mod Puts
 pub mod Reading

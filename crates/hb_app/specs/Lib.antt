@@ -1,4 +1,5 @@
 pub mod Answers
+pub mod Audited
 pub mod Commands
 pub mod Input
 pub mod Lines

@@ -24,26 +24,32 @@ pub enum Text {
 pub enum Command {
     /// The run of the scenario on the input, and this text of it.
     Run(Text),
+    /// The verdict on the history whose text is on the input.
+    Audit,
     /// The run of the scenario of this number.
     Soak(u64),
 }
 
-/// What these words ask for: `run`, `trace`, `observe` or `accuse`, or `soak` and a whole number below 2^64 in decimal digits, with
-/// no sign and no needless zeros in front. None for all other words.
+/// What these words ask for: `run`, `trace`, `observe`, `accuse` or `audit`, or `soak` and a whole number below 2^64 in decimal
+/// digits, with no sign and no needless zeros in front. None for all other words.
 pub fn command_of(words: &[String]) -> Option<Command>
     ensures { Asks (map string_bytes words.now) result }
 {
     match words.len() {
-        1 => run_of(words[0].as_str()),
+        1 => one_word(words[0].as_str()),
         2 => soak_of(words[0].as_str(), words[1].as_str()),
         _ => None,
     }
 }
 
-fn run_of(word: &str) -> Option<Command>
+fn one_word(word: &str) -> Option<Command>
     ensures { Asks (word.now ∷ []) result }
 {
-    text_of(word).map(Command::Run)
+    if word == "audit" {
+        Some(Command::Audit)
+    } else {
+        text_of(word).map(Command::Run)
+    }
 }
 
 // The text that a word asks for.

@@ -1,6 +1,7 @@
 //! The program `hb_ledger` over any input and output: what it is asked for, what it reads, the run, and what it prints.
 #![tactic(auto)]
 
+mod auditing;
 mod command;
 mod outcome;
 mod printing;

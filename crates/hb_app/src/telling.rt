@@ -65,9 +65,9 @@ fn answer<E: Sink>(run: u8, err: &mut E) -> u8
     }
 }
 
-// Tells a line if that works, and answers a status.
+/// Tells a line if that works, and answers a status.
 #[tactic(auto, using(crate::proofs::Puts::puts_or_fails))]
-fn hint<E: Sink>(line: &[u8], status: u8, err: &mut E) -> u8
+pub fn hint<E: Sink>(line: &[u8], status: u8, err: &mut E) -> u8
     ensures status { result ≡ status }
     ensures line { PutsOrFails (sink_view E.held E.faults err.old) (sink_view E.held E.faults err.new) line.now }
 {

@@ -9,13 +9,15 @@ ghost use Rattle.ledger_text.specs.Text.{soak_text};
 ghost use Rattle.hb_app.specs.declared.command.Text.{Text};
 ghost use Rattle.hb_app.specs.Printed.{text_of, WantsMemory};
 ghost use Rattle.hb_app.specs.Answers.{RunAnswers, SoakAnswers, scene};
-ghost use Rattle.hb_app.specs.Commands.{AsksRun, AsksSoak, AsksNothing};
+ghost use Rattle.hb_app.specs.Audited.{AuditAnswers};
+ghost use Rattle.hb_app.specs.Commands.{AsksRun, AsksAudit, AsksSoak, AsksNothing};
 ghost use Rattle.hb_app.specs.Input.{most_taken};
 ghost use Rattle.hb_app.specs.Lines.{usage_line};
 ghost use Rattle.hb_app.specs.Outcomes.{RunComes, BytesCome, ScriptComes, work};
 ghost use Rattle.input_reader.specs.Streams.{SourceView, TakesAtMost, source_view};
 ghost use Rattle.hb_app.specs.Streams.{PutsOr7, sink_view};
 
+use crate::auditing::tell_audit;
 use crate::command::{Command, Text, command_of};
 use crate::outcome::Outcome;
 use crate::printing::{PrintFault, print};
@@ -32,21 +34,25 @@ use scenario_gen::generate;
 use script_fault::ScriptFault;
 use script_reader::read_script;
 use std::alloc::Global;
+use trace_audit::audit;
 
 /// The program `hb_ledger`: what its words ask for, over any input and output, with a cast of liars. `run`, `trace`, `observe` and
 /// `accuse` run the scenario on the input. `run` prints the ledger of each correct node, `trace` the history, `observe` the ledgers
 /// that observers take from closing votes, and `accuse` the nodes whose own posts contradict each other. `soak N` runs the scenario
-/// of a number and prints whether the ledgers agree. The status is
-///   0 if some correct node runs, and each that runs closed the last epoch,
+/// of a number and prints whether the ledgers agree. `audit` reads the text of a history, as `trace` prints one, and prints whether
+/// the history is legal, or else the number of its first post that is not. The status is
+///   0 if some correct node runs, and each that runs closed the last epoch, or the history is legal,
 ///   2 if the words are unknown,
-///   3 if the input is no scenario,
+///   3 if the input is no scenario, or no text of a history,
 ///   4 if there was a run that is none of 0, 5 and 9,
 ///   5 if it is not 0, and a lane of a correct node works and has spent its rounds,
 ///   6 if the input can't be read,
-///   7 if the output or the error sink can't be written, and
+///   7 if the output or the error sink can't be written,
+///   8 if the history is not legal, and
 ///   9 if memory ran out.
-/// All but 0, 4 and 5 tell a line on `err`, where it takes one. The report is of the run; without one it stays, and nothing is written to `out`. At
-/// most 1,048,577 bytes of the input are taken, one more than a scenario may have, and the rest is left.
+/// All but 0, 4, 5 and 8 tell a line on `err`, where it takes one. The report is of the run; without one it stays, and nothing is written
+/// to `out` but a verdict. At most 1,048,577 bytes of the input are taken, one more than a scenario may have, or 67,108,865 by `audit`,
+/// one more than the text of a history may have, and the rest is left.
 ///
 /// A scenario may ask for the liars of the cast, by name; each stands for one node. Where it asks for workers, the run is on one
 /// thread all the same.
@@ -64,6 +70,10 @@ pub fn hb_main<S: Source, O: Sink, E: Sink, G: Gate>(
         (scene (source_view S.left S.faults source.old) (sink_view O.held O.faults out.old) (sink_view E.held E.faults err.old) report.old)
         (scene (source_view S.left S.faults source.new) (sink_view O.held O.faults out.new) (sink_view E.held E.faults err.new) report.new)
         result }
+    ensures audit { AsksAudit (map string_bytes words.now) → AuditAnswers
+        (scene (source_view S.left S.faults source.old) (sink_view O.held O.faults out.old) (sink_view E.held E.faults err.old) report.old)
+        (scene (source_view S.left S.faults source.new) (sink_view O.held O.faults out.new) (sink_view E.held E.faults err.new) report.new)
+        result }
     ensures soak { (number : ℕ) → AsksSoak (map string_bytes words.now) number → SoakAnswers number
         (scene (source_view S.left S.faults source.old) (sink_view O.held O.faults out.old) (sink_view E.held E.faults err.old) report.old)
         (scene (source_view S.left S.faults source.new) (sink_view O.held O.faults out.new) (sink_view E.held E.faults err.new) report.new)
@@ -76,6 +86,10 @@ pub fn hb_main<S: Source, O: Sink, E: Sink, G: Gate>(
         Some(Command::Run(text)) => {
             let outcome = run_source(alloc, text, source, out, cast, gate, report);
             tell_outcome(&outcome, report.status, err)
+        }
+        Some(Command::Audit) => {
+            let answer = audit(alloc, source);
+            tell_audit(answer, out, err)
         }
         Some(Command::Soak(number)) => {
             let outcome = soak_number(alloc, number, out, cast, gate, report);
