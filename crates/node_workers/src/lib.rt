@@ -1,0 +1,11 @@
+//! Worker threads that serve the actors of a run, each those of one node.
+#![tactic(auto)]
+
+mod node;
+mod pool;
+#[cfg(test)]
+mod tests;
+mod worker;
+
+pub use node::{Node, run_nodes};
+pub use pool::serve_all;

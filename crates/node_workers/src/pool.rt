@@ -1,0 +1,45 @@
+//! Threads that go round until nobody has anything to do.
+
+ghost use Rattle.std.specs.Thread.{IsSync};
+
+use crate::worker::work;
+use std::sync::Wait;
+use std::sync::atomic::{AtomicU64, Ordering};
+use std::thread;
+use std::thread::Threads;
+
+/// Starts so many workers for each of so many nodes, by node and then worker, and waits until all have returned. A worker calls
+/// `round` with its node and its own number again and again, and each call answers whether it found anything to do. The workers
+/// share a count, which is raised before each is started. A worker lowers it after a round that found nothing, raises it again
+/// after a later one that found something, and returns once it finds the count 0. A worker that can't be started is run by the
+/// caller.
+pub fn serve_all<F: Fn(usize, usize) -> bool + Sync, R: Threads + Wait + Sync>(
+    rt: &R,
+    nodes: usize,
+    workers: usize,
+    round: &F,
+)
+    requires { F.IsAlwaysCallable round.now }
+{
+    let count = AtomicU64::new(0);
+    let busy = &count;
+    thread::scope(
+        thread::scope_env(),
+        rt,
+        |scope|
+            requires { IsSync R.row × IsSync F.row × F.IsAlwaysCallable round.now }
+        {
+            for node in 0..nodes {
+                for worker in 0..workers {
+                    busy.fetch_add(1, Ordering::SeqCst);
+                    if scope
+                        .spawn(move || work(rt, round, node, worker, busy))
+                        .is_err()
+                    {
+                        work(rt, round, node, worker, busy);
+                    }
+                }
+            }
+        },
+    );
+}
