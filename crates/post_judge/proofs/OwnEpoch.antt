@@ -1,5 +1,5 @@
 -- A lane looks at those of its own votes alone that are of the epoch of the vote in question. The letters: lane x of node i, e is an epoch.
-use Rattle.std.proofs.Common.{◌≡◌, ℕ, zero, suc, Bool, true, false, ◌&&◌, ◌==◌, inl, inr, ⊎_elim, List, Option, Some, refl, sym, ◌∙◌}
+use Rattle.std.proofs.Common.{◌≡◌, ℕ, zero, suc, Bool, true, false, ◌==◌, inl, inr, ⊎_elim, List, sym, ◌∙◌}
 use Rattle.std.specs.List.{list_any}
 use Rattle.std.proofs.lemmas.Bool.{and_parts, eqb-true}
 use Rattle.hb_base.specs.Numbers.{Numbers}
@@ -13,7 +13,7 @@ use Rattle.hb_rules.specs.Broadcast.{MayBroadcast}
 use Rattle.hb_rules.specs.Claims.{is_val_to, is_any_echo, is_any_ready, is_any_delivery}
 use Rattle.hb_rules.specs.Hearing.{Hearing}
 use Rattle.hb_rules.specs.Marks.{Mark, delivery, est, any_est, bval, any_aux, any_conf, pick, any_pick, any_coin, any_decision, has, bears, single}
-use Rattle.hb_rules.specs.Parts.{Part, broadcast, agreement, desk, part_of}
+use Rattle.hb_rules.specs.Parts.{Part, broadcast, agreement, desk}
 use Rattle.hb_rules.specs.Rules.{MayInPart}
 use Rattle.hb_rules.proofs.BroadcastParts.{some_only}
 use Rattle.post_judge.proofs.Epochs.{mark_epoch}

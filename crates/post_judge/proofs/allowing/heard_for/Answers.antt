@@ -1,5 +1,4 @@
-use Rattle.std.proofs.Common.{◌≡◌, sym, ap, ◌∙◌, subst, List}
-use Rattle.hb_rules.specs.Hearing.{Hearing}
+use Rattle.std.proofs.Common.{sym, ap, ◌∙◌, subst, List}
 use Rattle.hb_rules.specs.Terms.{AreHeardSpelled}
 use Rattle.broadcast_judge.specs.Checked.{AreChecked}
 use Rattle.post_judge.specs.declared.place.Place.{Place}

@@ -1,6 +1,4 @@
 use Rattle.std.proofs.Common.{ap, sym, ◌∙◌}
-use Rattle.std.specs.List.{list_any}
-use Rattle.post_judge.specs.declared.told.Told.{Told}
 use Rattle.post_judge.specs.Tables.{has_post}
 use Rattle.post_judge.proofs.Adding.{judged_before}
 use Rattle.post_judge.proofs.table.Table.was_judged.Goals as goal
