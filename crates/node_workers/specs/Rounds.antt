@@ -10,7 +10,7 @@ is_did Idle = false
 is_did Did = true
 is_did Ended = false
 
--- each of so many cells made one turn, and it is told whether any of them took a number
+-- there were as many turns as there are cells, and it is told whether any of them took a number
 pub record AreServed (IsAnswer : Served → Type 0) (cells : ℕ) (told : Bool) : Type 0 where
   pub answers : List Served
   pub turns : length answers ≡ cells

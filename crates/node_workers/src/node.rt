@@ -92,7 +92,7 @@ fn round_at<'b, B: NamedBook + Drop, A: Actor<B>, J: RunName, R: Wait, G: Gate>(
     }
 }
 
-/// Runs so many workers for each node until the mailboxes are drained and nobody works. A worker serves the actors of its own node
+/// Runs so many workers for each node until each has found that nobody has anything to do. A worker serves the actors of its own node
 /// alone, and worker w begins its first round at actor w modulo their count. It may wait.
 pub fn run_nodes<'b, B, A, J, R, G>(
     rt: &R,

@@ -18,6 +18,7 @@ use crate::casting::{Caster, casts, may_cast};
 use crate::gathering::{told_from, votes_of};
 use crate::placing::{looked_at, own_place};
 use crate::table::Table;
+use crate::told::Told;
 use hb_rules::Heard;
 use hb_wire::{Post, Vote, equality_laws};
 use history_verdict::verdict_laws;
@@ -91,18 +92,19 @@ fn is_allowed(table: &Table, node: u8, actor: u8, vote: &Vote) -> Result<bool, A
         → IsAllowed table.now.config node actor table.now.posts.items vote.now → may ≡ true) }
 {
     let place = own_place(table.config.n(), node, actor, vote);
-    let own = votes_of(table.alloc, table.buckets.at(place))?;
-    if is_among(vote, &own) {
+    let cast = table.buckets.at(place);
+    if is_among(vote, cast) {
         return Ok(true);
     }
+    let own = votes_of(table.alloc, cast)?;
     may_cast_now(table, node, actor, &own, vote)
 }
 
-// Whether a vote is one of these.
-fn is_among(vote: &Vote, votes: &[Vote]) -> bool
-    ensures { result ≡ list_any (same_vote vote.now) votes.now }
+// Whether one of these posts spells a vote.
+fn is_among(vote: &Vote, cast: &[Told]) -> bool
+    ensures { result ≡ list_any (λ t. same_vote vote.now t.vote) cast.now }
 {
-    votes.iter().any(|other| vote == other)
+    cast.iter().any(|one| *vote == one.vote)
 }
 
 // Whether a post goes where its vote goes.
