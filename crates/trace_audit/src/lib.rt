@@ -7,4 +7,6 @@ mod laws;
 mod tests;
 
 pub use auditing::audit;
+pub use history_verdict::Verdict;
 pub use laws::audit_laws;
+pub use trace_reader::TraceFault;

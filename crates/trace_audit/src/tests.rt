@@ -78,3 +78,34 @@ fn takes_that_fail(rt: HostRuntime) -> Result<(), Fail> {
     }
     Ok(())
 }
+
+const HEAD_WITH_LIAR: &str =
+    "trace nodes 4 faulty 1 version 1 epochs 1 rounds 3 batch 64 seed 0 liars 8\n";
+
+// The text of one post of a liar, which is so long.
+fn one_lie(alloc: Global, length: usize) -> Result<Bytes, AllocError> {
+    let mut text = Vec::with_capacity(alloc, length)?;
+    text.extend_from_slice(HEAD_WITH_LIAR.as_bytes())?;
+    text.extend_from_slice(b"post 0 from 3 actor 0 to book ")?;
+    for _ in text.len()..length.saturating_sub(7) {
+        text.push(b'0')?;
+    }
+    text.extend_from_slice(b"\nend 1\n")?;
+    Bytes::from_vec(text)
+}
+
+// A text may have 67,108,864 bytes; one of them more, which is no hex either, is too many.
+#[test]
+fn the_longest_history(rt: HostRuntime) -> Result<(), Fail> {
+    let alloc = rt.alloc();
+    for (length, wanted) in [
+        (67_108_864usize, Ok(Verdict::Legal { posts: 1 })),
+        (67_108_865, Err(TraceFault::TooLong)),
+    ] {
+        let text = one_lie(alloc, length)?;
+        assert_eq!(rt; text.as_slice().len(), length);
+        let mut source = MemorySource::new(text, 65_536, Vec::new(alloc));
+        assert!(rt; audit(alloc, &mut source) == wanted, "{length}");
+    }
+    Ok(())
+}
