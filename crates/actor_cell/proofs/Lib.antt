@@ -5,3 +5,4 @@ pub mod Mailing
 pub mod Hearings
 pub mod Sendings
 pub mod Turnings
+pub mod Marking

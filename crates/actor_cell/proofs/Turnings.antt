@@ -14,7 +14,7 @@ use Rattle.hb_rules.specs.Terms.{Terms}
 use Rattle.net_script.specs.Delivery.{shape_of}
 use Rattle.journaled_actor.proofs.Posted.{told_trans}
 use Rattle.step_driver.specs.Places.{PlayerView}
-use Rattle.step_driver.specs.Delivering.{IsSound, IsPlayer, HasFate}
+use Rattle.step_driver.specs.Delivering.{IsPlayer, HasFate}
 use Rattle.step_driver.proofs.Playing.{IsSound-on, IsReceived-on, slice_get-front}
 use Rattle.actor_cell.specs.declared.arrival.Arrival.{Arrival}
 use Rattle.actor_cell.specs.declared.arrival.Arrival.TheVariants as arrivals
@@ -373,7 +373,7 @@ pub record Took (old new : Turning) (more : List ℕ) : Type 0 where
   pub mail : TookOnly old.mail new.mail more
   pub looked : new.mail.passes.take.looks ≡ old.mail.passes.take.looks + 1
 
-TookOnly-then : (a b c : MailView) (xs ys : List ℕ) → TookOnly a b xs → TookOnly b c ys → TookOnly a c (xs ++ ys)
+pub TookOnly-then : (a b c : MailView) (xs ys : List ℕ) → TookOnly a b xs → TookOnly b c ys → TookOnly a c (xs ++ ys)
 TookOnly-then a b c xs ys one two = record {
   boxes = two.boxes ∙ one.boxes;
   place = two.place ∙ one.place;
@@ -382,11 +382,11 @@ TookOnly-then a b c xs ys one two = record {
   sent = two.sent ∙ one.sent;
 }
 
-TookOnly-taker : (a b c : MailView) (xs : List ℕ) → TookOnly a b xs → IsSameTaker b c
+pub TookOnly-taker : (a b c : MailView) (xs : List ℕ) → TookOnly a b xs → IsSameTaker b c
     → (c.boxes ≡ a.boxes) × (c.passes.take.taken ≡ a.passes.take.taken ++ xs) × (c.passes.take.joined ≡ a.passes.take.joined)
 TookOnly-taker a b c xs one same = (same.boxes ∙ one.boxes, ap (λ t. t.taken) same.take ∙ one.taken, ap (λ t. t.joined) same.take ∙ one.joined)
 
-none_in : (k : ℕ) → Contains [] k → ⊥
+pub none_in : (k : ℕ) → Contains [] k → ⊥
 none_in k stands = Contains-none [] k refl stands
 
 pub HoldsBack-start : (s : Script) (o : Turning) → HoldsBack s [] o o
@@ -488,7 +488,7 @@ TakesOne-back s moved o m m1 q was took empty done =
       joined = all.2;
     }
 
-both_none : (xs ys : List ℕ) → xs ++ ys ≡ [] → (xs ≡ []) × (ys ≡ [])
+pub both_none : (xs ys : List ℕ) → xs ++ ys ≡ [] → (xs ≡ []) × (ys ≡ [])
 both_none [] ys is = (refl, is)
 both_none (x ∷ xs) ys is = absurd (omega (arith, ap (λ (zs : List ℕ). length zs) is))
 

@@ -1,13 +1,12 @@
 -- What lies under the lock of an actor.
 use Rattle.std.specs.Prelude.{◌≡◌, ℕ, ◌<◌, ◌≤◌, true, List}
 use Rattle.atomic_table.specs.Seated.{TableId}
-use Rattle.hb_base.specs.Numbers.{Numbers}
 use Rattle.hb_wire.specs.declared.post.Post.{Post}
 use Rattle.net_script.specs.declared.script.Script.{Script}
 use Rattle.hb_rules.specs.declared.report.Fate.{Fate}
-use Rattle.hb_rules.specs.Actor.{ActorView}
 use Rattle.hb_rules.specs.Ledger.{IsPrefix}
 use Rattle.step_driver.specs.Places.{PlayerView}
+pub use Rattle.step_driver.specs.Places.{player_at}
 use Rattle.step_driver.specs.Delivering.{IsPlayer}
 use Rattle.actor_cell.specs.Boxes.{place_of}
 use Rattle.actor_cell.specs.Mail.{MailView}
@@ -20,14 +19,6 @@ pub record HeldView (A B : Type 0) : Type 0 where
   pub script : Script
   pub mail : MailView
   pub back : List ℕ
-
--- what is known of an actor over any kind of book, by its seat there, beside its fate
-abbrev pub player_at : {A S : Type 0} → (S → Numbers) → (S → ℕ) → (S → ℕ) → (S → List Post) → (A → S) → (A → ActorView) → A → Fate → PlayerView
-player_at config node actor seen seat view a fate = record {
-  seat = record { config = config (seat a); node = node (seat a); actor = actor (seat a); seen = seen (seat a) };
-  view = view a;
-  fate = fate;
-}
 
 -- The book and the script are those of the run, the seat is of this book, the mailboxes are of the script's config, and the mailbox from
 -- which numbers are taken is the actor's, which is one of the config. The actor goes by the script, and its fate has its cause.

@@ -1,6 +1,6 @@
 -- The mail of an actor: which numbers it has to put into whose mailboxes, and what comes of that. The letters: a run of config c and
 -- script s, post k, actor x of node i.
-use Rattle.std.specs.Prelude.{◌≡◌, ◌⊎◌, ℕ, ◌+◌, ◌==◌, ◌&&◌, ◌||◌, Bool, true, false, List, [], ◌∷◌, map, if◌then◌else◌, Option, None, Some, slice_get, slice_index_or, replicate}
+use Rattle.std.specs.Prelude.{◌≡◌, ◌⊎◌, ℕ, ◌+◌, ◌==◌, ◌&&◌, ◌||◌, Bool, true, false, List, [], ◌∷◌, if◌then◌else◌, Option, None, Some, slice_get, slice_index_or, replicate}
 use Rattle.std.specs.List.{list_any, flat_map, range_with_len}
 use Rattle.hb_base.specs.Numbers.{Numbers}
 use Rattle.hb_base.specs.NodeSet.{is_in}

@@ -247,7 +247,7 @@ ServesNew s k true old new = IsServed s k old new × (arrival s new.player k ≡
 ServesNew s k false old new =
     IsShown old.player new.player × (new.player.fate ≡ Running) × (arrival s new.player k ≡ arrivals.Late) × (new.mail ≡ old.mail) × (new.back ≡ old.back ++ k ∷ [])
 
--- There is an actor that lies under a lock, and it made a turn with this answer. `held` is what holds under the lock.
+-- There is an actor that stands behind a lock, and it made a turn with this answer. `held` is what holds behind the lock.
 pub record WasServed {A B S : Type 0} (held : HeldView A B → Type 0) (config : S → Numbers) (node actor : S → ℕ) (seen : S → List Post) (seat : A → S) (view : A → ActorView)
     (is_whole : B → B → S → S → Type 0) (moved : ℕ → ℕ → B → B → Type 0) (answer : Served) : Type 0 where
   pub old : HeldView A B

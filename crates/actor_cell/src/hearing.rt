@@ -13,8 +13,8 @@ use net_script::Script;
 use std::alloc::{AllocError, Global};
 use step_driver::{fate_of, may_restart};
 
-// How post k arrives at the actor. It shows the actor the whole history of that moment.
-pub(crate) fn look<B: Book, A: Actor<B>>(
+/// How post k arrives at the actor. It shows the actor the whole history of that moment.
+pub fn look<B: Book, A: Actor<B>>(
     script: &Script,
     book: &mut B,
     actor: &mut A,

@@ -18,7 +18,7 @@ mod tests;
 pub use arrival::{Arrival, arrival_found, by_lateness};
 pub use boxes::Boxes;
 pub use cell::Cell;
-pub use hearing::{hear, recover, start};
+pub use hearing::{hear, look, recover, start};
 pub use held::Held;
 pub use mail::Mail;
 pub use marks::Marks;

@@ -45,6 +45,27 @@ impl Marks {
         self.nodes[actor as usize].add(node);
     }
 
+    /// Adds all actors of another set.
+    pub fn add_all(&mut self, other: &Marks)
+        ensures { (i x : ℕ) → i < most_nodes → x < most_actors → is_marked self.new i x ≡ (is_marked other.now i x || is_marked self.old i x) }
+    {
+        for actor in 0..MOST_ACTORS as u8 {
+            self.add_numbered(other, actor);
+        }
+    }
+
+    // Adds the actors of another set that have this number.
+    fn add_numbered(&mut self, other: &Marks, actor: u8)
+        requires { actor < most_actors }
+        ensures { (i x : ℕ) → i < most_nodes → is_marked self.new i x ≡ (((x == actor) && is_marked other.now i x) || is_marked self.old i x) }
+    {
+        for node in 0..MOST_NODES {
+            if other.has(node, actor) {
+                self.note(node, actor);
+            }
+        }
+    }
+
     /// Whether an actor is in the set. None of a node from 16 on is, and none with a number from 17 on.
     pub fn has(&self, node: u8, actor: u8) -> bool
         ensures { result ≡ is_marked self.now node actor }

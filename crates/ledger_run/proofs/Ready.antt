@@ -29,8 +29,9 @@ use Rattle.hb_rules.specs.Report.{submitted_at, stops_of, faults_of}
 use Rattle.hb_rules.specs.Book.{SeatView, IsSeatOf}
 use Rattle.hb_rules.specs.BookLaws.{Watched-refl}
 use Rattle.step_driver.specs.Places.{PlayerView, HiredView, Spot, correct, lying, Name, seat_of, name_of, names}
-use Rattle.step_driver.specs.Delivering.{IsSpot, IsStage}
+use Rattle.step_driver.specs.Delivering.{IsPlayer, IsSpot, IsStage}
 use Rattle.step_driver.specs.Running.{IsTeam}
+use Rattle.ledger_run.specs.Actors.{new_seat}
 use Rattle.ledger_run.specs.Team.{planned_stops, names_below, IsReady, AreReady}
 use Rattle.ledger_run.proofs.Plans.{planned_count, few_stops}
 use Rattle.ledger_run.proofs.Names.{AreApart, is_team, few_names, names_apart}
@@ -135,26 +136,22 @@ stops_few stops calls = count_by-le-length (λ (stop : Stop). nat_lt calls stop.
 
 -- an actor of a correct node that was never started, over the disk that is planned for it
 abbrev pub first_player : Script → ℕ → ℕ → ActorView → PlayerView
-first_player s i x view = record { seat = record { config = s.config; node = i; actor = x; seen = [] }; view = view; fate = Running }
+first_player s i x view = record { seat = new_seat s.config i x; view = view; fate = Running }
 
-first_ready : (s : Script) (i x : ℕ) (view : ActorView) → IsScenario (told s) → i < s.config.n → is_in s.config.liars i ≡ false
+first_is_player : (s : Script) (i x : ℕ) (view : ActorView) → IsScenario (told s) → is_in s.config.liars i ≡ false
     → OwesBy s i x view.terms → PoolsBy s i x view.terms → view.supply ≡ supply_of (new_disk (planned_stops s i x) (faults_of s i x))
-    → view.fresh ≡ true → view.got ≡ [] → view.restarts ≡ 0 → IsReady s (correct (first_player s i x view))
-first_ready s i x view scenario known honest owes pools supply fresh got restarts = record {
-  known = known;
-  seat = refl;
-  is = record {
-    sound = record {
-      honest = honest;
-      owes = owes;
-      proper = pools;
-      planned = ap (λ (su : Supply). su.planned) supply;
-      bound = few_of;
-      few = omega (arith, few_of, few_stops s i x scenario);
-      got = λ k has. absurd (omega (arith, (subst (λ (ks : List ℕ). Contains ks k) got has).1));
-    };
-    fate = fresh;
+    → view.fresh ≡ true → view.got ≡ [] → view.restarts ≡ 0 → IsPlayer s.config s false (first_player s i x view)
+first_is_player s i x view scenario honest owes pools supply fresh got restarts = record {
+  sound = record {
+    honest = honest;
+    owes = owes;
+    proper = pools;
+    planned = ap (λ (su : Supply). su.planned) supply;
+    bound = few_of;
+    few = omega (arith, few_of, few_stops s i x scenario);
+    got = λ k has. absurd (omega (arith, (subst (λ (ks : List ℕ). Contains ks k) got has).1));
   };
+  fate = fresh;
 }
   where
     few_of : budget view.restarts view.supply ≤ stops_of s i x
@@ -162,14 +159,22 @@ first_ready s i x view scenario known honest owes pools supply fresh got restart
         subst (λ (su : Supply). budget view.restarts su ≤ stops_of s i x) (sym supply)
         (omega (arith, restarts, stops_few (planned_stops s i x) 0, planned_count s i x))
 
-pub ready_player : (s : Script) (i x : ℕ) (p : PlayerView) → IsScenario (told s) → i < s.config.n → is_in s.config.liars i ≡ false
-    → p.fate ≡ Running → p.seat ≡ record { config = s.config; node = i; actor = x; seen = [] }
+pub new_is_player : (s : Script) (i x : ℕ) (p : PlayerView) → IsScenario (told s) → is_in s.config.liars i ≡ false
+    → p.fate ≡ Running → p.seat ≡ new_seat s.config i x
     → OwesBy s i x p.view.terms → PoolsBy s i x p.view.terms → p.view.supply ≡ supply_of (new_disk (planned_stops s i x) (faults_of s i x))
-    → p.view.fresh ≡ true → p.view.got ≡ [] → p.view.restarts ≡ 0 → IsReady s (correct p)
-ready_player s i x p scenario known honest running seat owes pools supply fresh got restarts =
-    subst (λ (q : PlayerView). IsReady s (correct q))
+    → p.view.fresh ≡ true → p.view.got ≡ [] → p.view.restarts ≡ 0 → IsPlayer s.config s false p
+new_is_player s i x p scenario honest running seat owes pools supply fresh got restarts =
+    subst (IsPlayer s.config s false)
     (ap₂ (λ (at : SeatView) (fate : Fate). record { seat = at; view = p.view; fate = fate }) (sym seat) (sym running))
-    (first_ready s i x p.view scenario known honest owes pools supply fresh got restarts)
+    (first_is_player s i x p.view scenario honest owes pools supply fresh got restarts)
+
+-- its place, where it is over the book of one thread
+pub ready_player : (s : Script) (i x : ℕ) (p : PlayerView) → i < s.config.n → p.seat ≡ new_seat s.config i x → IsPlayer s.config s false p → IsReady s (correct p)
+ready_player s i x p known seat player = record {
+  known = subst (λ (at : SeatView). at.node < s.config.n) (sym seat) known;
+  seat = seat ∙ ap (λ (at : SeatView). record { config = s.config; node = at.node; actor = at.actor; seen = [] }) (sym seat);
+  is = player;
+}
 
 pub ready_liar : (s : Script) (a : ℕ) (h : HiredView) → a < s.config.n → is_in s.config.liars a ≡ true
     → h ≡ record { seat = record { config = s.config; node = a; actor = 255; seen = [] }; said = 0 } → IsReady s (lying h)

@@ -2,6 +2,7 @@
 //! the others, and how the run ends.
 #![tactic(auto)]
 
+mod actors;
 mod disks;
 mod node_core;
 mod run;
@@ -9,6 +10,8 @@ mod submissions;
 mod team;
 mod voice;
 
+pub use actors::{NodeActor, desk_of, lane_of};
 pub use node_core::NodeCore;
 pub use run::run_script;
+pub use team::voice_at;
 pub use voice::{Voice, hire};

@@ -12,26 +12,17 @@ ghost use Rattle.ledger_run.specs.Actors.{node_seat, node_view};
 ghost use Rattle.ledger_run.specs.Voices.{hears_at, voice_at, without_voice, StandsAt, NoneAt, IsHiredWith};
 ghost use Rattle.ledger_run.specs.Team.{IsReady, AreReady, correct_name, lying_name, names_at, names_below};
 
-use crate::disks::disk_of;
-use crate::node_core::NodeCore;
-use crate::submissions::submitted_at;
+use crate::actors::{NodeActor, desk_of, lane_of};
 use crate::voice::Voice;
 use coin_deal::{Deal, deal};
-use desk_core::DeskCore;
-use disk_model::MemoryDisk;
 use hb_rules::{Fate, PlainBook};
-use journaled_actor::JournaledActor;
-use lane_core::LaneCore;
 use net_script::{LiarAt, Script};
 use std::alloc::{AllocError, Global};
 use std::sync::Arc;
 use step_driver::{Hired, Place, Player};
 
-/// An actor of a correct node, over its disk in memory.
-pub type NodeActor = JournaledActor<PlainBook, MemoryDisk, NodeCore>;
-
 // A place of a run.
-pub(crate) type RunPlace = Place<NodeActor, Voice>;
+pub(crate) type RunPlace = Place<NodeActor<PlainBook>, Voice>;
 
 // The places of all nodes, by node; at a correct node those of its lanes and then that of its desk. The voices are those of
 // the script's liars, in their order.
@@ -130,11 +121,10 @@ fn lane_place(
     ensures ready { IfOk result (λ place. IsReady script.now (spot_of node_seat node_view place)) }
     ensures named { IfOk result (λ place. name_of (spot_of node_seat node_view place) ≡ correct_name node lane) }
 {
-    let disk = disk_of(alloc, script, node, lane)?;
-    let core = LaneCore::new(alloc, &script.config, node, lane, deal.clone()?);
     let seat = book.seat(node, lane);
+    let actor = lane_of::<PlainBook>(alloc, script, deal, node, lane, seat)?;
     Ok(Place::Correct(Player {
-        actor: JournaledActor::new(alloc, NodeCore::Lane(core), disk, seat),
+        actor,
         fate: Fate::Running,
     }))
 }
@@ -155,12 +145,10 @@ fn desk_place(
     ensures named { IfOk result (λ place. name_of (spot_of node_seat node_view place) ≡ correct_name node script.now.config.n) }
 {
     let actor = script.config.n();
-    let disk = disk_of(alloc, script, node, actor)?;
-    let submitted = submitted_at(alloc, script, node)?;
-    let core = DeskCore::new(&script.config, node, submitted);
     let seat = book.seat(node, actor);
+    let actor = desk_of::<PlainBook>(alloc, script, node, seat)?;
     Ok(Place::Correct(Player {
-        actor: JournaledActor::new(alloc, NodeCore::Desk(core), disk, seat),
+        actor,
         fate: Fate::Running,
     }))
 }
@@ -186,8 +174,9 @@ fn lying_place(
     Place::Lying(Hired::new(alloc, seat, hears, voice))
 }
 
-// How many posts the liar at a node hears, and its voice, which is taken out.
-fn voice_at(script: &Script, voices: &mut Vec<Voice>, node: u8) -> (u32, Voice)
+/// How many posts the liar at a node hears, and its voice, which is taken out. The voices are those of the script's liars, in
+/// their order.
+pub fn voice_at(script: &Script, voices: &mut Vec<Voice>, node: u8) -> (u32, Voice)
     ensures hears { result.0 ≡ hears_at node script.now.liars.items }
     ensures voice { result.1.liar ≡ voice_at node script.now.liars.items (map (λ voice. voice.liar) voices.old.items) }
     ensures left { map (λ voice. voice.liar) voices.new.items ≡ without_voice node script.now.liars.items (map (λ voice. voice.liar) voices.old.items) }

@@ -41,7 +41,7 @@ use Rattle.step_driver.proofs.Tellings.{count_append, count_none}
 
 -- ---- elements of lists
 
-Contains-map : {A B : Type 0} (f : A → B) (xs : List A) (x : A) → Contains xs x → Contains (map f xs) (f x)
+pub Contains-map : {A B : Type 0} (f : A → B) (xs : List A) (x : A) → Contains xs x → Contains (map f xs) (f x)
 Contains-map f [] x stands = absurd (omega (arith, stands.1))
 Contains-map f (y ∷ xs) x stands = Contains-cases y xs x stands (Contains (map f (y ∷ xs)) (f x))
     (λ is. subst (λ z. Contains (f y ∷ map f xs) z) (ap f is) (Contains-first (f y) (map f xs)))
@@ -60,7 +60,7 @@ node_stands n i below =
     subst (λ (k : ℕ). Contains (range_with_len 0 n) k) (get_or-range_with_len 0 n i 0 below ∙ same) (Contains-get_or (range_with_len 0 n) i 0 within)
 
 -- each actor of a correct node is among the actors
-actor_stands : (c : Numbers) (i x : ℕ) → i < c.n → is_in c.liars i ≡ false → x ≤ c.n → Contains (actors c) (i, x)
+pub actor_stands : (c : Numbers) (i x : ℕ) → i < c.n → is_in c.liars i ≡ false → x ≤ c.n → Contains (actors c) (i, x)
 actor_stands c i x below honest few =
     Contains-flat_map {B = ℕ × ℕ} (λ (a : ℕ). if is_in c.liars a then [] else map (λ (y : ℕ). (a, y)) (range_with_len 0 (c.n + 1))) (range_with_len 0 c.n) i (i, x) (node_stands c.n i below)
     (subst (λ (b : Bool). Contains {X = ℕ × ℕ} (if b then [] else map (λ (y : ℕ). (i, y)) (range_with_len 0 (c.n + 1))) (i, x)) (sym honest)

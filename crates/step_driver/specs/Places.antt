@@ -1,5 +1,7 @@
 -- The places to which posts are delivered, as contracts see them.
 use Rattle.std.specs.Prelude.{ℕ, ◌+◌, Bool, true, false, List, map, if◌then◌else◌}
+use Rattle.hb_base.specs.Numbers.{Numbers}
+use Rattle.hb_wire.specs.declared.post.Post.{Post}
 use Rattle.hb_rules.specs.Book.{SeatView}
 use Rattle.hb_rules.specs.Actor.{ActorView}
 use Rattle.hb_rules.specs.declared.report.Fate.{Fate}
@@ -25,6 +27,14 @@ pub data Spot : Type 0 where
 
 abbrev pub player_view : {A : Type 0} → (A → SeatView) → (A → ActorView) → Player A → PlayerView
 player_view seat view player = record { seat = seat player.actor; view = view player.actor; fate = player.fate }
+
+-- what is known of a seat of any kind of book
+abbrev pub seat_at : {S : Type 0} → (S → Numbers) → (S → ℕ) → (S → ℕ) → (S → List Post) → S → SeatView
+seat_at config node actor seen seat = record { config = config seat; node = node seat; actor = actor seat; seen = seen seat }
+
+-- what is known of an actor over any kind of book, by its seat there, beside its fate
+abbrev pub player_at : {A S : Type 0} → (S → Numbers) → (S → ℕ) → (S → ℕ) → (S → List Post) → (A → S) → (A → ActorView) → A → Fate → PlayerView
+player_at config node actor seen seat view a fate = record { seat = seat_at config node actor seen (seat a); view = view a; fate = fate }
 
 abbrev pub hired_view : {L : Type 0} → Hired L → HiredView
 hired_view hired = record { seat = hired.seat; said = hired.said }

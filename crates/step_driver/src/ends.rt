@@ -1,13 +1,13 @@
 //! How a run ended for each actor.
 
 ghost use Rattle.std.specs.Prelude.{◌≡◌, [], ◌∷◌, ◌++◌, length, map, filter_map, IfOk, OnOk};
-ghost use Rattle.step_driver.specs.Places.{spots, spot_of, player_view, correct};
-ghost use Rattle.step_driver.specs.Running.{end_view, end_of, ends_at, AreKept, IsKeptAt};
+ghost use Rattle.step_driver.specs.Places.{spots, spot_of, player_at};
+ghost use Rattle.step_driver.specs.Running.{end_view, end_at, end_of, ends_at, AreKept, IsKept, IsKeptAt};
 
 use crate::hired::Mouth;
 use crate::place::Place;
 use crate::player::Player;
-use hb_rules::{Actor, End, PlainBook};
+use hb_rules::{Actor, Book, End, PlainBook};
 use std::alloc::{AllocError, Global};
 
 // The end of each actor, in the order of the places. What an actor keeps holds of each.
@@ -37,7 +37,7 @@ fn add_end<A: Actor<PlainBook>, L: Mouth>(
 {
     match place {
         Place::Correct(player) => {
-            let end = end_of(alloc, player)?;
+            let end = end_of::<PlainBook, A>(alloc, player)?;
             ends.push(end)?;
             Ok(())
         }
@@ -45,14 +45,15 @@ fn add_end<A: Actor<PlainBook>, L: Mouth>(
     }
 }
 
-fn end_of<A: Actor<PlainBook>>(alloc: Global, player: &Player<A>) -> Result<End, AllocError>
-    ensures end { IfOk result (λ end. ends_at (correct (player_view A.seat A.view player.now)) ≡ end_view end ∷ []) }
-    ensures kept { OnOk result (IsKeptAt (correct (player_view A.seat A.view player.now))) }
+/// The end of an actor over any kind of book, which is as the actor keeps it in every state. Err is want of memory.
+pub fn end_of<B: Book, A: Actor<B>>(alloc: Global, player: &Player<A>) -> Result<End, AllocError>
+    ensures end { IfOk result (λ end. end_view end ≡ end_at (player_at B.config B.node B.actor B.seen A.seat A.view player.now.actor player.now.fate)) }
+    ensures kept { OnOk result (IsKept (player_at B.config B.node B.actor B.seen A.seat A.view player.now.actor player.now.fate)) }
 {
     player.actor.kept();
     Ok(End {
-        node: player.node(),
-        actor: player.actor(),
+        node: player.actor.node(),
+        actor: player.actor.actor(),
         fate: player.fate,
         got: Vec::from_slice(alloc, player.actor.got())?,
         note: player.actor.note(),

@@ -1,6 +1,6 @@
 //! A node that lies, and what speaks for it.
 
-ghost use Rattle.std.specs.Prelude.{◌≡◌, ◌≤◌, true, count_by, Some};
+ghost use Rattle.std.specs.Prelude.{◌≡◌, ◌-◌, ◌<◌, ◌≤◌, true, [], ◌∷◌, count_by, None, Some};
 ghost use Rattle.hb_base.specs.Limits.{most_lies};
 ghost use Rattle.hb_base.specs.NodeSet.{is_in};
 ghost use Rattle.hb_rules.specs.Book.{IsSeatOf};
@@ -8,11 +8,10 @@ ghost use Rattle.step_driver.specs.Places.{hired_view};
 ghost use Rattle.step_driver.specs.Delivering.{is_from, IsHired, Speaks};
 ghost use Rattle.step_driver.specs.Telling.{Tells};
 
-use crate::coming::is_drop;
-use hb_base::Config;
+use crate::coming::{is_drop, reaches_node};
 use hb_base::limits::MOST_LIES;
 use hb_rules::{Book, PlainBook, PlainSeat};
-use hb_wire::{Lie, Post, reaches};
+use hb_wire::{Lie, Post};
 use liar_cast::{Liar, LiarSeat, Lies};
 use net_script::{Script, shape};
 use std::alloc::Global;
@@ -122,12 +121,15 @@ impl<L: Mouth> Hired<L> {
         };
         let comes = reaches_node(&me.config, post, me.node)
             && !is_drop(shape(script, post.from, me.node, k));
-        if self.hears == 0 || !comes {
-            return;
-        }
-        self.hears -= 1;
-        if let Some(mouth) = &mut self.mouth {
-            mouth.hear(alloc, me, post, &mut self.lies);
+        if comes {
+            listen(
+                alloc,
+                me,
+                post,
+                &mut self.hears,
+                &mut self.mouth,
+                &mut self.lies,
+            );
         }
     }
 
@@ -137,28 +139,76 @@ impl<L: Mouth> Hired<L> {
         requires hired { IsHired book.old.config (hired_view self.old) }
         ensures { Speaks book.old book.new (hired_view self.old) (hired_view self.new) }
     {
-        self.said = post_lies(book, &mut self.seat, self.said, self.lies.waiting());
-        self.lies.clear();
-        if self.hears == 0 {
-            self.mouth = None;
-        }
+        self.said = tell(
+            book,
+            &mut self.seat,
+            self.said,
+            self.hears,
+            &mut self.mouth,
+            &mut self.lies,
+        );
     }
 }
 
-// Whether a post reaches some actor of this node.
-pub(crate) fn reaches_node(config: &Config, post: &Post, node: u8) -> bool {
-    let n = config.n();
-    (0..n + 1).any(|actor| reaches(n, post, node, actor))
+/// Lets what speaks for a node hear a post, if it still hears, and counts down how many it hears. Nothing is posted yet.
+pub fn listen<L: Mouth>(
+    alloc: Global,
+    me: &LiarSeat,
+    post: &Post,
+    hears: &mut u32,
+    mouth: &mut Option<L>,
+    lies: &mut Lies,
+)
+    ensures hears { hears.new ≡ hears.old - 1 }
+    ensures over { hears.old ≡ 0 → (mouth.new ≡ mouth.old) × (lies.new ≡ lies.old) }
+{
+    if *hears == 0 {
+        return;
+    }
+    *hears -= 1;
+    if let Some(mouth) = mouth {
+        mouth.hear(alloc, me, post, lies);
+    }
 }
 
-// Posts these lies under the seat's node, as long as fewer than 4,096 stand under it, and answers how many stand then. A lie
-// that the book refuses is dropped.
-fn post_lies(book: &mut PlainBook, seat: &mut PlainSeat, said: u32, lies: &[Lie]) -> u32
-    requires seat { IsSeatOf book.old seat.old }
-    requires liar { is_in book.old.config.liars seat.old.node ≡ true }
-    requires said { count_by (is_from seat.old.node) seat.old.seen ≡ said }
+/// Posts the lies that wait, as `post_lies`, and drops what speaks for the node where it hears no more.
+pub fn tell<B: Book, L: Mouth>(
+    book: &mut B,
+    seat: &mut B::Seat,
+    said: u32,
+    hears: u32,
+    mouth: &mut Option<L>,
+    lies: &mut Lies,
+) -> u32
+    requires seat { B.knows book.old seat.old }
+    requires liar { is_in (B.config seat.old).liars (B.node seat.old) ≡ true }
+    requires said { count_by (is_from (B.node seat.old)) (B.seen seat.old) ≡ said }
     requires few { said ≤ most_lies }
-    ensures { Tells book.old book.new seat.old seat.new result }
+    ensures seat { B.knows book.new seat.new }
+    ensures moved { B.moved (B.node seat.old) (B.actor seat.old) book.old book.new }
+    ensures told { Tells B.config B.node B.actor B.seen lies.old.waiting seat.old seat.new result }
+    ensures cleared { lies.new ≡ record lies.old { waiting = [] } }
+    ensures dropped { hears ≡ 0 → mouth.new ≡ None }
+    ensures kept { 0 < hears → mouth.new ≡ mouth.old }
+{
+    let said = post_lies(book, seat, said, lies.waiting());
+    lies.clear();
+    if hears == 0 {
+        *mouth = None;
+    }
+    said
+}
+
+/// Posts these lies under the seat's node, in their order and each once, as long as fewer than 4,096 posts of the node stand,
+/// and answers how many stand then. A lie that the book refuses is dropped.
+pub fn post_lies<B: Book>(book: &mut B, seat: &mut B::Seat, said: u32, lies: &[Lie]) -> u32
+    requires seat { B.knows book.old seat.old }
+    requires liar { is_in (B.config seat.old).liars (B.node seat.old) ≡ true }
+    requires said { count_by (is_from (B.node seat.old)) (B.seen seat.old) ≡ said }
+    requires few { said ≤ most_lies }
+    ensures seat { B.knows book.new seat.new }
+    ensures moved { B.moved (B.node seat.old) (B.actor seat.old) book.old book.new }
+    ensures told { Tells B.config B.node B.actor B.seen lies.now seat.old seat.new result }
 {
     let mut said = said;
     for lie in lies {
@@ -167,12 +217,15 @@ fn post_lies(book: &mut PlainBook, seat: &mut PlainSeat, said: u32, lies: &[Lie]
     said
 }
 
-fn post_lie(book: &mut PlainBook, seat: &mut PlainSeat, said: u32, lie: &Lie) -> u32
-    requires seat { IsSeatOf book.old seat.old }
-    requires liar { is_in book.old.config.liars seat.old.node ≡ true }
-    requires said { count_by (is_from seat.old.node) seat.old.seen ≡ said }
+// The same for one lie.
+fn post_lie<B: Book>(book: &mut B, seat: &mut B::Seat, said: u32, lie: &Lie) -> u32
+    requires seat { B.knows book.old seat.old }
+    requires liar { is_in (B.config seat.old).liars (B.node seat.old) ≡ true }
+    requires said { count_by (is_from (B.node seat.old)) (B.seen seat.old) ≡ said }
     requires few { said ≤ most_lies }
-    ensures { Tells book.old book.new seat.old seat.new result }
+    ensures seat { B.knows book.new seat.new }
+    ensures moved { B.moved (B.node seat.old) (B.actor seat.old) book.old book.new }
+    ensures told { Tells B.config B.node B.actor B.seen (lie.now ∷ []) seat.old seat.new result }
 {
     if said >= MOST_LIES {
         return said;

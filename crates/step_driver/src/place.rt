@@ -6,7 +6,8 @@ ghost use Rattle.hb_wire.specs.Addresses.{reaches};
 ghost use Rattle.step_driver.specs.Places.{spot_of, seat_of};
 ghost use Rattle.step_driver.specs.Delivering.{IsSpot, Serves, IsReachedBy};
 
-use crate::hired::{Hired, Mouth, reaches_node};
+use crate::coming::reaches_node;
+use crate::hired::{Hired, Mouth};
 use crate::player::Player;
 use hb_base::{Config, Gate};
 use hb_rules::{Actor, PlainBook};

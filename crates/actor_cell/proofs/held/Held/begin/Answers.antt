@@ -1,4 +1,4 @@
-use Rattle.std.proofs.Common.{◌≡◌, List, ℕ, [], sym, ◌∙◌, subst}
+use Rattle.std.proofs.Common.{List, ℕ, [], sym, ◌∙◌, subst}
 use Rattle.hb_rules.specs.declared.report.Fate.TheVariants.{Running}
 use Rattle.hb_rules.specs.Actor.{Told}
 use Rattle.hb_rules.proofs.Reports.{running_of}

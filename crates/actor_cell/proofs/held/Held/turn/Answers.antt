@@ -1,4 +1,4 @@
-use Rattle.std.proofs.Common.{◌≡◌, [], ◌∷◌, ◌++◌, true, false, refl, sym, ap, ◌∙◌, subst}
+use Rattle.std.proofs.Common.{◌≡◌, [], ◌∷◌, ◌++◌, false, refl, sym, ap, ◌∙◌, subst}
 use Rattle.hb_rules.proofs.Reports.{running_of}
 use Rattle.net_script.specs.declared.script.Script.{Script}
 use Rattle.actor_cell.specs.Held.{HeldView, player_at}
