@@ -1,7 +1,9 @@
-//! A lane of a correct node that is started over a shared book and put behind its lock: a caller of cells, with contracts of its own.
+//! A lane of a correct node, and a node that lies, that are started over a shared book and put behind their locks: a caller of cells, with
+//! contracts of its own.
 #![tactic(auto)]
 
 mod beginning;
+mod lying;
 mod marking;
 mod sharing;
 #[cfg(test)]
@@ -9,6 +11,7 @@ mod tests;
 mod turning;
 
 pub use beginning::begin;
+pub use lying::{Echo, LiarTurns, lie_and_hear};
 pub use marking::CountingGate;
 pub use sharing::{SharedLane, begin_shared};
 pub use turning::{Turns, first_passes, hear_a_lie};

@@ -1,4 +1,4 @@
-//! A lane that hears one post, and then nothing.
+//! A lane that hears one post and then nothing, and a node that lies and hears nothing but its own lies.
 ghost use Rattle.std.specs.Prelude.{◌≡◌, ◌<◌, true, false, []};
 ghost use Rattle.std.specs.Arc.{arc_value};
 ghost use Rattle.hb_base.specs.NodeSet.{is_in};
@@ -15,10 +15,12 @@ use std::marker::Brand;
 use std::sync::{Arc, Wait};
 use std::test::*;
 
-// Four nodes, of which node 3 lies.
-fn four() -> Option<Config> {
+// Four nodes, of which this one lies.
+fn four(liar: u8) -> Option<Config>
+    requires { liar < 16 }
+{
     let mut liars = NodeSet::new();
-    liars.add(3);
+    liars.add(liar);
     Config::new(4, 1, 1, 1, 1, 0, 1, liars)
 }
 
@@ -56,7 +58,7 @@ fn turns<K: Naming, R: Wait>(
 
 #[test]
 fn one_post_and_then_none(rt: HostRuntime) -> Result<(), Fail> {
-    let config = four().expect(&rt, "a config");
+    let config = four(3).expect(&rt, "a config");
     let script = plain_script(rt.alloc(), config);
     let turns = turns::<Brand, HostRuntime>(&rt, rt.alloc(), &script)?.expect(&rt, "turns");
     assert_eq!(rt; turns.one, Served::Did);
@@ -64,5 +66,48 @@ fn one_post_and_then_none(rt: HostRuntime) -> Result<(), Fail> {
     assert_eq!(rt; turns.fate, Fate::Running);
     assert_eq!(rt; turns.entered, 1);
     assert_eq!(rt; turns.got, 1);
+    Ok(())
+}
+
+// The turns of node 0, where it lies and hears so many posts.
+fn liar_turns<K: Naming, R: Wait>(
+    rt: &R,
+    alloc: Global,
+    script: &Script,
+    hears: u32,
+) -> Result<Option<LiarTurns>, AllocError>
+    requires config { script.now.config ≡ K.config }
+{
+    if script.config.n() == 0 || !script.config.liars().has(0) {
+        return Ok(None);
+    }
+    lie_and_hear::<K, R>(rt, alloc, script, hears)
+}
+
+#[test]
+fn a_liar_that_hears_two_posts(rt: HostRuntime) -> Result<(), Fail> {
+    let config = four(0).expect(&rt, "a config");
+    let script = plain_script(rt.alloc(), config);
+    let turns = liar_turns::<Brand, HostRuntime>(&rt, rt.alloc(), &script, 2)?.expect(&rt, "turns");
+    assert_eq!(rt;
+        turns.served,
+        [Served::Did, Served::Did, Served::Did, Served::Idle]
+    );
+    assert_eq!(rt; turns.entered, 3);
+    assert_eq!(rt; turns.posts, 3);
+    Ok(())
+}
+
+#[test]
+fn a_liar_that_hears_nothing(rt: HostRuntime) -> Result<(), Fail> {
+    let config = four(0).expect(&rt, "a config");
+    let script = plain_script(rt.alloc(), config);
+    let turns = liar_turns::<Brand, HostRuntime>(&rt, rt.alloc(), &script, 0)?.expect(&rt, "turns");
+    assert_eq!(rt;
+        turns.served,
+        [Served::Did, Served::Idle, Served::Idle, Served::Idle]
+    );
+    assert_eq!(rt; turns.entered, 1);
+    assert_eq!(rt; turns.posts, 1);
     Ok(())
 }

@@ -1,0 +1,2 @@
+pub mod HeldLiar
+pub mod LiarTurns
