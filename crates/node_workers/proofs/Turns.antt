@@ -1,5 +1,5 @@
 -- Turns one after another.
-use Rattle.std.proofs.Common.{◌≡◌, ℕ, ◌+◌, ◌||◌, Bool, true, false, List, [], ◌∷◌, ◌++◌, length, length-append, refl, sym, ap, ◌∙◌, arith}
+use Rattle.std.proofs.Common.{◌≡◌, ℕ, ◌+◌, ◌||◌, Bool, true, false, List, [], ◌∷◌, ◌++◌, length-append, refl, sym, ap, ◌∙◌, arith}
 use Rattle.std.specs.List.{AllByRecursion, list_any}
 use Rattle.actor_cell.specs.declared.served.Served.{Served}
 use Rattle.node_workers.specs.Rounds.{AreServed, is_did}
@@ -38,9 +38,12 @@ AreServed-both P m n a b one two = record {
   any = or_flip b a ∙ ap (λ (x : Bool). x || b) one.any ∙ ap (λ (x : Bool). list_any is_did one.answers || x) two.any ∙ sym (any_append one.answers two.answers);
 }
 
+pub AreServed-one : (P : Served → Type 0) (r : Served) → P r → AreServed P 1 (is_did r)
+AreServed-one P r is = record { answers = r ∷ []; turns = refl; each = (is, tt); any = sym (or_false (is_did r)) }
+
 -- one cell more
 pub AreServed-more : (P : Served → Type 0) (m : ℕ) (a : Bool) (r : Served) → AreServed P m a → P r → AreServed P (m + 1) (is_did r || a)
-AreServed-more P m a r one is = AreServed-both P m 1 a (is_did r) one (record { answers = r ∷ []; turns = refl; each = (is, tt); any = sym (or_false (is_did r)) })
+AreServed-more P m a r one is = AreServed-both P m 1 a (is_did r) one (AreServed-one P r is)
 
 -- the two parts of a row of cells
 pub AreServed-split : (P : Served → Type 0) (m n cells : ℕ) (a b told : Bool) → AreServed P m a → AreServed P n b → m + n ≡ cells → told ≡ (b || a) → AreServed P cells told

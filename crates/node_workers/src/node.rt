@@ -1,25 +1,31 @@
 //! The cells of a node, and a round of a worker among them.
 
-ghost use Rattle.std.specs.Prelude.{◌≡◌, ◌||◌, length};
+ghost use Rattle.std.specs.Prelude.{◌≡◌, ◌||◌, false, length, MatchOption, slice_get};
 ghost use Rattle.actor_cell.specs.Held.{HeldView, player_at, IsHeld};
 ghost use Rattle.actor_cell.specs.Turning.{WasServed};
 ghost use Rattle.actor_cell.specs.declared.served.Served.{Served};
-ghost use Rattle.node_workers.specs.Rounds.{AreServed, is_did};
+ghost use Rattle.liar_cell.specs.HeldLiar.{IsHeldLiar};
+ghost use Rattle.liar_cell.specs.LiarTurns.{LiarWasServed};
+ghost use Rattle.node_workers.specs.Rounds.{AreServed, AreServedAt, is_did};
 
 use crate::pool::serve_all;
 use actor_cell::{Cell, RunName, Served};
 use hb_base::Gate;
 use hb_rules::Actor;
+use liar_cell::LiarCell;
 use post_book::NamedBook;
 use std::alloc::Global;
 use std::sync::Wait;
 use std::thread::Threads;
+use step_driver::Mouth;
 
-/// The actors of a correct node, each behind its lock, by their numbers.
+/// What a node has behind locks.
 #[derive(Drop)]
-pub struct Node<'b, B: NamedBook + Drop, A: Actor<B>, J: RunName> {
-    /// The cells.
-    pub cells: Vec<Cell<'b, B, A, J>>,
+pub enum Node<'b, B: NamedBook + Drop, A: Actor<B>, L: Mouth, J: RunName> {
+    /// The actors of a correct node, each behind its lock, by their numbers.
+    Correct(Vec<Cell<'b, B, A, J>>),
+    /// A node that lies.
+    Lying(LiarCell<'b, B, L, J>),
 }
 
 // Serves each cell once, and tells whether any of them took a number.
@@ -77,27 +83,53 @@ fn round<'b, B: NamedBook + Drop, A: Actor<B>, J: RunName, R: Wait, G: Gate>(
     either(serve_each(rt, alloc, front, gate), took)
 }
 
-// A round at one of the nodes.
-fn round_at<'b, B: NamedBook + Drop, A: Actor<B>, J: RunName, R: Wait, G: Gate>(
+// A round at a node: each of its actors makes one turn, and so does a node that lies. It tells whether any of them took a number.
+fn round_of<'b, B: NamedBook + Drop, A: Actor<B>, L: Mouth, J: RunName, R: Wait, G: Gate>(
     rt: &R,
     alloc: Global,
-    nodes: &[Node<'b, B, A, J>],
-    node: usize,
+    node: &Node<'b, B, A, L, J>,
     worker: usize,
     gate: &G,
-) -> bool {
-    match nodes.get(node) {
-        None => false,
-        Some(node) => round(rt, alloc, node.cells.as_slice(), worker, gate),
+) -> bool
+    ensures { AreServedAt
+        (λ (r : Served). WasServed (λ (h : HeldView A B). IsHeld B.knows J.is_script J.book (A.seat h.actor) h.book (B.name h.book) h.script h.mail
+        (player_at B.config B.node B.actor B.seen A.seat A.view h.actor h.fate))
+        B.config B.node B.actor B.seen A.seat A.view B.is_whole B.moved r)
+        (λ (r : Served). LiarWasServed (IsHeldLiar J.is_script J.book B.name) B.moved r) node.now result }
+{
+    match node {
+        Node::Correct(cells) => round(rt, alloc, cells.as_slice(), worker, gate),
+        Node::Lying(liar) => is_did(liar.serve(rt, alloc, gate)),
     }
 }
 
-/// Runs so many workers for each node until each has found that nobody has anything to do. A worker serves the actors of its own node
-/// alone, and worker w begins its first round at actor w modulo their count. It may wait.
-pub fn run_nodes<'b, B, A, J, R, G>(
+// A round at one of the nodes.
+fn round_at<'b, B: NamedBook + Drop, A: Actor<B>, L: Mouth, J: RunName, R: Wait, G: Gate>(
     rt: &R,
     alloc: Global,
-    nodes: &[Node<'b, B, A, J>],
+    nodes: &[Node<'b, B, A, L, J>],
+    node: usize,
+    worker: usize,
+    gate: &G,
+) -> bool
+    ensures { MatchOption (slice_get nodes.now node) (result ≡ false) (λ at. AreServedAt
+        (λ (r : Served). WasServed (λ (h : HeldView A B). IsHeld B.knows J.is_script J.book (A.seat h.actor) h.book (B.name h.book) h.script h.mail
+        (player_at B.config B.node B.actor B.seen A.seat A.view h.actor h.fate))
+        B.config B.node B.actor B.seen A.seat A.view B.is_whole B.moved r)
+        (λ (r : Served). LiarWasServed (IsHeldLiar J.is_script J.book B.name) B.moved r) at result) }
+{
+    match nodes.get(node) {
+        None => false,
+        Some(at) => round_of(rt, alloc, at, worker, gate),
+    }
+}
+
+/// Runs so many workers for each node until each has found that nobody has anything to do. A worker serves what is at its own node
+/// alone, and at a correct one worker w begins its first round at actor w modulo their count. It may wait.
+pub fn run_nodes<'b, B, A, L, J, R, G>(
+    rt: &R,
+    alloc: Global,
+    nodes: &[Node<'b, B, A, L, J>],
     workers: usize,
     gate: &G,
 )
@@ -105,6 +137,7 @@ where
     B: NamedBook + Drop + Send,
     B::Seat: Send,
     A: Actor<B> + Send,
+    L: Mouth + Send,
     J: RunName + Send + Sync,
     R: Threads + Wait + Sync,
     G: Gate,
