@@ -1,0 +1,5 @@
+pub mod Zips
+pub mod Readings
+pub mod Players
+pub mod Catches
+pub mod Settles

@@ -1,0 +1,5 @@
+pub mod Orders
+pub mod Fronts
+pub mod Noted
+pub mod Backs
+pub mod Leavings
