@@ -6,16 +6,16 @@ ghost use Rattle.hb_base.specs.NodeSet.{is_in};
 ghost use Rattle.mailbox.specs.Interleaving.{HasAll};
 ghost use Rattle.actor_cell.specs.Marks.{is_marked};
 ghost use Rattle.actor_cell.specs.Passes.{ArePassesOf};
-ghost use Rattle.actor_cell.specs.Mail.{delivery, at_node, at_liar, at_correct, if_reached, by_shape, reaches_node, of_post, copies, sent_of, AreSent};
+ghost use Rattle.actor_cell.specs.Mail.{delivery, at_node, at_liar, at_correct, if_reached, by_shape, of_post, copies, sent_of, AreSent};
 
 use crate::boxes::Boxes;
 use crate::marks::Marks;
 use crate::passes::Passes;
-use hb_base::Config;
 use hb_wire::{Post, reaches};
 use net_script::{Script, Shape, shape};
 use std::marker::Model;
 use std::sync::Wait;
+use step_driver::reaches_node;
 
 /// The mailboxes of a run with the passes of one actor, and the actors whose mailbox refused a number of it. Clauses see a
 /// `MailView`.
@@ -172,12 +172,4 @@ impl<'b> Mail<'b> {
             self.send_to_node(rt, script, post, node, k);
         }
     }
-}
-
-// Whether a post reaches any actor of a node.
-fn reaches_node(config: &Config, post: &Post, node: u8) -> bool
-    ensures { result ≡ reaches_node config.now.n post.now node }
-{
-    let n = config.n();
-    (0..n + 1).any(|actor| reaches(n, post, node, actor))
 }

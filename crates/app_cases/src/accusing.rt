@@ -2,13 +2,12 @@
 
 ghost use Rattle.std.specs.Prelude.{codes};
 
-use crate::calls::{Answer, Request, call, call_with, check_none, check_ran};
+use crate::calls::{Answer, Host, Request, call, call_with, check_none, check_ran};
 use crate::texts::four;
 use hb_base::LiarName;
 use hb_wire::{Post, To};
 use liar_cast::{Liar, LiarSeat, Lies};
 use std::alloc::{AllocError, Global};
-use std::process::Abort;
 use std::test::Fail;
 
 // One node, whose run of three rounds has 23 posts.
@@ -28,7 +27,7 @@ end 23
 
 #[test]
 fn trace_of_one_node(rt: HostRuntime) -> Result<(), Fail> {
-    let answer = call(rt.alloc(), &Request::new(&["trace"], ALONE))?;
+    let answer = call(&rt, rt.alloc(), &Request::new(&["trace"], ALONE))?;
     assert_eq!(rt; answer.status, 0);
     assert!(rt; answer.err.held().is_empty());
     let text = answer.out.held();
@@ -40,7 +39,7 @@ fn trace_of_one_node(rt: HostRuntime) -> Result<(), Fail> {
 
 #[test]
 fn nobody_is_accused(rt: HostRuntime) -> Result<(), Fail> {
-    let answer = call(rt.alloc(), &Request::new(&["accuse"], ALONE))?;
+    let answer = call(&rt, rt.alloc(), &Request::new(&["accuse"], ALONE))?;
     let text = "accuse nodes 1 faulty 0 version 1 epochs 1\nend 0\n";
     check_ran(&rt, &answer, 0, text, "one node");
     Ok(())
@@ -68,11 +67,16 @@ impl Liar for Doubtful {
 }
 
 // Asks who is accused among four nodes, of which node 3 says two votes of a kind.
-fn accuse(alloc: Global, kind: u8) -> Result<Answer, AllocError> {
+fn accuse(rt: &impl Host, alloc: Global, kind: u8) -> Result<Answer, AllocError> {
     let scenario = four(alloc, r#","liars":[{"node":3,"name":"doubtful"}]"#)?;
     let mut liars: Vec<Box<dyn Liar>> = Vec::new(alloc);
     liars.push(Box::new(alloc, Doubtful { kind })?)?;
-    call_with(alloc, &Request::new(&["accuse"], scenario.as_str()), liars)
+    call_with(
+        rt,
+        alloc,
+        &Request::new(&["accuse"], scenario.as_str()),
+        liars,
+    )
 }
 
 // The three correct nodes propose first, so the two votes are posts 3 and 4. A node may support both bits of a round (kind 6), and
@@ -80,7 +84,7 @@ fn accuse(alloc: Global, kind: u8) -> Result<Answer, AllocError> {
 #[test]
 fn two_votes_of_a_liar(rt: HostRuntime) -> Result<(), Fail> {
     for (kind, accused) in [(7, "accused 3 posts 3 4\n"), (6, "")] {
-        let answer = accuse(rt.alloc(), kind)?;
+        let answer = accuse(&rt, rt.alloc(), kind)?;
         let text = format!(in rt.alloc();
             "accuse nodes 4 faulty 1 version 1 epochs 1\n{accused}end 0\n"
         )?;
@@ -92,7 +96,7 @@ fn two_votes_of_a_liar(rt: HostRuntime) -> Result<(), Fail> {
 #[test]
 fn inputs_that_are_no_scenarios(rt: HostRuntime) -> Result<(), Fail> {
     for word in ["trace", "observe", "accuse"] {
-        let answer = call(rt.alloc(), &Request::new(&[word], "{"))?;
+        let answer = call(&rt, rt.alloc(), &Request::new(&[word], "{"))?;
         check_none(&rt, &answer, 3, "refused 2 NotJson\n", word);
     }
     Ok(())

@@ -3,11 +3,10 @@
 //! folded by 9 before the next: so the lane's disk is called 648 times, with folds at calls 263 to 271 and 524 to 532, and the desk's
 //! 66 times.
 
-use crate::calls::{check_ran, run};
+use crate::calls::{Host, check_ran, run};
 use crate::disks::has_posted_all_again;
 use hb_rules::{Fate, Report};
 use std::alloc::{AllocError, Global};
-use std::process::Abort;
 use std::test::Fail;
 
 // The scenario of the node, with these keys besides.
@@ -42,7 +41,7 @@ fn count_posts(report: &Report, actor: u8) -> usize {
 #[test]
 fn votes_of_lane_and_desk(rt: HostRuntime) -> Result<(), Fail> {
     let alloc = rt.alloc();
-    let answer = run(alloc, alone(alloc, "")?.as_str())?;
+    let answer = run(&rt, alloc, alone(alloc, "")?.as_str())?;
     check_ran(&rt, &answer, 0, whole(alloc)?.as_str(), "alone");
     assert_eq!(rt; count_posts(&answer.report, 0), 260);
     assert_eq!(rt; count_posts(&answer.report, 1), 42);
@@ -55,7 +54,7 @@ fn fate_of(report: &Report, actor: u8) -> Option<Fate> {
 }
 
 // Checks that the disk of an actor is called so often, by a fault at the last call and one behind it.
-fn check_calls(rt: &impl Abort, alloc: Global, actor: u8, calls: u32) -> Result<(), Fail> {
+fn check_calls(rt: &impl Host, alloc: Global, actor: u8, calls: u32) -> Result<(), Fail> {
     for (call, fate) in [
         (calls, Fate::Journal),
         (calls.saturating_add(1), Fate::Running),
@@ -63,7 +62,7 @@ fn check_calls(rt: &impl Abort, alloc: Global, actor: u8, calls: u32) -> Result<
         let keys = format!(in alloc;
             ",\"faults\":[{{\"node\":0,\"actor\":{actor},\"call\":{call}}}]"
         )?;
-        let answer = run(alloc, alone(alloc, keys.as_str())?.as_str())?;
+        let answer = run(rt, alloc, alone(alloc, keys.as_str())?.as_str())?;
         assert_eq!(rt; fate_of(&answer.report, actor), Some(fate), "{keys}");
     }
     Ok(())
@@ -84,7 +83,7 @@ fn faults_at_each_call(rt: HostRuntime) -> Result<(), Fail> {
             let keys = format!(in alloc;
                 ",\"faults\":[{{\"node\":0,\"actor\":{actor},\"call\":{call}}}]"
             )?;
-            let answer = run(alloc, alone(alloc, keys.as_str())?.as_str())?;
+            let answer = run(&rt, alloc, alone(alloc, keys.as_str())?.as_str())?;
             assert_eq!(rt; answer.status, 4, "{keys}");
             assert_eq!(rt;
                 fate_of(&answer.report, actor),
@@ -103,14 +102,14 @@ fn faults_at_each_call(rt: HostRuntime) -> Result<(), Fail> {
 
 // Runs the node with a stop at a call, and one more at the third call of the restart. Whatever the crashes leave, the actor begins
 // again, posts all again that it had posted, and all epochs are closed.
-fn check_stops(rt: &impl Abort, alloc: Global, actor: u8, call: u32) -> Result<(), Fail> {
+fn check_stops(rt: &impl Host, alloc: Global, actor: u8, call: u32) -> Result<(), Fail> {
     let again = call.saturating_add(3);
     for leave in ["old", "new", "torn"] {
         let keys = format!(in alloc;
             ",\"stops\":[{{\"node\":0,\"actor\":{actor},\"call\":{call},\"leave\":\"{leave}\"}},
 {{\"node\":0,\"actor\":{actor},\"call\":{again},\"leave\":\"{leave}\"}}]"
         )?;
-        let answer = run(alloc, alone(alloc, keys.as_str())?.as_str())?;
+        let answer = run(rt, alloc, alone(alloc, keys.as_str())?.as_str())?;
         check_ran(rt, &answer, 0, whole(alloc)?.as_str(), keys.as_str());
         assert!(rt; has_posted_all_again(&answer.report, 0, actor), "{keys}");
     }

@@ -1,10 +1,9 @@
 //! What `audit` answers to texts of histories, and to what is none.
 
 use crate::accusing::ALONE;
-use crate::calls::{Answer, Request, Written, call, check_written};
+use crate::calls::{Answer, Host, Request, Written, call, check_written};
 use crate::texts::four;
 use std::alloc::{AllocError, Global};
-use std::process::Abort;
 use std::test::Fail;
 
 // The text of one node that proposes, and of one that says before that it wants no more lanes.
@@ -78,7 +77,7 @@ end 1
 #[test]
 fn texts_by_hand(rt: HostRuntime) -> Result<(), Fail> {
     for (text, written) in ROWS {
-        let answer = call(rt.alloc(), &Request::new(&["audit"], text))?;
+        let answer = call(&rt, rt.alloc(), &Request::new(&["audit"], text))?;
         check_written(&rt, &answer, written, text);
     }
     Ok(())
@@ -100,7 +99,7 @@ fn takes_that_fail(rt: HostRuntime) -> Result<(), Fail> {
             take,
             ..Request::new(&["audit"], PROPOSES)
         };
-        check_written(&rt, &call(rt.alloc(), &given)?, written, "a take");
+        check_written(&rt, &call(&rt, rt.alloc(), &given)?, written, "a take");
     }
     Ok(())
 }
@@ -125,7 +124,7 @@ fn puts_that_fail(rt: HostRuntime) -> Result<(), Fail> {
             tell,
             ..Request::new(&["audit"], text)
         };
-        check_written(&rt, &call(rt.alloc(), &given)?, written, text);
+        check_written(&rt, &call(&rt, rt.alloc(), &given)?, written, text);
     }
     Ok(())
 }
@@ -139,7 +138,7 @@ fn a_text_that_is_too_long(rt: HostRuntime) -> Result<(), Fail> {
         piece: 65_536,
         ..Request::new(&["audit"], "")
     };
-    let answer = call(rt.alloc(), &given)?;
+    let answer = call(&rt, rt.alloc(), &given)?;
     check_written(
         &rt,
         &answer,
@@ -150,19 +149,23 @@ fn a_text_that_is_too_long(rt: HostRuntime) -> Result<(), Fail> {
 }
 
 // What `audit` answers to what `trace` prints of a scenario.
-pub(crate) fn traced(alloc: Global, scenario: &str) -> Result<(Answer, Answer), AllocError> {
-    let trace = call(alloc, &Request::new(&["trace"], scenario))?;
+pub(crate) fn traced(
+    rt: &impl Host,
+    alloc: Global,
+    scenario: &str,
+) -> Result<(Answer, Answer), AllocError> {
+    let trace = call(rt, alloc, &Request::new(&["trace"], scenario))?;
     let given = Request {
         input: trace.out.held(),
         ..Request::new(&["audit"], "")
     };
-    let answer = call(alloc, &given)?;
+    let answer = call(rt, alloc, &given)?;
     Ok((trace, answer))
 }
 
 // Checks that what is printed of a run is found legal, with as many posts as its history has.
-fn check_legal(rt: &impl Abort, alloc: Global, scenario: &str) -> Result<(), Fail> {
-    let (trace, answer) = traced(alloc, scenario)?;
+fn check_legal(rt: &impl Host, alloc: Global, scenario: &str) -> Result<(), Fail> {
+    let (trace, answer) = traced(rt, alloc, scenario)?;
     let count = trace.report.history.len();
     let line = format!(in alloc; "legal {count}\n")?;
     check_written(rt, &answer, (0, line.as_str(), ""), scenario);
@@ -171,7 +174,7 @@ fn check_legal(rt: &impl Abort, alloc: Global, scenario: &str) -> Result<(), Fai
 
 #[test]
 fn one_node(rt: HostRuntime) -> Result<(), Fail> {
-    let (_trace, answer) = traced(rt.alloc(), ALONE)?;
+    let (_trace, answer) = traced(&rt, rt.alloc(), ALONE)?;
     check_written(&rt, &answer, (0, "legal 23\n", ""), "one node");
     Ok(())
 }

@@ -86,7 +86,7 @@ fn bent(alloc: Global, text: &str, number: usize, line: &str) -> Result<Vec<u8>,
 
 #[test]
 fn one_post_of_a_history(rt: HostRuntime) -> Result<(), Fail> {
-    let (trace, _answer) = traced(rt.alloc(), ALONE)?;
+    let (trace, _answer) = traced(&rt, rt.alloc(), ALONE)?;
     let text = str::from_utf8(trace.out.held())?;
     for (number, line, wanted) in BENDS {
         let bent = bent(rt.alloc(), text, number, line)?;
@@ -94,7 +94,7 @@ fn one_post_of_a_history(rt: HostRuntime) -> Result<(), Fail> {
             input: bent.as_slice(),
             ..Request::new(&["audit"], "")
         };
-        let answer = call(rt.alloc(), &given)?;
+        let answer = call(&rt, rt.alloc(), &given)?;
         let status = if wanted.starts_with("legal") { 0 } else { 8 };
         check_written(&rt, &answer, (status, wanted, ""), line);
     }

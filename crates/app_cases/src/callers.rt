@@ -14,11 +14,14 @@ use hb_base::{Bytes, MemorySink, MemorySource, OpenGate};
 use hb_rules::Report;
 use liar_cast::Liar;
 use std::alloc::{AllocError, Global};
+use std::sync::Wait;
+use std::thread::Threads;
 
 /// Runs the scenario that the bytes say to this cast: the status, and what was printed. After 0, 4 and 5 the report tells a run of
 /// exactly that scenario, whose text was printed, and whose ledgers are comparable where no two hashed strings share a digest. It
 /// is not 4 where nothing of correct nodes was lost. After 3 the bytes say no scenario.
-pub fn run_bytes(
+pub fn run_bytes<R: Threads + Wait + Sync>(
+    rt: &R,
     alloc: Global,
     input: Bytes,
     cast: Vec<Box<dyn Liar>>,
@@ -40,6 +43,7 @@ pub fn run_bytes(
     let mut out = MemorySink::new(alloc, Vec::new(alloc));
     let mut err = MemorySink::new(alloc, Vec::new(alloc));
     let status = hb_main(
+        rt,
         alloc,
         words.as_slice(),
         &mut source,

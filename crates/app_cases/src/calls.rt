@@ -6,6 +6,13 @@ use hb_rules::Report;
 use liar_cast::{Liar, cast};
 use std::alloc::{AllocError, Global};
 use std::process::Abort;
+use std::sync::Wait;
+use std::thread::Threads;
+
+// What a test has of the system: it may be ended by it, start threads and wait.
+pub(crate) trait Host: Abort + Threads + Wait + Sync {}
+
+impl<R: Abort + Threads + Wait + Sync> Host for R {}
 
 // What a call is given: its words, its input and the length of the pieces in which it comes, and the numbers of the take, of the
 // put on out and of the put on err that fail, 0 for none.
@@ -51,6 +58,7 @@ fn failing(alloc: Global, call: u32) -> Result<Vec<u32>, AllocError> {
 
 // Calls the program with this cast.
 pub(crate) fn call_with(
+    rt: &impl Host,
     alloc: Global,
     given: &Request<'_>,
     liars: Vec<Box<dyn Liar>>,
@@ -65,6 +73,7 @@ pub(crate) fn call_with(
     let mut err = MemorySink::new(alloc, failing(alloc, given.tell)?);
     let mut report = Report::empty(alloc);
     let status = hb_main(
+        rt,
         alloc,
         words.as_slice(),
         &mut source,
@@ -92,13 +101,17 @@ pub(crate) fn cast_of(alloc: Global) -> Result<Vec<Box<dyn Liar>>, AllocError> {
 }
 
 // Calls the program with the cast of the program.
-pub(crate) fn call(alloc: Global, given: &Request<'_>) -> Result<Answer, AllocError> {
-    call_with(alloc, given, cast_of(alloc)?)
+pub(crate) fn call(
+    rt: &impl Host,
+    alloc: Global,
+    given: &Request<'_>,
+) -> Result<Answer, AllocError> {
+    call_with(rt, alloc, given, cast_of(alloc)?)
 }
 
 // Runs a scenario.
-pub(crate) fn run(alloc: Global, scenario: &str) -> Result<Answer, AllocError> {
-    call(alloc, &Request::new(&["run"], scenario))
+pub(crate) fn run(rt: &impl Host, alloc: Global, scenario: &str) -> Result<Answer, AllocError> {
+    call(rt, alloc, &Request::new(&["run"], scenario))
 }
 
 // Checks that there was a run, with this status and this text, and that nothing was told.

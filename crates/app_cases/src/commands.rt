@@ -43,7 +43,7 @@ fn no_commands(rt: HostRuntime) -> Result<(), Fail> {
                 tell,
                 ..Request::new(words, scenario)
             };
-            let answer = call(rt.alloc(), &given)?;
+            let answer = call(&rt, rt.alloc(), &given)?;
             check_none(&rt, &answer, status, told, "no command");
         }
     }
@@ -84,7 +84,7 @@ fn soaks(rt: HostRuntime) -> Result<(), Fail> {
             take: 1,
             ..Request::new(&words, "")
         };
-        let answer = call(rt.alloc(), &given)?;
+        let answer = call(&rt, rt.alloc(), &given)?;
         check_soak(&rt, rt.alloc(), &answer, number, front)?;
     }
     Ok(())

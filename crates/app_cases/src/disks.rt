@@ -1,11 +1,10 @@
 //! Runs in which a disk of node 1 loses its power once, or fails once.
 
-use crate::calls::{check_ran, run};
+use crate::calls::{Host, check_ran, run};
 use crate::texts::{ALL, FOUR_FRONT, WITHOUT_1, four, text};
 use hb_rules::{Fate, Report};
 use hb_wire::Post;
 use std::alloc::Global;
-use std::process::Abort;
 use std::test::Fail;
 
 fn stands_in(posts: &[Post], post: &Post) -> bool {
@@ -34,7 +33,7 @@ pub(crate) fn has_posted_all_again(report: &Report, node: u8, actor: u8) -> bool
 // Runs the four nodes with one stop. However early or late it comes, and whatever the crash leaves, the actor begins again at once,
 // and all nodes close all four batches.
 fn check_stop(
-    rt: &impl Abort,
+    rt: &impl Host,
     alloc: Global,
     actor: u8,
     call: u32,
@@ -44,14 +43,14 @@ fn check_stop(
         ",\"stops\":[{{\"node\":1,\"actor\":{actor},\"call\":{call},\"leave\":\"{leave}\"}}]"
     )?;
     let scenario = four(alloc, keys.as_str())?;
-    let answer = run(alloc, scenario.as_str())?;
+    let answer = run(rt, alloc, scenario.as_str())?;
     let want = text(alloc, FOUR_FRONT, &[("running", ALL); 4], 0)?;
     check_ran(rt, &answer, 0, want.as_str(), keys.as_str());
     assert!(rt; has_posted_all_again(&answer.report, 1, actor), "{keys}");
     Ok(())
 }
 
-fn check_stops(rt: &impl Abort, alloc: Global, actor: u8) -> Result<(), Fail> {
+fn check_stops(rt: &impl Host, alloc: Global, actor: u8) -> Result<(), Fail> {
     for call in 1..41u32 {
         for leave in ["old", "new", "torn"] {
             check_stop(rt, alloc, actor, call, leave)?;
@@ -86,10 +85,10 @@ fn lane_1_ended(report: &Report) -> bool {
 // The journal of a lane is made by six calls of its disk, and its first entry, with the shards of its node's proposal, by four. If
 // one of these fails no shard is sent. After them three other nodes are enough to deliver the proposal. Node 1 closes nothing, since
 // its lane 1 has ended before it decided.
-fn check_fault(rt: &impl Abort, alloc: Global, call: u32) -> Result<(), Fail> {
+fn check_fault(rt: &impl Host, alloc: Global, call: u32) -> Result<(), Fail> {
     let keys = format!(in alloc; ",\"faults\":[{{\"node\":1,\"actor\":1,\"call\":{call}}}]")?;
     let scenario = four(alloc, keys.as_str())?;
-    let answer = run(alloc, scenario.as_str())?;
+    let answer = run(rt, alloc, scenario.as_str())?;
     let other = ("running", if call > 10 { ALL } else { WITHOUT_1 });
     let ended = ("ended", "actor 1 journal\n");
     let want = text(alloc, FOUR_FRONT, &[other, ended, other, other], 0)?;

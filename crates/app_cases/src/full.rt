@@ -60,7 +60,7 @@ fn sixteen_nodes(rt: HostRuntime) -> Result<(), Fail> {
     let want = text(alloc, front, &[("running", ledger.as_str()); 16], 0)?;
     check_ran(
         &rt,
-        &run(alloc, scenario.as_str())?,
+        &run(&rt, alloc, scenario.as_str())?,
         0,
         want.as_str(),
         front,

@@ -3,14 +3,13 @@
 
 ghost use Rattle.std.specs.Prelude.{◌≡◌, codes, length, IfOk};
 
-use crate::calls::{Request, call_with, check_ran, run};
+use crate::calls::{Host, Request, call_with, check_ran, run};
 use crate::texts::{FIRST_THREE, FOUR_FRONT, LAST_THREE, Node, four, text};
 use hb_base::LiarName;
 use hb_wire::{Post, To};
 use liar_cast::{Liar, LiarSeat, Lies};
 use merkle_branch::{Leaves, Tree};
 use std::alloc::{AllocError, Global};
-use std::process::Abort;
 use std::test::Fail;
 
 const KINDS: [&str; 6] = [
@@ -24,12 +23,12 @@ const KINDS: [&str; 6] = [
 
 // Runs the four nodes with a liar of each of the six kinds at this node. None of them broadcasts a value that a correct node
 // delivers.
-fn check_kinds(rt: &impl Abort, alloc: Global, node: u8, nodes: &[Node<'_>]) -> Result<(), Fail> {
+fn check_kinds(rt: &impl Host, alloc: Global, node: u8, nodes: &[Node<'_>]) -> Result<(), Fail> {
     let want = text(alloc, FOUR_FRONT, nodes, 0)?;
     for name in KINDS {
         let keys = format!(in alloc; ",\"liars\":[{{\"node\":{node},\"name\":\"{name}\"}}]")?;
         let scenario = four(alloc, keys.as_str())?;
-        let answer = run(alloc, scenario.as_str())?;
+        let answer = run(rt, alloc, scenario.as_str())?;
         check_ran(rt, &answer, 0, want.as_str(), keys.as_str());
     }
     Ok(())
@@ -111,7 +110,12 @@ fn false_frames(rt: HostRuntime) -> Result<(), Fail> {
     let scenario = four(alloc, r#","liars":[{"node":3,"name":"false_frame"}]"#)?;
     let mut liars: Vec<Box<dyn Liar>> = Vec::new(alloc);
     liars.push(Box::new(alloc, FalseFrame)?)?;
-    let answer = call_with(alloc, &Request::new(&["run"], scenario.as_str()), liars)?;
+    let answer = call_with(
+        &rt,
+        alloc,
+        &Request::new(&["run"], scenario.as_str()),
+        liars,
+    )?;
     let correct = ("running", WITH_NOTHING);
     let want = text(
         alloc,

@@ -2,13 +2,12 @@
 
 ghost use Rattle.std.specs.Prelude.{codes};
 
-use crate::calls::{Request, call_with, first_bytes, run};
+use crate::calls::{Host, Request, call_with, first_bytes, run};
 use crate::texts::four;
 use hb_base::LiarName;
 use hb_wire::{Post, To};
 use liar_cast::{Liar, LiarSeat, Lies};
 use std::alloc::{AllocError, Global};
-use std::process::Abort;
 use std::sync::Arc;
 use std::test::Fail;
 
@@ -44,7 +43,7 @@ fn posts_of_liars(rt: HostRuntime) -> Result<(), Fail> {
         ("babble", 3, b"\xff\x01\xff\x01\xff\x01".as_slice()),
     ] {
         let scenario = with_liar(alloc, name, hears)?;
-        let answer = run(alloc, scenario.as_str())?;
+        let answer = run(&rt, alloc, scenario.as_str())?;
         let found = first_bytes(alloc, &answer.report, 3)?;
         assert_eq!(rt; found.as_slice(), want, "{name} {hears}");
     }
@@ -52,9 +51,9 @@ fn posts_of_liars(rt: HostRuntime) -> Result<(), Fail> {
 }
 
 // Checks that node 3 posts the same votes again and again, at least once for each lane.
-fn check_each_lane(rt: &impl Abort, alloc: Global, name: &str, votes: &[u8]) -> Result<(), Fail> {
+fn check_each_lane(rt: &impl Host, alloc: Global, name: &str, votes: &[u8]) -> Result<(), Fail> {
     let scenario = with_liar(alloc, name, ALL)?;
-    let answer = run(alloc, scenario.as_str())?;
+    let answer = run(rt, alloc, scenario.as_str())?;
     let found = first_bytes(alloc, &answer.report, 3)?;
     assert!(rt; found.len() >= votes.len().saturating_mul(4), "{name}");
     for (place, byte) in found.iter().enumerate() {
@@ -78,7 +77,7 @@ fn liars_in_agreements(rt: HostRuntime) -> Result<(), Fail> {
 #[test]
 fn babble_to_the_end(rt: HostRuntime) -> Result<(), Fail> {
     let scenario = with_liar(rt.alloc(), "babble", ALL)?;
-    let answer = run(rt.alloc(), scenario.as_str())?;
+    let answer = run(&rt, rt.alloc(), scenario.as_str())?;
     let found = first_bytes(rt.alloc(), &answer.report, 3)?;
     assert_eq!(rt; found.len(), 4_096);
     Ok(())
@@ -108,7 +107,7 @@ fn two_liars(rt: HostRuntime) -> Result<(), Fail> {
         let scenario = format!(in alloc;
             "{{\"nodes\":7,\"faulty\":2,\"epochs\":1,\"liars\":[{liars}]}}"
         )?;
-        let answer = run(alloc, scenario.as_str())?;
+        let answer = run(&rt, alloc, scenario.as_str())?;
         let found = first_bytes(alloc, &answer.report, 5)?;
         assert_eq!(rt; found.as_slice(), fifth, "{liars}");
         let found = first_bytes(alloc, &answer.report, 6)?;
@@ -151,7 +150,12 @@ fn boxes_are_asked_and_dropped(rt: HostRuntime) -> Result<(), Fail> {
             liars.push(Box::new(alloc, counting)?)?;
         }
         let scenario = with_liar(alloc, "counting", hears)?;
-        let answer = call_with(alloc, &Request::new(&["run"], scenario.as_str()), liars)?;
+        let answer = call_with(
+            &rt,
+            alloc,
+            &Request::new(&["run"], scenario.as_str()),
+            liars,
+        )?;
         let found = first_bytes(alloc, &answer.report, 3)?;
         assert_eq!(rt; found.len(), hears as usize);
         assert_eq!(rt; Arc::strong_count(&shared), 1, "{hears}");

@@ -11,7 +11,11 @@ fn observers_of_a_lost_node(rt: HostRuntime) -> Result<(), Fail> {
         rt.alloc(),
         r#","links":[{"to":2,"every":1,"at":0,"shape":"drop"}]"#,
     )?;
-    let answer = call(rt.alloc(), &Request::new(&["observe"], scenario.as_str()))?;
+    let answer = call(
+        &rt,
+        rt.alloc(),
+        &Request::new(&["observe"], scenario.as_str()),
+    )?;
     let text = format!(in rt.alloc();
         "observe nodes 4 faulty 1 version 1 epochs 1
 observer 0 epochs 1
@@ -29,7 +33,11 @@ observer 3 epochs 1
 #[test]
 fn observers_of_a_liar(rt: HostRuntime) -> Result<(), Fail> {
     let scenario = four(rt.alloc(), r#","liars":[{"node":3,"name":"equivocate"}]"#)?;
-    let answer = call(rt.alloc(), &Request::new(&["observe"], scenario.as_str()))?;
+    let answer = call(
+        &rt,
+        rt.alloc(),
+        &Request::new(&["observe"], scenario.as_str()),
+    )?;
     let text = format!(in rt.alloc();
         "observe nodes 4 faulty 1 version 1 epochs 1
 observer 0 epochs 1

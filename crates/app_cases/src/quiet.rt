@@ -1,6 +1,6 @@
 //! Whether reports are quiet: those of runs, and those of which something was taken away.
 
-use crate::calls::run;
+use crate::calls::{Host, run};
 use crate::texts::four;
 use hb_rules::{End, Fate, Report};
 use quiet_check::is_quiet;
@@ -8,8 +8,8 @@ use std::alloc::{AllocError, Global};
 use std::test::Fail;
 
 // The report of a run of four nodes, with these keys besides.
-fn report_of(alloc: Global, keys: &str) -> Result<Report, AllocError> {
-    let answer = run(alloc, four(alloc, keys)?.as_str())?;
+fn report_of(rt: &impl Host, alloc: Global, keys: &str) -> Result<Report, AllocError> {
+    let answer = run(rt, alloc, four(alloc, keys)?.as_str())?;
     Ok(answer.report)
 }
 
@@ -26,7 +26,7 @@ fn reports_of_runs(rt: HostRuntime) -> Result<(), Fail> {
         r#","faults":[{"node":1,"actor":1,"call":9}]"#,
         r#","stops":[{"node":1,"actor":4,"call":9,"leave":"torn"}]"#,
     ] {
-        assert!(rt; is_quiet(alloc, &report_of(alloc, keys)?)?, "{keys}");
+        assert!(rt; is_quiet(alloc, &report_of(&rt, alloc, keys)?)?, "{keys}");
     }
     Ok(())
 }
@@ -38,7 +38,7 @@ fn spent_rounds(rt: HostRuntime) -> Result<(), Fail> {
         let scenario = format!(in rt.alloc();
             "{{\"nodes\":1,\"faulty\":0,\"epochs\":1,\"rounds\":2,\"seed\":0,\"version\":{version}}}"
         )?;
-        let answer = run(rt.alloc(), scenario.as_str())?;
+        let answer = run(&rt, rt.alloc(), scenario.as_str())?;
         assert_eq!(rt; answer.status, 5);
         assert!(rt; is_quiet(rt.alloc(), &answer.report)?);
     }
@@ -110,7 +110,7 @@ fn changed_reports(rt: HostRuntime) -> Result<(), Fail> {
         (Change::EndWithoutPosts, true),
         (Change::LoseTheLastPost, false),
     ] {
-        let mut report = report_of(rt.alloc(), "")?;
+        let mut report = report_of(&rt, rt.alloc(), "")?;
         apply(&mut report, what)?;
         assert_eq!(rt; is_quiet(rt.alloc(), &report)?, wanted);
     }

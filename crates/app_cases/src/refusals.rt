@@ -84,7 +84,7 @@ const ROWS: [(&str, &str); 20] = [
 #[test]
 fn faults_of_scenarios(rt: HostRuntime) -> Result<(), Fail> {
     for (input, line) in ROWS {
-        let answer = run(rt.alloc(), input)?;
+        let answer = run(&rt, rt.alloc(), input)?;
         check_none(&rt, &answer, 3, line, input);
     }
     Ok(())
@@ -117,7 +117,7 @@ fn spaces(rt: HostRuntime) -> Result<(), Fail> {
         ),
     ] {
         let input = with_spaces(alloc, text, count)?;
-        let answer = run(alloc, input.as_str())?;
+        let answer = run(&rt, alloc, input.as_str())?;
         check_none(&rt, &answer, 3, line, line);
     }
     Ok(())
@@ -133,7 +133,7 @@ fn cut_scenarios(rt: HostRuntime) -> Result<(), Fail> {
             input: &whole[..len],
             ..Request::new(&["run"], "")
         };
-        let answer = call(rt.alloc(), &given)?;
+        let answer = call(&rt, rt.alloc(), &given)?;
         check_none(&rt, &answer, 3, "refused 2 NotJson\n", "a cut scenario");
     }
     Ok(())
@@ -147,7 +147,7 @@ fn lines_that_fail(rt: HostRuntime) -> Result<(), Fail> {
             tell: 1,
             ..Request::new(&["run"], input)
         };
-        let answer = call(rt.alloc(), &given)?;
+        let answer = call(&rt, rt.alloc(), &given)?;
         check_none(&rt, &answer, 7, "", input);
     }
     Ok(())

@@ -1,13 +1,12 @@
 //! Runs without liars and without faults of disks, and their whole texts.
 
 use crate::callers::run_bytes;
-use crate::calls::{cast_of, check_ran, first_bytes, run};
+use crate::calls::{Host, cast_of, check_ran, first_bytes, run};
 use crate::texts::{ALL, FOUR_FRONT, Node, four, text};
 use acs_world::{batches_ok, common_epochs, comparable};
 use hb_base::Bytes;
 use hb_rules::Report;
 use std::alloc::{AllocError, Global};
-use std::process::Abort;
 use std::test::Fail;
 
 // A scenario, the first line of its run, what is printed of each node, and the status.
@@ -108,7 +107,7 @@ const ROWS: [Row; 6] = [
 
 // Checks that the caller is answered the same, and prints the same.
 fn check_caller(
-    rt: &impl Abort,
+    rt: &impl Host,
     alloc: Global,
     scenario: &str,
     status: u8,
@@ -116,7 +115,7 @@ fn check_caller(
 ) -> Result<(), AllocError> {
     let input = Bytes::copy(alloc, scenario.as_bytes())?;
     let mut report = Report::empty(alloc);
-    let (found, out) = run_bytes(alloc, input, cast_of(alloc)?, &mut report)?;
+    let (found, out) = run_bytes(rt, alloc, input, cast_of(alloc)?, &mut report)?;
     assert_eq!(rt; found, status, "{scenario}");
     assert!(rt; out.held() == text.as_bytes(), "{scenario}");
     Ok(())
@@ -125,7 +124,7 @@ fn check_caller(
 #[test]
 fn whole_texts(rt: HostRuntime) -> Result<(), Fail> {
     for row in &ROWS {
-        let answer = run(rt.alloc(), row.scenario)?;
+        let answer = run(&rt, rt.alloc(), row.scenario)?;
         let want = text(rt.alloc(), row.front, row.nodes, row.status)?;
         check_ran(&rt, &answer, row.status, want.as_str(), row.scenario);
         check_caller(&rt, rt.alloc(), row.scenario, row.status, want.as_str())?;
@@ -156,7 +155,7 @@ fn four_nodes(rt: HostRuntime) -> Result<(), Fail> {
         ),
     ] {
         let scenario = four(alloc, keys)?;
-        let answer = run(alloc, scenario.as_str())?;
+        let answer = run(&rt, alloc, scenario.as_str())?;
         let nodes = [whole, whole, third, whole];
         let want = text(alloc, FOUR_FRONT, &nodes, status)?;
         check_ran(&rt, &answer, status, want.as_str(), keys);
@@ -169,7 +168,7 @@ fn four_nodes(rt: HostRuntime) -> Result<(), Fail> {
 fn mixed_order(rt: HostRuntime) -> Result<(), Fail> {
     let alloc = rt.alloc();
     let keys = r#","order":"mixed","seed":7,"links":[{"every":2,"at":0,"shape":"twice"}]"#;
-    let answer = run(alloc, four(alloc, keys)?.as_str())?;
+    let answer = run(&rt, alloc, four(alloc, keys)?.as_str())?;
     assert!(rt; answer.status == 0 || answer.status == 5);
     assert!(rt; comparable(&answer.report));
     assert!(rt; batches_ok(&answer.report));
@@ -191,7 +190,7 @@ fn histories_of_one_node(rt: HostRuntime) -> Result<(), Fail> {
         let scenario = format!(in alloc;
             "{{\"nodes\":1,\"faulty\":0,\"epochs\":1,\"rounds\":{rounds},\"seed\":0,\"submit\":[{{\"node\":0,\"tx\":\"6869\"}}]}}"
         )?;
-        let answer = run(alloc, scenario.as_str())?;
+        let answer = run(&rt, alloc, scenario.as_str())?;
         let found = first_bytes(alloc, &answer.report, 0)?;
         assert_eq!(rt; found.as_slice(), votes, "{rounds} rounds");
     }

@@ -1,6 +1,6 @@
 //! Takes and puts that fail.
 
-use crate::calls::{Answer, Request, call, check_none, check_ran};
+use crate::calls::{Answer, Host, Request, call, check_none, check_ran};
 use std::alloc::{AllocError, Global};
 use std::process::Abort;
 use std::test::Fail;
@@ -48,7 +48,7 @@ fn takes_that_fail(rt: HostRuntime) -> Result<(), Fail> {
                 tell,
                 ..Request::new(&["run"], ONE)
             };
-            let answer = call(rt.alloc(), &given)?;
+            let answer = call(&rt, rt.alloc(), &given)?;
             check_none(&rt, &answer, status, told, told);
         }
     }
@@ -64,7 +64,7 @@ fn pieces(rt: HostRuntime) -> Result<(), Fail> {
             take: 100,
             ..Request::new(&["run"], ONE)
         };
-        let answer = call(rt.alloc(), &given)?;
+        let answer = call(&rt, rt.alloc(), &given)?;
         check_ran(&rt, &answer, 0, text.as_str(), "pieces");
     }
     Ok(())
@@ -81,7 +81,7 @@ fn check_cut(rt: &impl Abort, answer: &Answer, front: &str, told: &str) {
 
 // Where a put fails, the lines before it have been put.
 fn check_puts(
-    rt: &impl Abort,
+    rt: &impl Host,
     alloc: Global,
     word: &str,
     lines: [&str; 6],
@@ -97,7 +97,7 @@ fn check_puts(
                 tell,
                 ..Request::new(&words, ONE)
             };
-            let answer = call(alloc, &given)?;
+            let answer = call(rt, alloc, &given)?;
             check_cut(rt, &answer, front.as_str(), told);
         }
         front.push_str(line)?;
@@ -106,7 +106,13 @@ fn check_puts(
         put: 7,
         ..Request::new(&words, ONE)
     };
-    check_ran(rt, &call(alloc, &given)?, 0, front.as_str(), "seventh put");
+    check_ran(
+        rt,
+        &call(rt, alloc, &given)?,
+        0,
+        front.as_str(),
+        "seventh put",
+    );
     Ok(())
 }
 

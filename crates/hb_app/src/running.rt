@@ -11,17 +11,21 @@ use accuse::accuse_laws;
 use acs_world::ledger_laws;
 use hb_base::{Gate, LiarName};
 use hb_rules::Report;
-use ledger_run::{hire, run_script};
+use ledger_run::{Voice, hire, run_script};
 use liar_cast::Liar;
 use net_script::Script;
 use observer::observer_laws;
 use quiet_world::{calm_laws, quiet_laws};
 use run_status::status;
 use std::alloc::{AllocError, Global};
+use std::sync::Wait;
+use std::thread::Threads;
+use thread_run::run_on_threads;
 
 /// Runs a script with the liars that it asks a cast for, and leaves the report of the run. Err is want of memory, and leaves the
-/// report as it was.
-pub fn run_with<G: Gate>(
+/// report as it was. It may wait where the script asks for workers.
+pub fn run_with<R: Threads + Wait + Sync, G: Gate>(
+    rt: &R,
     alloc: Global,
     script: Script,
     cast: Vec<Box<dyn Liar>>,
@@ -33,9 +37,27 @@ pub fn run_with<G: Gate>(
     ensures kept { OnErr result (report.new ≡ report.old) }
 {
     let voices = hire(alloc, script.liars.as_slice(), cast)?;
-    let made = run_script(alloc, script, voices, gate)?;
+    let made = run(rt, alloc, script, voices, gate)?;
     *report = with_status(made);
     Ok(())
+}
+
+// Runs a script by the worker threads that it asks for, or by this thread alone where it asks for none.
+fn run<R: Threads + Wait + Sync, G: Gate>(
+    rt: &R,
+    alloc: Global,
+    script: Script,
+    voices: Vec<Voice>,
+    gate: &G,
+) -> Result<Report, AllocError>
+    requires scenario { IsScenario (told script) }
+    ensures ran { IfOk result (IsRunOf script) }
+{
+    if script.workers == 0 {
+        run_script(alloc, script, voices, gate)
+    } else {
+        run_on_threads(rt, alloc, script, voices, gate)
+    }
 }
 
 // The report with its status.

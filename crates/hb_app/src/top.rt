@@ -34,6 +34,8 @@ use scenario_gen::generate;
 use script_fault::ScriptFault;
 use script_reader::read_script;
 use std::alloc::Global;
+use std::sync::Wait;
+use std::thread::Threads;
 use trace_audit::audit;
 
 /// The program `hb_ledger`: what its words ask for, over any input and output, with a cast of liars. `run`, `trace`, `observe` and
@@ -54,9 +56,10 @@ use trace_audit::audit;
 /// to `out` but a verdict. At most 1,048,577 bytes of the input are taken, one more than a scenario may have, or 67,108,865 by `audit`,
 /// one more than the text of a history may have, and the rest is left.
 ///
-/// A scenario may ask for the liars of the cast, by name; each stands for one node. Where it asks for workers, the run is on one
-/// thread all the same.
-pub fn hb_main<S: Source, O: Sink, E: Sink, G: Gate>(
+/// A scenario may ask for the liars of the cast, by name; each stands for one node. Where it asks for workers above 0, so many worker
+/// threads at each node run it over a shared book, and the call may wait; else this thread runs it alone.
+pub fn hb_main<R: Threads + Wait + Sync, S: Source, O: Sink, E: Sink, G: Gate>(
+    rt: &R,
     alloc: Global,
     words: &[String],
     source: &mut S,
@@ -84,7 +87,7 @@ pub fn hb_main<S: Source, O: Sink, E: Sink, G: Gate>(
 {
     match command_of(words) {
         Some(Command::Run(text)) => {
-            let outcome = run_source(alloc, text, source, out, cast, gate, report);
+            let outcome = run_source(rt, alloc, text, source, out, cast, gate, report);
             tell_outcome(&outcome, report.status, err)
         }
         Some(Command::Audit) => {
@@ -92,7 +95,7 @@ pub fn hb_main<S: Source, O: Sink, E: Sink, G: Gate>(
             tell_audit(answer, out, err)
         }
         Some(Command::Soak(number)) => {
-            let outcome = soak_number(alloc, number, out, cast, gate, report);
+            let outcome = soak_number(rt, alloc, number, out, cast, gate, report);
             tell_outcome(&outcome, report.status, err)
         }
         None => tell(USAGE, 2, err),
@@ -100,7 +103,8 @@ pub fn hb_main<S: Source, O: Sink, E: Sink, G: Gate>(
 }
 
 // Runs the scenario that the whole input says, and prints the run.
-fn run_source<S: Source, O: Sink, G: Gate>(
+fn run_source<R: Threads + Wait + Sync, S: Source, O: Sink, G: Gate>(
+    rt: &R,
     alloc: Global,
     text: Text,
     source: &mut S,
@@ -116,7 +120,16 @@ fn run_source<S: Source, O: Sink, G: Gate>(
     ensures taken { TakesAtMost most_taken (source_view S.left S.faults source.old) (source_view S.left S.faults source.new) }
 {
     match read_input(alloc, source, LONGEST_SCENARIO) {
-        Input::Whole(bytes) => run_bytes(alloc, text, bytes.as_slice(), out, cast, gate, report),
+        Input::Whole(bytes) => run_bytes(
+            rt,
+            alloc,
+            text,
+            bytes.as_slice(),
+            out,
+            cast,
+            gate,
+            report,
+        ),
         Input::TooLong => Outcome::Refused(ScriptFault::TooLong),
         Input::Failed => Outcome::ReadFailed,
         Input::Memory => Outcome::Memory,
@@ -125,7 +138,8 @@ fn run_source<S: Source, O: Sink, G: Gate>(
 
 // Runs the scenario that these bytes say, and prints the run.
 #[tactic(auto, using(crate::proofs::Reading::fails_with))]
-fn run_bytes<O: Sink, G: Gate>(
+fn run_bytes<R: Threads + Wait + Sync, O: Sink, G: Gate>(
+    rt: &R,
     alloc: Global,
     text: Text,
     bytes: &[u8],
@@ -141,14 +155,15 @@ fn run_bytes<O: Sink, G: Gate>(
         return Outcome::Memory;
     };
     match read_script(alloc, bytes, names.as_slice()) {
-        Ok(script) => run_and_print(alloc, text, script, out, cast, gate, report),
+        Ok(script) => run_and_print(rt, alloc, text, script, out, cast, gate, report),
         Err(ScriptFault::Memory) => Outcome::Memory,
         Err(fault) => Outcome::Refused(fault),
     }
 }
 
 // Runs a script, and prints the run.
-fn run_and_print<O: Sink, G: Gate>(
+fn run_and_print<R: Threads + Wait + Sync, O: Sink, G: Gate>(
+    rt: &R,
     alloc: Global,
     text: Text,
     script: Script,
@@ -161,7 +176,7 @@ fn run_and_print<O: Sink, G: Gate>(
     ensures { ScriptComes (text_of text) (WantsMemory text) (told script)
         (sink_view O.held O.faults out.old) (sink_view O.held O.faults out.new) report.old report.new result }
 {
-    if run_with(alloc, script, cast, gate, report).is_err() {
+    if run_with(rt, alloc, script, cast, gate, report).is_err() {
         return Outcome::Memory;
     }
     match print(alloc, text, report, out) {
@@ -172,7 +187,8 @@ fn run_and_print<O: Sink, G: Gate>(
 }
 
 // Runs the scenario of a number, and prints whether its ledgers agree.
-fn soak_number<O: Sink, G: Gate>(
+fn soak_number<R: Threads + Wait + Sync, O: Sink, G: Gate>(
+    rt: &R,
     alloc: Global,
     number: u64,
     out: &mut O,
@@ -186,7 +202,7 @@ fn soak_number<O: Sink, G: Gate>(
     let Ok(script) = generate(alloc, number) else {
         return Outcome::Memory;
     };
-    if run_with(alloc, script, cast, gate, report).is_err() {
+    if run_with(rt, alloc, script, cast, gate, report).is_err() {
         return Outcome::Memory;
     }
     match print_soak(number, report, out) {

@@ -12,6 +12,8 @@ use std::alloc::{AllocError, Global};
 use std::env;
 use std::io::ErrorKind;
 use std::process::ExitCode;
+use std::sync::Wait;
+use std::thread::Threads;
 use streams::{Reading, Writing};
 
 // The words after the program's name. Words that are not in UTF-8 are none that the program knows, as no words are.
@@ -29,23 +31,26 @@ fn words(rt: &HostRuntime, alloc: Global) -> Result<Vec<String>, AllocError> {
     Ok(words)
 }
 
-// Calls the program with five liars of each kind, since as many may lie in a run. Err is want of memory for them, before the
-// call.
-fn call<S: Source, O: Sink, E: Sink>(
+// Calls the program with the words of the process, and five liars of each kind, since as many may lie in a run. Err is want of
+// memory for the words or the liars, before the call.
+fn call<R: Threads + Wait + Sync, S: Source, O: Sink, E: Sink>(
+    rt: &R,
     alloc: Global,
-    words: &[String],
+    words: Result<Vec<String>, AllocError>,
     source: &mut S,
     out: &mut O,
     err: &mut E,
 ) -> Result<u8, AllocError> {
+    let words = words?;
     let mut liars: Vec<Box<dyn Liar>> = Vec::new(alloc);
     for kind in cast(alloc)? {
         liars.push(Box::new(alloc, kind)?)?;
     }
     let mut report = Report::empty(alloc);
     Ok(hb_main(
+        rt,
         alloc,
-        words,
+        words.as_slice(),
         source,
         out,
         err,
@@ -55,22 +60,12 @@ fn call<S: Source, O: Sink, E: Sink>(
     ))
 }
 
-// Calls the program with the words of the process.
-fn call_with_words<S: Source, O: Sink, E: Sink>(
-    rt: &HostRuntime,
-    source: &mut S,
-    out: &mut O,
-    err: &mut E,
-) -> Result<u8, AllocError> {
-    let words = words(rt, rt.alloc())?;
-    call(rt.alloc(), words.as_slice(), source, out, err)
-}
-
 fn main(rt: HostRuntime) -> ExitCode {
     let mut source = Reading::new(rt.stdin());
     let mut out = Writing::new(rt.stdout());
     let mut err = Writing::new(rt.stderr());
-    match call_with_words(&rt, &mut source, &mut out, &mut err) {
+    let words = words(&rt, rt.alloc());
+    match call(&rt, rt.alloc(), words, &mut source, &mut out, &mut err) {
         Ok(status) => ExitCode::from(status),
         Err(_) => {
             let _told = err.put(NO_MEMORY);

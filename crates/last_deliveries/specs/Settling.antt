@@ -9,7 +9,7 @@ use Rattle.hb_rules.specs.Book.{SeatView, Watched}
 use Rattle.hb_rules.specs.Ledger.{IsPrefix}
 use Rattle.hb_rules.specs.Report.{IsReceived, is_running_fate}
 use Rattle.step_driver.specs.declared.player.Player.{Player}
-use Rattle.step_driver.specs.Places.{PlayerView}
+use Rattle.step_driver.specs.Places.{PlayerView, seat_at}
 use Rattle.step_driver.specs.Delivering.{IsPlayer}
 use Rattle.actor_cell.specs.Held.{player_at}
 use Rattle.actor_cell.specs.Turning.{IsSameSeat, Keeps}
@@ -23,12 +23,9 @@ player_of config node actor seen seat view player = player_at config node actor 
 abbrev pub players_of : {A S : Type 0} → (S → Numbers) → (S → ℕ) → (S → ℕ) → (S → List Post) → (A → S) → (A → ActorView) → List (Player A) → List PlayerView
 players_of config node actor seen seat view players = map (player_of config node actor seen seat view) players
 
--- what a seat knows
-abbrev pub seat_of : {S : Type 0} → (S → Numbers) → (S → ℕ) → (S → ℕ) → (S → List Post) → S → SeatView
-seat_of config node actor seen seat = record { config = config seat; node = node seat; actor = actor seat; seen = seen seat }
-
-abbrev pub seats_of : {S : Type 0} → (S → Numbers) → (S → ℕ) → (S → ℕ) → (S → List Post) → List S → List SeatView
-seats_of config node actor seen seats = map (seat_of config node actor seen) seats
+-- what seats know
+abbrev pub seats_at : {S : Type 0} → (S → Numbers) → (S → ℕ) → (S → ℕ) → (S → List Post) → List S → List SeatView
+seats_at config node actor seen seats = map (seat_at config node actor seen) seats
 
 -- ---- from before the deliveries to after them
 

@@ -2,7 +2,7 @@
 
 ghost use Rattle.std.specs.Prelude.{◌≡◌, ◌≤◌, length, All};
 ghost use Rattle.std.specs.List.{AllZip};
-ghost use Rattle.last_deliveries.specs.Settling.{seats_of, HasWatched};
+ghost use Rattle.last_deliveries.specs.Settling.{seats_at, HasWatched};
 
 use post_book::NamedBook;
 
@@ -11,9 +11,9 @@ pub(crate) fn highest<B: NamedBook>(book: &mut B, seats: &mut Vec<B::Seat>, leas
     requires seats { All (λ seat. B.knows book.old seat) seats.old.items }
     ensures book { B.name book.new ≡ B.name book.old }
     ensures seats { All (λ seat. B.knows book.new seat) seats.new.items }
-    ensures watched { AllZip HasWatched (seats_of B.config B.node B.actor B.seen seats.old.items) (seats_of B.config B.node B.actor B.seen seats.new.items) }
+    ensures watched { AllZip HasWatched (seats_at B.config B.node B.actor B.seen seats.old.items) (seats_at B.config B.node B.actor B.seen seats.new.items) }
     ensures least { least ≤ result }
-    ensures most { All (λ seat. length seat.seen ≤ result) (seats_of B.config B.node B.actor B.seen seats.new.items) }
+    ensures most { All (λ seat. length seat.seen ≤ result) (seats_at B.config B.node B.actor B.seen seats.new.items) }
 {
     let mut most = least;
     for number in 0..seats.len() {

@@ -5,7 +5,7 @@ ghost use Rattle.std.specs.List.{AllZip};
 ghost use Rattle.hb_base.specs.Limits.{most_posts};
 ghost use Rattle.hb_rules.specs.Ledger.{IsPrefix};
 ghost use Rattle.last_deliveries.specs.Catching.{IsCaughtUp, HasReadAt, HasReadFront};
-ghost use Rattle.last_deliveries.specs.Settling.{player_of, players_of, seats_of, IsOfRun, HasGoneOn, HasWatched, IsSettled};
+ghost use Rattle.last_deliveries.specs.Settling.{player_of, players_of, seats_at, IsOfRun, HasGoneOn, HasWatched, IsSettled};
 
 use crate::catching::catch_up;
 use crate::levels::highest;
@@ -47,9 +47,9 @@ pub fn settle<B: NamedBook, A: Actor<B>, R: Wait, G: Gate>(
     ensures went { AllZip HasGoneOn (players_of B.config B.node B.actor B.seen A.seat A.view players.old.items)
         (players_of B.config B.node B.actor B.seen A.seat A.view players.new.items) }
     ensures liars { All (λ seat. B.knows book.new seat) liars.new.items }
-    ensures watched { AllZip HasWatched (seats_of B.config B.node B.actor B.seen liars.old.items) (seats_of B.config B.node B.actor B.seen liars.new.items) }
+    ensures watched { AllZip HasWatched (seats_at B.config B.node B.actor B.seen liars.old.items) (seats_at B.config B.node B.actor B.seen liars.new.items) }
     ensures settled { IfOk result (IsSettled script.now (players_of B.config B.node B.actor B.seen A.seat A.view players.new.items)
-        (seats_of B.config B.node B.actor B.seen liars.new.items)) }
+        (seats_at B.config B.node B.actor B.seen liars.new.items)) }
 {
     for _ in rt.forever() {
         if let Some(count) = settle_by_one(rt, alloc, script, book, players, liars, gate)? {
@@ -79,9 +79,9 @@ fn settle_by_one<B: NamedBook, A: Actor<B>, R: Wait, G: Gate>(
     ensures went { AllZip HasGoneOn (players_of B.config B.node B.actor B.seen A.seat A.view players.old.items)
         (players_of B.config B.node B.actor B.seen A.seat A.view players.new.items) }
     ensures liars { All (λ seat. B.knows book.new seat) liars.new.items }
-    ensures watched { AllZip HasWatched (seats_of B.config B.node B.actor B.seen liars.old.items) (seats_of B.config B.node B.actor B.seen liars.new.items) }
+    ensures watched { AllZip HasWatched (seats_at B.config B.node B.actor B.seen liars.old.items) (seats_at B.config B.node B.actor B.seen liars.new.items) }
     ensures settled { IfOk result (λ done. IfSome done (IsSettled script.now (players_of B.config B.node B.actor B.seen A.seat A.view players.new.items)
-        (seats_of B.config B.node B.actor B.seen liars.new.items))) }
+        (seats_at B.config B.node B.actor B.seen liars.new.items))) }
 {
     let Some(reader) = reader_of(players.as_slice()) else {
         return Ok(Some(highest(book, liars, MOST_POSTS)));
@@ -148,11 +148,11 @@ fn round<B: NamedBook, A: Actor<B>, G: Gate>(
     ensures went { AllZip HasGoneOn (players_of B.config B.node B.actor B.seen A.seat A.view players.old.items)
         (players_of B.config B.node B.actor B.seen A.seat A.view players.new.items) }
     ensures liars { All (λ seat. B.knows book.new seat) liars.new.items }
-    ensures watched { AllZip HasWatched (seats_of B.config B.node B.actor B.seen liars.old.items) (seats_of B.config B.node B.actor B.seen liars.new.items) }
+    ensures watched { AllZip HasWatched (seats_at B.config B.node B.actor B.seen liars.old.items) (seats_at B.config B.node B.actor B.seen liars.new.items) }
     ensures front { IfOk result (λ _. HasReadFront posts.new.items reader (players_of B.config B.node B.actor B.seen A.seat A.view players.new.items)) }
     ensures few { IfOk result (λ _. length posts.new.items ≤ most_posts) }
     ensures settled { IfOk result (λ done. IfSome done (IsSettled script.now (players_of B.config B.node B.actor B.seen A.seat A.view players.new.items)
-        (seats_of B.config B.node B.actor B.seen liars.new.items))) }
+        (seats_at B.config B.node B.actor B.seen liars.new.items))) }
 {
     read_by(script, book, players, reader, posts)?;
     let busy = catch_up_each(alloc, script, book, players, posts.as_slice(), gate);

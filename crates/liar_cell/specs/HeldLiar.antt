@@ -2,11 +2,10 @@
 use Rattle.std.specs.Prelude.{◌≡◌, ℕ, ◌<◌, ◌≤◌, true, List, [], count_by}
 use Rattle.atomic_table.specs.Seated.{TableId}
 use Rattle.hb_base.specs.Limits.{most_lies}
-use Rattle.hb_base.specs.Numbers.{Numbers}
 use Rattle.hb_base.specs.NodeSet.{is_in}
-use Rattle.hb_wire.specs.declared.post.Post.{Post}
 use Rattle.net_script.specs.declared.script.Script.{Script}
 use Rattle.hb_rules.specs.Book.{SeatView}
+pub use Rattle.step_driver.specs.Places.{seat_at}
 use Rattle.step_driver.specs.Delivering.{is_from}
 use Rattle.actor_cell.specs.Boxes.{place_of}
 use Rattle.actor_cell.specs.Mail.{MailView}
@@ -21,10 +20,6 @@ pub record LiarView (B : Type 0) : Type 0 where
   pub script : Script
   pub mail : MailView
   pub back : List ℕ
-
--- what is known of a seat of any kind of book
-abbrev pub seat_at : {S : Type 0} → (S → Numbers) → (S → ℕ) → (S → ℕ) → (S → List Post) → S → SeatView
-seat_at config node actor seen seat = record { config = config seat; node = node seat; actor = actor seat; seen = seen seat }
 
 -- one that has said nothing
 abbrev pub new_liar : {B : Type 0} → SeatView → ℕ → B → Script → MailView → LiarView B

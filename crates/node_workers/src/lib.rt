@@ -1,6 +1,7 @@
 //! Worker threads that serve the actors of a run, each those of one node.
 #![tactic(auto)]
 
+mod crew;
 mod node;
 mod pool;
 #[cfg(test)]

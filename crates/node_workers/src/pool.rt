@@ -3,18 +3,19 @@
 ghost use Rattle.std.specs.Prelude.{◌≡◌, false};
 ghost use Rattle.std.specs.Thread.{IsSync};
 
+use crate::crew::Crew;
 use crate::worker::work;
 use std::sync::Wait;
-use std::sync::atomic::{AtomicU64, Ordering};
 use std::thread;
 use std::thread::Threads;
 
 /// Starts so many workers for each of so many nodes, by node and then worker, and waits until all have returned. A worker calls
-/// `round` with its node and its own number again and again, and each call answers whether it found anything to do. The workers
-/// share a count, which is raised before each is started. A worker lowers it after a round that found nothing, raises it again
-/// after a later one that found something, and returns once it finds the count 0. The count begins at 1, which is the caller's own:
-/// it lowers the count by that once all are started, so that none returns before. A worker that can't be started is run by the
-/// caller, which gives up its own count before the first of these, and the workers after that one are started once it has returned.
+/// `round` with its node and its own number again and again, and each call answers whether it found anything to do. A worker that
+/// found nothing sleeps, and looks again once another has found something. All return once each has found nothing in a round that
+/// began after anybody last found something: where a round finds all that there is for its node, nothing is left then.
+///
+/// The caller counts as a worker that looks until all are started, so that none returns before. A worker that can't be started is run by the
+/// caller, which counts no more from the first of these on, and the workers after that one are started once it has returned.
 pub fn serve_all<F: Fn(usize, usize) -> bool + Sync, R: Threads + Wait + Sync>(
     rt: &R,
     nodes: usize,
@@ -23,38 +24,38 @@ pub fn serve_all<F: Fn(usize, usize) -> bool + Sync, R: Threads + Wait + Sync>(
 )
     requires { F.IsAlwaysCallable round.now }
 {
-    let count = AtomicU64::new(1);
-    let busy = &count;
+    let made = Crew::new();
+    let crew = &made;
     thread::scope(
         thread::scope_env(),
         rt,
         |scope|
             requires { IsSync R.row × IsSync F.row × F.IsAlwaysCallable round.now }
         {
-            let mut holds = true;
+            let mut counts = true;
             for node in 0..nodes {
                 for worker in 0..workers {
-                    busy.fetch_add(1, Ordering::SeqCst);
+                    crew.enter(rt);
                     if scope
-                        .spawn(move || work(rt, round, node, worker, busy))
+                        .spawn(move || work(rt, round, node, worker, crew))
                         .is_err()
                     {
-                        holds = give_up(busy, holds);
-                        work(rt, round, node, worker, busy);
+                        counts = give_up(rt, crew, counts);
+                        work(rt, round, node, worker, crew);
                     }
                 }
             }
-            give_up(busy, holds);
+            give_up(rt, crew, counts);
         },
     );
 }
 
-// Lowers the count by the caller's own, if the caller still holds it. Whether it holds it after that.
-fn give_up(busy: &AtomicU64, holds: bool) -> bool
+// Lets the caller go, if it still counts. Whether it counts after that.
+fn give_up<R: Wait>(rt: &R, crew: &Crew, counts: bool) -> bool
     ensures { result ≡ false }
 {
-    if holds {
-        busy.fetch_sub(1, Ordering::SeqCst);
+    if counts {
+        crew.leave(rt);
     }
     false
 }

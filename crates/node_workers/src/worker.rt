@@ -1,36 +1,27 @@
 //! One worker.
 
+use crate::crew::Crew;
 use std::sync::Wait;
-use std::sync::atomic::{AtomicU64, Ordering};
-use std::thread;
 
-// Goes round until nobody has anything to do. At first this worker counts as one that has. After a round that found nothing it
-// lets another thread run.
+// Goes round until nobody of the crew, to which it belongs, has anything to do.
 pub(crate) fn work<F: Fn(usize, usize) -> bool, R: Wait>(
     rt: &R,
     round: &F,
     node: usize,
     worker: usize,
-    busy: &AtomicU64,
+    crew: &Crew,
 )
     requires { F.IsAlwaysCallable round.now }
 {
-    let mut counts = true;
     for _ in rt.forever() {
+        let began = crew.finds(rt);
         if round(node, worker) {
-            if !counts {
-                busy.fetch_add(1, Ordering::SeqCst);
-                counts = true;
-            }
+            crew.found(rt);
         } else {
-            if counts {
-                busy.fetch_sub(1, Ordering::SeqCst);
-                counts = false;
-            }
-            if busy.load(Ordering::SeqCst) == 0 {
+            crew.found_nothing(rt, began);
+            if crew.rest(rt, began) {
                 return;
             }
-            thread::yield_now();
         }
     }
 }

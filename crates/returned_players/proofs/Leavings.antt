@@ -13,12 +13,12 @@ use Rattle.hb_rules.specs.declared.report.End.{End}
 use Rattle.hb_rules.specs.Actor.{ActorView}
 use Rattle.hb_rules.specs.Book.{SeatView}
 use Rattle.step_driver.specs.declared.player.Player.{Player}
-use Rattle.step_driver.specs.Places.{PlayerView}
+use Rattle.step_driver.specs.Places.{PlayerView, seat_at}
 use Rattle.step_driver.specs.Delivering.{is_from}
 use Rattle.step_driver.specs.Running.{end_view, end_at, IsKept}
 use Rattle.step_driver.proofs.Tellings.{count_watched}
 use Rattle.ledger_run.specs.Team.{names_below}
-use Rattle.last_deliveries.specs.Settling.{seat_of, players_of, IsOfRun, HasGoneOn, HasWatched, IsSettled}
+use Rattle.last_deliveries.specs.Settling.{players_of, IsOfRun, HasGoneOn, HasWatched, IsSettled}
 use Rattle.run_closing.specs.Returning.{IsBack, IsLiarBack, IsNotAfter, HaveReturned}
 use Rattle.returned_players.specs.Leaving.{IsLeft}
 use Rattle.returned_players.proofs.Backs.{IsBack-of_run, order_gone_on, back_gone_on}
@@ -61,24 +61,24 @@ HaveReturned-settled s m old new liars watched back order lies count went of_run
 -- ---- what they leave, actors A over a book whose seats are S
 
 module _ {A S : Type 0} (config : S → Numbers) (node actor : S → ℕ) (seen : S → List Post) (seat : A → S) (view : A → ActorView) where
-  seats_seen : (players : List (Player A)) → map (seat_of config node actor seen) (map (λ (p : Player A). seat p.actor) players)
+  seats_seen : (players : List (Player A)) → map (seat_at config node actor seen) (map (λ (p : Player A). seat p.actor) players)
       ≡ map (λ (p : PlayerView). p.seat) (players_of config node actor seen seat view players)
   seats_seen [] = refl
-  seats_seen (p ∷ players) = ap (λ (seats : List SeatView). seat_of config node actor seen (seat p.actor) ∷ seats) (seats_seen players)
+  seats_seen (p ∷ players) = ap (λ (seats : List SeatView). seat_at config node actor seen (seat p.actor) ∷ seats) (seats_seen players)
 
   pub IsLeft-made : (s : Script) (m : ℕ) (players read : List (Player A)) (liars all : List S) (ends : List End) → read ≡ players
-      → HaveReturned s m (players_of config node actor seen seat view players) (map (seat_of config node actor seen) liars)
+      → HaveReturned s m (players_of config node actor seen seat view players) (map (seat_at config node actor seen) liars)
       → all ≡ map (λ (p : Player A). seat p.actor) players ++ liars → map end_view ends ≡ map end_at (players_of config node actor seen seat view read)
-      → All IsKept (players_of config node actor seen seat view read) → IsLeft s (map (seat_of config node actor seen) all) ends
+      → All IsKept (players_of config node actor seen seat view read) → IsLeft s (map (seat_at config node actor seen) all) ends
   IsLeft-made s m players read liars all ends same back made told kept = record {
     posts = m;
     players = players_of config node actor seen seat view players;
-    liars = map (seat_of config node actor seen) liars;
+    liars = map (seat_at config node actor seen) liars;
     back = back;
     all_seats =
-        ap (λ (seats : List S). map (seat_of config node actor seen) seats) made
-        ∙ map-append (seat_of config node actor seen) (map (λ (p : Player A). seat p.actor) players) liars
-        ∙ ap (λ (seats : List SeatView). seats ++ map (seat_of config node actor seen) liars) (seats_seen players);
+        ap (λ (seats : List S). map (seat_at config node actor seen) seats) made
+        ∙ map-append (seat_at config node actor seen) (map (λ (p : Player A). seat p.actor) players) liars
+        ∙ ap (λ (seats : List SeatView). seats ++ map (seat_at config node actor seen) liars) (seats_seen players);
     all_ends =
         record {
           same = told ∙ ap (λ (ps : List (Player A)). map end_at (players_of config node actor seen seat view ps)) same;

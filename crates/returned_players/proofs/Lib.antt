@@ -3,3 +3,4 @@ pub mod Fronts
 pub mod Noted
 pub mod Backs
 pub mod Leavings
+pub mod Marked

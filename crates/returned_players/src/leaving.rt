@@ -2,10 +2,11 @@
 ghost use Rattle.std.specs.Prelude.{◌≡◌, ℕ, ◌+◌, length, All, IfOk, OnOk};
 ghost use Rattle.std.specs.List.Sorted.{IsNonDecreasingBy};
 ghost use Rattle.ledger_run.specs.Team.{names_below};
-ghost use Rattle.last_deliveries.specs.Settling.{player_of, players_of, seats_of};
+ghost use Rattle.last_deliveries.specs.Settling.{player_of, players_of, seats_at};
 ghost use Rattle.run_closing.specs.Returning.{IsBack, IsLiarBack, HaveReturned};
 ghost use Rattle.returned_players.specs.Ordering.{place_number};
 ghost use Rattle.returned_players.specs.Leaving.{IsLeft};
+ghost use Rattle.returned_players.specs.Marking.{EndsIfMarked};
 
 use crate::ends::ends_of;
 use crate::marking::end_noted;
@@ -51,10 +52,11 @@ where
     requires back { All (λ player. IsBack script.now (player_of B.config B.node B.actor B.seen A.seat A.view player)) players.items }
     requires in_order { IsNonDecreasingBy (place_number B.node B.actor A.seat) players.items }
     requires of_book { All (λ seat. B.knows book seat) liars.items }
-    requires liars { All (IsLiarBack script.now) (seats_of B.config B.node B.actor B.seen liars.items) }
+    requires liars { All (IsLiarBack script.now) (seats_at B.config B.node B.actor B.seen liars.items) }
     requires all { length players.items + length liars.items ≡ length (names_below script.now.config script.now.config.n) }
-    ensures left { IfOk result (λ left. IsLeft script.now (seats_of B.config B.node B.actor B.seen left.seats.items) left.ends.items) }
+    ensures left { IfOk result (λ left. IsLeft script.now (seats_at B.config B.node B.actor B.seen left.seats.items) left.ends.items) }
     ensures of_book { IfOk result (λ left. All (B.knows book) left.seats.items) }
+    ensures noted { IfOk result (λ left. All (λ e. EndsIfMarked noted.now e.node e.actor e.fate) left.ends.items) }
 {
     let mut book = book;
     let mut players = players;
@@ -89,13 +91,14 @@ fn end_and_settle<B: NamedBook, A: Actor<B>, R: Wait, G: Gate>(
     requires back { All (λ player. IsBack script.now (player_of B.config B.node B.actor B.seen A.seat A.view player)) players.old.items }
     requires in_order { IsNonDecreasingBy (place_number B.node B.actor A.seat) players.old.items }
     requires of_book { All (λ seat. B.knows book.old seat) liars.old.items }
-    requires liars { All (IsLiarBack script.now) (seats_of B.config B.node B.actor B.seen liars.old.items) }
+    requires liars { All (IsLiarBack script.now) (seats_at B.config B.node B.actor B.seen liars.old.items) }
     requires all { length players.old.items + length liars.old.items ≡ length (names_below script.now.config script.now.config.n) }
     ensures book { B.name book.new ≡ B.name book.old }
     ensures seats { All (λ player. B.knows book.new (A.seat player.actor)) players.new.items }
     ensures of_book { All (λ seat. B.knows book.new seat) liars.new.items }
     ensures returned { OnOk result ((m : ℕ) × HaveReturned script.now m (players_of B.config B.node B.actor B.seen A.seat A.view players.new.items)
-        (seats_of B.config B.node B.actor B.seen liars.new.items)) }
+        (seats_at B.config B.node B.actor B.seen liars.new.items)) }
+    ensures noted { OnOk result (All (λ p. EndsIfMarked noted.now p.seat.node p.seat.actor p.fate) (players_of B.config B.node B.actor B.seen A.seat A.view players.new.items)) }
 {
     end_noted::<B, A>(players, noted);
     settle(rt, alloc, script, book, players, liars, gate)?;

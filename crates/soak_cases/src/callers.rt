@@ -10,11 +10,14 @@ use hb_base::{OpenGate, Sink, Source};
 use hb_rules::Report;
 use liar_cast::Liar;
 use std::alloc::{AllocError, Global};
+use std::sync::Wait;
+use std::thread::Threads;
 
 /// Runs the scenario of a number, with this cast, and prints whether its ledgers agree: the status. After 0, 4 and 5 it is that of the
 /// report. It is not 4, where the book has not got full and no two hashed strings share a digest: no rule of a generated scenario
 /// drops what a correct node posts, and no fault of a disk is planned in it.
-pub fn soak<S: Source, O: Sink, E: Sink>(
+pub fn soak<R: Threads + Wait + Sync, S: Source, O: Sink, E: Sink>(
+    rt: &R,
     alloc: Global,
     number: u64,
     cast: Vec<Box<dyn Liar>>,
@@ -30,6 +33,6 @@ pub fn soak<S: Source, O: Sink, E: Sink>(
     words.push(format!(in alloc; "{number}")?)?;
     let (source, out, err) = streams;
     let words = words.as_slice();
-    let status = hb_main(alloc, words, source, out, err, cast, &OpenGate, report);
+    let status = hb_main(rt, alloc, words, source, out, err, cast, &OpenGate, report);
     Ok(status)
 }

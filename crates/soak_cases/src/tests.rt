@@ -1,4 +1,4 @@
-//! Generated runs, with stops, lossy links and liars.
+//! Generated runs, with stops, lossy links, liars and workers.
 
 use crate::soak;
 use hb_base::{Bytes, MemorySink, MemorySource};
@@ -6,7 +6,9 @@ use hb_rules::Report;
 use liar_cast::{Liar, cast};
 use quiet_check::is_quiet;
 use std::alloc::{AllocError, Global};
+use std::sync::Wait;
 use std::test::Fail;
+use std::thread::Threads;
 
 // The cast of the program.
 fn liars(alloc: Global) -> Result<Vec<Box<dyn Liar>>, AllocError> {
@@ -18,12 +20,17 @@ fn liars(alloc: Global) -> Result<Vec<Box<dyn Liar>>, AllocError> {
 }
 
 // Runs the scenario of a number: the status, and what was printed.
-fn run(alloc: Global, number: u64, report: &mut Report) -> Result<(u8, MemorySink), AllocError> {
+fn run<R: Threads + Wait + Sync>(
+    rt: &R,
+    alloc: Global,
+    number: u64,
+    report: &mut Report,
+) -> Result<(u8, MemorySink), AllocError> {
     let mut source = MemorySource::new(Bytes::copy(alloc, &[])?, 1, Vec::new(alloc));
     let mut out = MemorySink::new(alloc, Vec::new(alloc));
     let mut err = MemorySink::new(alloc, Vec::new(alloc));
     let streams = (&mut source, &mut out, &mut err);
-    let status = soak(alloc, number, liars(alloc)?, streams, report)?;
+    let status = soak(rt, alloc, number, liars(alloc)?, streams, report)?;
     Ok((status, out))
 }
 
@@ -31,9 +38,9 @@ fn run(alloc: Global, number: u64, report: &mut Report) -> Result<(u8, MemorySin
 #[test]
 fn generated_runs(rt: HostRuntime) -> Result<(), Fail> {
     let alloc = rt.alloc();
-    for number in 0..16u64 {
+    for number in 0..21u64 {
         let mut report = Report::empty(alloc);
-        let (status, out) = run(alloc, number, &mut report)?;
+        let (status, out) = run(&rt, alloc, number, &mut report)?;
         assert!(rt; status == 0 || status == 5, "{number}");
         assert_eq!(rt; report.status, status, "{number}");
         let text = format!(in alloc;

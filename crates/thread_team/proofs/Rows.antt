@@ -1,5 +1,5 @@
 -- Lists that are gone through from the front.
-use Rattle.std.proofs.Common.{◌≡◌, ℕ, List, [], ◌∷◌, ◌++◌, length, take, drop, get_or, All, sym, ap, ◌∙◌, subst, arith, append_assoc, length-append}
+use Rattle.std.proofs.Common.{◌≡◌, ℕ, Bool, true, false, ◌||◌, List, [], ◌∷◌, ◌++◌, length, take, drop, get_or, All, sym, ap, ◌∙◌, subst, arith, append_assoc, length-append}
 use Rattle.std.specs.Prelude.{insert}
 use Rattle.std.proofs.Math.Seq.{get_or-append_seam}
 use Rattle.std.proofs.lemmas.List.{append-nil, nil_from_length}
@@ -22,3 +22,10 @@ all_gone gone rest all none split = sym (append-nil gone) ∙ ap (λ xs. gone ++
 
 pub All-insert : {A : Type 0} (P : A → Type 0) (xs : List A) (k : ℕ) (x : A) → All P xs → P x → All P (insert xs k x)
 All-insert P xs k x each here = All-append P (take k xs) (x ∷ drop k xs) (All-take P k xs each) (All-cons P x (drop k xs) here (All-drop P k xs each))
+
+-- ---- sets of actors
+
+-- with those of another set, an actor of the old set is in the new one
+pub stays_marked : (more old new : Bool) → new ≡ (more || old) → old ≡ true → new ≡ true
+stays_marked true old new is was = is
+stays_marked false old new is was = is ∙ was

@@ -3,11 +3,11 @@ ghost use Rattle.std.specs.Prelude.{◌≡◌, ◌+◌, ◌<◌, ◌||◌, ℕ, 
 ghost use Rattle.actor_cell.specs.Marks.{is_marked};
 ghost use Rattle.step_driver.specs.Places.{player_at};
 ghost use Rattle.node_workers.specs.Rounds.{locks_of};
-ghost use Rattle.thread_team.specs.Returning.{IsOut, IsLiarOut, AreOut};
+ghost use Rattle.thread_team.specs.Returning.{IsOut, IsLiarOut, AreOut, AreNotedToo, StayNoted};
 
-use actor_cell::{Cell, Marks, RunName};
+use actor_cell::{Cell, Held, Marks, RunName};
 use hb_rules::{Actor, Book};
-use liar_cell::LiarCell;
+use liar_cell::{HeldLiar, LiarCell};
 use net_script::Script;
 use node_workers::Node;
 use post_book::NamedBook;
@@ -62,6 +62,7 @@ fn take_node<'b, B: NamedBook + Drop, A: Actor<B>, L: Mouth, J: RunName>(
     ensures out { OnOk result (AreOut (B.knows book.now) B.config B.node B.actor B.seen A.seat A.view script.now all.new) }
     ensures count { OnOk result (length all.new.players.items + length all.new.liars.items
         ≡ length all.old.players.items + length all.old.liars.items + locks_of node.entry) }
+    ensures noted { OnOk result (StayNoted all.old.noted all.new.noted) }
 {
     match node {
         Node::Correct(cells) => {
@@ -69,7 +70,7 @@ fn take_node<'b, B: NamedBook + Drop, A: Actor<B>, L: Mouth, J: RunName>(
             Ok(())
         }
         Node::Lying(liar) => {
-            take_liar(script, book, liar, all)?;
+            take_liar(script, book, liar.into_liar(), all)?;
             Ok(())
         }
     }
@@ -88,18 +89,19 @@ fn take_actors<'b, B: NamedBook + Drop, A: Actor<B>, J: RunName>(
     ensures out { OnOk result (AreOut (B.knows book.now) B.config B.node B.actor B.seen A.seat A.view script.now all.new) }
     ensures count { OnOk result (length all.new.players.items ≡ length all.old.players.items + length cells.entry.items) }
     ensures liars { OnOk result (all.new.liars.items ≡ all.old.liars.items) }
+    ensures noted { OnOk result (StayNoted all.old.noted all.new.noted) }
 {
     for cell in cells {
-        take_actor(script, book, cell, all)?;
+        take_actor(script, book, cell.into_held(), all)?;
     }
     Ok(())
 }
 
-// Takes out one actor.
+// Takes in one actor that came out of its lock, and notes the actors whose mailbox refused a number of it.
 fn take_actor<'b, B: NamedBook + Drop, A: Actor<B>, J: RunName>(
     script: &Script,
     book: &B,
-    cell: Cell<'b, B, A, J>,
+    held: Held<'b, B, A, J>,
     all: &mut Returned<A, B::Seat>,
 ) -> Result<(), AllocError>
     requires name { B.name book.now ≡ J.book }
@@ -108,34 +110,36 @@ fn take_actor<'b, B: NamedBook + Drop, A: Actor<B>, J: RunName>(
     ensures out { OnOk result (AreOut (B.knows book.now) B.config B.node B.actor B.seen A.seat A.view script.now all.new) }
     ensures count { OnOk result (length all.new.players.items ≡ length all.old.players.items + 1) }
     ensures liars { OnOk result (all.new.liars.items ≡ all.old.liars.items) }
+    ensures noted { OnOk result (AreNotedToo held.entry.mail.noted all.old.noted all.new.noted) }
 {
-    let (player, noted) = out_of(script, book, cell);
+    let (player, noted) = out_of(script, book, held);
     all.noted.add_all(&noted);
     insert_in_order::<B, A>(&mut all.players, player)?;
     Ok(())
 }
 
-// The actor of a cell, its fate, and the actors whose mailbox refused a number of it.
+// The actor that a lock held, its fate, and the actors whose mailbox refused a number of it.
 fn out_of<'b, B: NamedBook + Drop, A: Actor<B>, J: RunName>(
     script: &Script,
     book: &B,
-    cell: Cell<'b, B, A, J>,
+    held: Held<'b, B, A, J>,
 ) -> (Player<A>, Marks)
     requires name { B.name book.now ≡ J.book }
     requires script { J.is_script script.now }
-    ensures { IsOut (B.knows book.now) B.config B.node B.actor B.seen A.seat A.view script.now result.0 }
+    ensures parts { (result.0.actor ≡ held.entry.actor) × (result.0.fate ≡ held.entry.fate) × (result.1 ≡ held.entry.mail.noted) }
+    ensures out { IsOut (B.knows book.now) B.config B.node B.actor B.seen A.seat A.view script.now result.0 }
 {
-    let (actor, fate, noted) = cell.into_held().into_parts();
+    let (actor, fate, noted) = held.into_parts();
     let _ = script;
     let _ = book;
     (Player { actor, fate }, noted)
 }
 
-// Takes out a node that lies.
+// Takes in a node that lies, which came out of its lock, and notes the actors whose mailbox refused a number of it.
 fn take_liar<'b, B: NamedBook + Drop, A: Actor<B>, L: Mouth, J: RunName>(
     script: &Script,
     book: &B,
-    liar: LiarCell<'b, B, L, J>,
+    liar: HeldLiar<'b, B, L, J>,
     all: &mut Returned<A, B::Seat>,
 ) -> Result<(), AllocError>
     requires name { B.name book.now ≡ J.book }
@@ -144,9 +148,10 @@ fn take_liar<'b, B: NamedBook + Drop, A: Actor<B>, L: Mouth, J: RunName>(
     ensures out { OnOk result (AreOut (B.knows book.now) B.config B.node B.actor B.seen A.seat A.view script.now all.new) }
     ensures count { OnOk result (length all.new.liars.items ≡ length all.old.liars.items + 1) }
     ensures players { OnOk result (all.new.players.items ≡ all.old.players.items) }
+    ensures noted { OnOk result (AreNotedToo liar.entry.mail.noted all.old.noted all.new.noted) }
 {
-    let (seat, noted) = seat_of(script, book, liar);
-    all.noted.add_all(&noted);
+    let (seat, refused) = seat_of(script, book, liar);
+    all.noted.add_all(&refused);
     all.liars.push(seat)?;
     Ok(())
 }
@@ -155,13 +160,14 @@ fn take_liar<'b, B: NamedBook + Drop, A: Actor<B>, L: Mouth, J: RunName>(
 fn seat_of<'b, B: NamedBook + Drop, L: Mouth, J: RunName>(
     script: &Script,
     book: &B,
-    liar: LiarCell<'b, B, L, J>,
+    liar: HeldLiar<'b, B, L, J>,
 ) -> (B::Seat, Marks)
     requires name { B.name book.now ≡ J.book }
     requires script { J.is_script script.now }
-    ensures { IsLiarOut (B.knows book.now) B.config B.node B.actor B.seen script.now result.0 }
+    ensures noted { result.1 ≡ liar.entry.mail.noted }
+    ensures out { IsLiarOut (B.knows book.now) B.config B.node B.actor B.seen script.now result.0 }
 {
     let _ = script;
     let _ = book;
-    liar.into_liar().into_parts()
+    liar.into_parts()
 }

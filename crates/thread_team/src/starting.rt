@@ -1,11 +1,12 @@
 //! All that is at the nodes of a run is started, and put behind locks.
-ghost use Rattle.std.specs.Prelude.{◌≡◌, ◌<◌, ◌≤◌, true, false, All, length, sum_by, IfOk};
+ghost use Rattle.std.specs.Prelude.{◌≡◌, ◌<◌, ◌≤◌, true, false, All, length, map, sum_by, IfOk};
 ghost use Rattle.std.specs.Arc.{arc_value};
 ghost use Rattle.hb_base.specs.NodeSet.{is_in};
 ghost use Rattle.net_script.specs.Scenario.{told};
 ghost use Rattle.net_script.specs.Sound.{IsScenario};
 ghost use Rattle.step_driver.specs.Delivering.{IsPlayer};
 ghost use Rattle.ledger_run.specs.Actors.{seat_at, new_seat, running_at};
+ghost use Rattle.ledger_run.specs.Voices.{hears_at, without_voice};
 ghost use Rattle.run_openings.specs.Opening.{IsActorOpening, IsLiarOpening, IsNodeOpening, places_of};
 ghost use Rattle.node_workers.specs.Rounds.{locks_of};
 
@@ -158,7 +159,7 @@ fn actor_of<B: NamedBook>(
     }
 }
 
-// Starts a node that lies. Its voice is that of the script's liar at this node.
+// Starts a node that lies, and puts it behind a lock.
 fn begin_liar<'b, B: NamedBook + Drop, J: RunName, R: Wait>(
     rt: &R,
     alloc: Global,
@@ -173,6 +174,26 @@ fn begin_liar<'b, B: NamedBook + Drop, J: RunName, R: Wait>(
     requires boxes { boxes.now.config ≡ script.now.config }
     requires opening { IsLiarOpening (B.knows book) (seat_at B.config B.node B.actor B.seen) boxes.now script.now.config opening }
 {
+    LiarCell::new(liar_of(rt, alloc, script, voices, book, boxes, opening))
+}
+
+// A node that lies, which was started. It is to hear as many posts as the script's liar at this node, whose voice it has.
+fn liar_of<'b, B: NamedBook + Drop, J: RunName, R: Wait>(
+    rt: &R,
+    alloc: Global,
+    script: &'b Script,
+    voices: &mut Vec<Voice>,
+    book: B,
+    boxes: &'b Boxes,
+    opening: Opening<B::Seat>,
+) -> HeldLiar<'b, B, Voice, J>
+    requires name { B.name book ≡ J.book }
+    requires script { J.is_script script.now }
+    requires boxes { boxes.now.config ≡ script.now.config }
+    requires opening { IsLiarOpening (B.knows book) (seat_at B.config B.node B.actor B.seen) boxes.now script.now.config opening }
+    ensures hears { result.hears ≡ hears_at opening.node script.now.liars.items }
+    ensures voices { map (λ voice. voice.liar) voices.new.items ≡ without_voice opening.node script.now.liars.items (map (λ voice. voice.liar) voices.old.items) }
+{
     let Opening {
         node,
         actor: _,
@@ -181,5 +202,5 @@ fn begin_liar<'b, B: NamedBook + Drop, J: RunName, R: Wait>(
     } = opening;
     let (hears, voice) = voice_at(script, voices, node);
     let mail = Mail::new(boxes, passes);
-    LiarCell::new(HeldLiar::begin(rt, alloc, node, seat, hears, voice, script, book, mail))
+    HeldLiar::begin(rt, alloc, node, seat, hears, voice, script, book, mail)
 }

@@ -1,7 +1,7 @@
 use Rattle.std.proofs.Common.{◌≡◌, ◌≤◌, length}
 use Rattle.std.specs.List.{All, AllWithin, AllZip}
 use Rattle.hb_rules.specs.Book.{SeatView}
-use Rattle.last_deliveries.specs.Settling.{seats_of, HasWatched}
+use Rattle.last_deliveries.specs.Settling.{seats_at, HasWatched}
 use Rattle.last_deliveries.proofs.levels.highest.Given as goal
 
 -- the seats so far have looked
@@ -12,7 +12,7 @@ invariant-loop-number g l =
     record {
       book : n.name l.book ≡ n.name l.fn.book;
       seats : All (λ seat. b.knows l.book seat) l.seats.items;
-      watched : AllZip HasWatched (seats_of b.config b.node b.actor b.seen l.fn.seats.items) (seats_of b.config b.node b.actor b.seen l.seats.items);
+      watched : AllZip HasWatched (seats_at b.config b.node b.actor b.seen l.fn.seats.items) (seats_at b.config b.node b.actor b.seen l.seats.items);
       least : l.least ≤ l.most;
-      most : AllWithin (λ (seat : SeatView). length seat.seen ≤ l.most) (seats_of b.config b.node b.actor b.seen l.seats.items) 0 l.number;
+      most : AllWithin (λ (seat : SeatView). length seat.seen ≤ l.most) (seats_at b.config b.node b.actor b.seen l.seats.items) 0 l.number;
     }

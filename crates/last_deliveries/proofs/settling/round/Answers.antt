@@ -2,7 +2,7 @@ use Rattle.std.proofs.Common.{List, subst, arith}
 use Rattle.std.specs.Prelude.{All}
 use Rattle.hb_wire.specs.declared.post.Post.{Post}
 use Rattle.last_deliveries.specs.Catching.{IsCaughtUp}
-use Rattle.last_deliveries.specs.Settling.{players_of, seats_of, HasGoneOn, HasWatched}
+use Rattle.last_deliveries.specs.Settling.{players_of, seats_at, HasGoneOn, HasWatched}
 use Rattle.last_deliveries.proofs.Players.{HasGoneOn-then, HasWatched-refl}
 use Rattle.last_deliveries.proofs.Settles.{IsSettled-up, HasReadFront-on}
 use Rattle.last_deliveries.proofs.Zips.{AllZip-refl, AllZip-then}
@@ -11,7 +11,7 @@ use Rattle.last_deliveries.proofs.settling.round.Goals as goal
 pub returns-in_err-read_by-clause-watched : goal.returns-in_err-read_by-clause-watched
 returns-in_err-read_by-clause-watched g c =
     let b = g.B.Book in
-    AllZip-refl HasWatched HasWatched-refl (seats_of b.config b.node b.actor b.seen c.args.liars.now.items)
+    AllZip-refl HasWatched HasWatched-refl (seats_at b.config b.node b.actor b.seen c.args.liars.now.items)
 
 pub returns-then-busy-clause-went : goal.returns-then-busy-clause-went
 returns-then-busy-clause-went g c =
@@ -35,7 +35,7 @@ returns-clause-settled g c =
     let new = players_of b.config b.node b.actor b.seen a.seat a.view c.catch_up_each-busy.new.players.items in
     let up : All (IsCaughtUp s posts) new =
     subst (λ (ps : List Post). All (IsCaughtUp s ps) new) c.as_slice.ensures.value (c.catch_up_each-busy.ensures.up c.if-busy.false) in
-    IsSettled-up s posts c.args.reader c.len-count.result old new (seats_of b.config b.node b.actor b.seen c.highest-most.new.seats.items) c.in_ok-read_by.ensures.read c.catch_up_each-busy.ensures.went up
+    IsSettled-up s posts c.args.reader c.len-count.result old new (seats_at b.config b.node b.actor b.seen c.highest-most.new.seats.items) c.in_ok-read_by.ensures.read c.catch_up_each-busy.ensures.went up
     (omega (arith, c.len-count.ensures)) (λ k d within. omega (arith, c.highest-most.ensures.most k d within, c.if-most-count.false))
 
 pub returns-then-busy-clause-front : goal.returns-then-busy-clause-front

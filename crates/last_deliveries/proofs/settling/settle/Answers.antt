@@ -1,5 +1,5 @@
 use Rattle.std.proofs.Common.{refl, ◌∙◌}
-use Rattle.last_deliveries.specs.Settling.{players_of, seats_of, HasGoneOn, HasWatched}
+use Rattle.last_deliveries.specs.Settling.{players_of, seats_at, HasGoneOn, HasWatched}
 use Rattle.last_deliveries.proofs.Players.{HasGoneOn-refl, HasGoneOn-then, HasWatched-refl, HasWatched-then}
 use Rattle.last_deliveries.proofs.Zips.{AllZip-refl, AllZip-then}
 use Rattle.last_deliveries.proofs.settling.settle.Goals as goal
@@ -14,7 +14,7 @@ loop-init g c =
       players = c.requires.players;
       went = AllZip-refl HasGoneOn HasGoneOn-refl (players_of b.config b.node b.actor b.seen a.seat a.view c.args.players.now.items);
       liars = c.requires.liars;
-      watched = AllZip-refl HasWatched HasWatched-refl (seats_of b.config b.node b.actor b.seen c.args.liars.now.items);
+      watched = AllZip-refl HasWatched HasWatched-refl (seats_at b.config b.node b.actor b.seen c.args.liars.now.items);
     }
 
 pub loop-preserved : goal.loop-preserved
@@ -31,8 +31,8 @@ loop-preserved g c =
           (players_of b.config b.node b.actor b.seen a.seat a.view c.settle_by_one.new.players.items) was.went c.settle_by_one.ensures.went;
       liars = c.settle_by_one.ensures.liars;
       watched =
-          AllZip-then HasWatched HasWatched-then (seats_of b.config b.node b.actor b.seen c.args.liars.now.items) (seats_of b.config b.node b.actor b.seen c.loop.liars.items)
-          (seats_of b.config b.node b.actor b.seen c.settle_by_one.new.liars.items) was.watched c.settle_by_one.ensures.watched;
+          AllZip-then HasWatched HasWatched-then (seats_at b.config b.node b.actor b.seen c.args.liars.now.items) (seats_at b.config b.node b.actor b.seen c.loop.liars.items)
+          (seats_at b.config b.node b.actor b.seen c.settle_by_one.new.liars.items) was.watched c.settle_by_one.ensures.watched;
     }
 
 pub returns-in_err-count-clause-went : goal.returns-in_err-count-clause-went
@@ -44,7 +44,7 @@ returns-in_err-count-clause-went g c =
 pub returns-in_err-count-clause-watched : goal.returns-in_err-count-clause-watched
 returns-in_err-count-clause-watched g c =
     let b = g.B.Book in
-    AllZip-then HasWatched HasWatched-then (seats_of b.config b.node b.actor b.seen c.args.liars.now.items) (seats_of b.config b.node b.actor b.seen c.loop.liars.items) (seats_of b.config b.node b.actor b.seen c.settle_by_one.new.liars.items) c.loop.invariant.watched c.settle_by_one.ensures.watched
+    AllZip-then HasWatched HasWatched-then (seats_at b.config b.node b.actor b.seen c.args.liars.now.items) (seats_at b.config b.node b.actor b.seen c.loop.liars.items) (seats_at b.config b.node b.actor b.seen c.settle_by_one.new.liars.items) c.loop.invariant.watched c.settle_by_one.ensures.watched
 
 pub returns-in-Some-2-clause-went : goal.returns-in-Some-2-clause-went
 returns-in-Some-2-clause-went g c =
@@ -55,4 +55,4 @@ returns-in-Some-2-clause-went g c =
 pub returns-in-Some-2-clause-watched : goal.returns-in-Some-2-clause-watched
 returns-in-Some-2-clause-watched g c =
     let b = g.B.Book in
-    AllZip-then HasWatched HasWatched-then (seats_of b.config b.node b.actor b.seen c.args.liars.now.items) (seats_of b.config b.node b.actor b.seen c.loop.liars.items) (seats_of b.config b.node b.actor b.seen c.settle_by_one.new.liars.items) c.loop.invariant.watched c.settle_by_one.ensures.watched
+    AllZip-then HasWatched HasWatched-then (seats_at b.config b.node b.actor b.seen c.args.liars.now.items) (seats_at b.config b.node b.actor b.seen c.loop.liars.items) (seats_at b.config b.node b.actor b.seen c.settle_by_one.new.liars.items) c.loop.invariant.watched c.settle_by_one.ensures.watched

@@ -1,6 +1,6 @@
 use Rattle.std.proofs.Common.{◌≡◌}
 use Rattle.std.specs.List.{All, AllZip}
-use Rattle.last_deliveries.specs.Settling.{players_of, seats_of, IsOfRun, HasGoneOn, HasWatched}
+use Rattle.last_deliveries.specs.Settling.{players_of, seats_at, IsOfRun, HasGoneOn, HasWatched}
 use Rattle.last_deliveries.proofs.settling.settle.Given as goal
 
 -- rounds were made
@@ -15,5 +15,5 @@ invariant-loop g l =
       players : All (IsOfRun l.script) (players_of b.config b.node b.actor b.seen a.seat a.view l.players.items);
       went : AllZip HasGoneOn (players_of b.config b.node b.actor b.seen a.seat a.view l.fn.players.items) (players_of b.config b.node b.actor b.seen a.seat a.view l.players.items);
       liars : All (λ seat. b.knows l.book seat) l.liars.items;
-      watched : AllZip HasWatched (seats_of b.config b.node b.actor b.seen l.fn.liars.items) (seats_of b.config b.node b.actor b.seen l.liars.items);
+      watched : AllZip HasWatched (seats_at b.config b.node b.actor b.seen l.fn.liars.items) (seats_at b.config b.node b.actor b.seen l.liars.items);
     }

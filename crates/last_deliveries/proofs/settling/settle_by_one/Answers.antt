@@ -2,7 +2,7 @@ use Rattle.std.proofs.Common.{List, length, refl, sym, ap, ◌∙◌, subst, ari
 use Rattle.hb_wire.specs.declared.post.Post.{Post}
 use Rattle.hb_rules.specs.Ledger.{IsPrefix}
 use Rattle.last_deliveries.proofs.Readings.{IsPrefix-nil}
-use Rattle.last_deliveries.specs.Settling.{players_of, seats_of, HasGoneOn, HasWatched, player_of}
+use Rattle.last_deliveries.specs.Settling.{players_of, seats_at, HasGoneOn, HasWatched, player_of}
 use Rattle.last_deliveries.proofs.Players.{HasGoneOn-refl, HasGoneOn-then, HasWatched-refl, HasWatched-then}
 use Rattle.last_deliveries.proofs.Zips.{AllZip-refl, AllZip-then}
 use Rattle.std.specs.Prelude.{All}
@@ -23,7 +23,7 @@ loop-init g c =
       players = c.requires.players;
       went = AllZip-refl HasGoneOn HasGoneOn-refl (players_of b.config b.node b.actor b.seen a.seat a.view c.args.players.now.items);
       liars = c.requires.liars;
-      watched = AllZip-refl HasWatched HasWatched-refl (seats_of b.config b.node b.actor b.seen c.args.liars.now.items);
+      watched = AllZip-refl HasWatched HasWatched-refl (seats_at b.config b.node b.actor b.seen c.args.liars.now.items);
       front = λ p stands. subst (λ (posts : List Post). IsPrefix posts p.seat.seen) (sym c.new-posts.ensures.items) (IsPrefix-nil p.seat.seen);
       few = omega (arith, ap (λ (posts : List Post). length posts) c.new-posts.ensures.items);
     }
@@ -42,8 +42,8 @@ loop-preserved g c =
           (players_of b.config b.node b.actor b.seen a.seat a.view c.round.new.players.items) was.went c.round.ensures.went;
       liars = c.round.ensures.liars;
       watched =
-          AllZip-then HasWatched HasWatched-then (seats_of b.config b.node b.actor b.seen c.args.liars.now.items) (seats_of b.config b.node b.actor b.seen c.loop.liars.items)
-          (seats_of b.config b.node b.actor b.seen c.round.new.liars.items) was.watched c.round.ensures.watched;
+          AllZip-then HasWatched HasWatched-then (seats_at b.config b.node b.actor b.seen c.args.liars.now.items) (seats_at b.config b.node b.actor b.seen c.loop.liars.items)
+          (seats_at b.config b.node b.actor b.seen c.round.new.liars.items) was.watched c.round.ensures.watched;
       front = c.in_ok-count.ensures.front;
       few = c.in_ok-count.ensures.few;
     }
@@ -57,7 +57,7 @@ returns-in_err-count-clause-went g c =
 pub returns-in_err-count-clause-watched : goal.returns-in_err-count-clause-watched
 returns-in_err-count-clause-watched g c =
     let b = g.B.Book in
-    AllZip-then HasWatched HasWatched-then (seats_of b.config b.node b.actor b.seen c.args.liars.now.items) (seats_of b.config b.node b.actor b.seen c.loop.liars.items) (seats_of b.config b.node b.actor b.seen c.round.new.liars.items) c.loop.invariant.watched c.round.ensures.watched
+    AllZip-then HasWatched HasWatched-then (seats_at b.config b.node b.actor b.seen c.args.liars.now.items) (seats_at b.config b.node b.actor b.seen c.loop.liars.items) (seats_at b.config b.node b.actor b.seen c.round.new.liars.items) c.loop.invariant.watched c.round.ensures.watched
 
 pub returns-in-Some-3-clause-went : goal.returns-in-Some-3-clause-went
 returns-in-Some-3-clause-went g c =
@@ -68,7 +68,7 @@ returns-in-Some-3-clause-went g c =
 pub returns-in-Some-3-clause-watched : goal.returns-in-Some-3-clause-watched
 returns-in-Some-3-clause-watched g c =
     let b = g.B.Book in
-    AllZip-then HasWatched HasWatched-then (seats_of b.config b.node b.actor b.seen c.args.liars.now.items) (seats_of b.config b.node b.actor b.seen c.loop.liars.items) (seats_of b.config b.node b.actor b.seen c.round.new.liars.items) c.loop.invariant.watched c.round.ensures.watched
+    AllZip-then HasWatched HasWatched-then (seats_at b.config b.node b.actor b.seen c.args.liars.now.items) (seats_at b.config b.node b.actor b.seen c.loop.liars.items) (seats_at b.config b.node b.actor b.seen c.round.new.liars.items) c.loop.invariant.watched c.round.ensures.watched
 
 pub returns-in_default-clause-went : goal.returns-in_default-clause-went
 returns-in_default-clause-went g c =
@@ -81,5 +81,5 @@ returns-in_default-clause-settled g c =
     let b = g.B.Book in
     let a = g.A.Actor in
     let full = subst (λ (players : List (Player _)). All (λ (player : Player _). player.fate ≡ Full) players) c.as_slice.ensures.value c.in_default.ensures in
-    IsSettled-full c.args.script.now c.highest.result (players_of b.config b.node b.actor b.seen a.seat a.view c.args.players.now.items) (seats_of b.config b.node b.actor b.seen c.highest.new.seats.items)
+    IsSettled-full c.args.script.now c.highest.result (players_of b.config b.node b.actor b.seen a.seat a.view c.args.players.now.items) (seats_at b.config b.node b.actor b.seen c.highest.new.seats.items)
     (All-map (λ (p : PlayerView). p.fate ≡ Full) (player_of b.config b.node b.actor b.seen a.seat a.view) c.args.players.now.items full) c.requires.players c.highest.ensures.least c.highest.ensures.most

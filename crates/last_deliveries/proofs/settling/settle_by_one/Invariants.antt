@@ -2,7 +2,7 @@ use Rattle.std.proofs.Common.{◌≡◌, ◌≤◌, length}
 use Rattle.std.specs.List.{All, AllZip}
 use Rattle.hb_base.specs.Limits.{most_posts}
 use Rattle.last_deliveries.specs.Catching.{HasReadFront}
-use Rattle.last_deliveries.specs.Settling.{players_of, seats_of, IsOfRun, HasGoneOn, HasWatched}
+use Rattle.last_deliveries.specs.Settling.{players_of, seats_at, IsOfRun, HasGoneOn, HasWatched}
 use Rattle.last_deliveries.proofs.settling.settle_by_one.Given as goal
 
 -- rounds were made, in which these posts were read
@@ -17,7 +17,7 @@ invariant-loop g l =
       players : All (IsOfRun l.script) (players_of b.config b.node b.actor b.seen a.seat a.view l.players.items);
       went : AllZip HasGoneOn (players_of b.config b.node b.actor b.seen a.seat a.view l.fn.players.items) (players_of b.config b.node b.actor b.seen a.seat a.view l.players.items);
       liars : All (λ seat. b.knows l.book seat) l.liars.items;
-      watched : AllZip HasWatched (seats_of b.config b.node b.actor b.seen l.fn.liars.items) (seats_of b.config b.node b.actor b.seen l.liars.items);
+      watched : AllZip HasWatched (seats_at b.config b.node b.actor b.seen l.fn.liars.items) (seats_at b.config b.node b.actor b.seen l.liars.items);
       front : HasReadFront l.posts.items l.reader (players_of b.config b.node b.actor b.seen a.seat a.view l.players.items);
       few : length l.posts.items ≤ most_posts;
     }

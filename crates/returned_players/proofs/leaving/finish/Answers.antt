@@ -1,5 +1,7 @@
 use Rattle.std.proofs.Common.{sym}
+use Rattle.last_deliveries.specs.Settling.{players_of}
 use Rattle.returned_players.proofs.Leavings.{IsLeft-made, all_known}
+use Rattle.returned_players.proofs.Marked.{marked_told}
 use Rattle.returned_players.proofs.leaving.finish.Goals as goal
 
 pub returns-clause-left : goal.returns-clause-left
@@ -18,3 +20,10 @@ returns-clause-of_book g c =
     all_known g.B.Book.knows g.A.Actor.seat after.book c.args.book
     (λ seat known. g.met.B.NamedBook.by_name after.book c.args.book seat (sym settled.book) known) after.players.items after.liars.items c.in_ok-seats.seats.items
     c.in_ok-seats.ensures settled.seats settled.of_book
+
+pub returns-clause-noted : goal.returns-clause-noted
+returns-clause-noted g c =
+    let b = g.B.Book in
+    let a = g.A.Actor in
+    marked_told c.args.noted.now (players_of b.config b.node b.actor b.seen a.seat a.view c.as_slice.result.now) c.in_ok-ends.ends.items c.in_ok-ends.ensures.ends
+    (rw c.as_slice.ensures.value c.in_ok-end_and_settle.ensures.noted)

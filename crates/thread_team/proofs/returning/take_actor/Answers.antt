@@ -13,7 +13,7 @@ returns-clause-out g c =
       players =
           subst (λ (players : List (Player g.row.A.Denot)). All (IsOut (b.knows c.args.book.now) b.config b.node b.actor b.seen a.seat a.view c.args.script.now) players) (sym one.2)
           (All-insert (IsOut (b.knows c.args.book.now) b.config b.node b.actor b.seen a.seat a.view c.args.script.now) c.args.all.now.players.items one.0 c.out_of-player.result.0
-          c.requires.out.players c.out_of-player.ensures);
+          c.requires.out.players c.out_of-player.ensures.out);
       in_order = c.in_ok-insert_in_order.ensures.in_order;
       liars = c.requires.out.liars;
     }

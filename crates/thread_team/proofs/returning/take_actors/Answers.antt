@@ -1,6 +1,7 @@
-use Rattle.std.proofs.Common.{[], ◌∷◌, length, ◌∙◌, arith, length-append}
+use Rattle.std.proofs.Common.{[], ◌∷◌, ◌∙◌, arith, length-append}
 use Rattle.std.specs.Vec.Iter.{into_iter_items}
-use Rattle.thread_team.proofs.Rows.{gone_on}
+use Rattle.actor_cell.specs.Marks.{is_marked}
+use Rattle.thread_team.proofs.Rows.{gone_on, stays_marked}
 use Rattle.thread_team.proofs.returning.take_actors.Goals as goal
 
 pub loop-cell-preserved : goal.loop-cell-preserved
@@ -12,4 +13,8 @@ loop-cell-preserved g c = record {
   count =
       omega (arith, c.in_ok-take_actor.ensures.count, length-append c.loop-cell.yielded (c.in-Some.cell ∷ []), c.loop-cell.invariant.count);
   liars = c.in_ok-take_actor.ensures.liars ∙ c.loop-cell.invariant.liars;
+  noted =
+      λ i x below few was.
+      stays_marked (is_marked c.into_held.result.mail.noted i x) (is_marked c.loop-cell.all.noted i x) (is_marked c.take_actor.new.all.noted i x)
+      (c.in_ok-take_actor.ensures.noted i x below few) (c.loop-cell.invariant.noted i x below few was);
 }

@@ -11,5 +11,5 @@ returns-clause-out g c =
       liars =
           rw c.in_ok-push.ensures.items
           (All-push (IsLiarOut (b.knows c.args.book.now) b.config b.node b.actor b.seen c.args.script.now) c.args.all.now.liars.items c.seat_of-seat.result.0
-          c.requires.out.liars c.seat_of-seat.ensures);
+          c.requires.out.liars c.seat_of-seat.ensures.out);
     }

@@ -1,0 +1,107 @@
+//! What the workers of a pool know of one another.
+
+use std::sync::atomic::{AtomicU64, Ordering};
+use std::sync::{Mutex, Wait};
+use std::time::Duration;
+
+// The shortest and the longest time that a worker sleeps which has found nothing, in microseconds.
+const SHORTEST_NAP: u64 = 20;
+
+const LONGEST_NAP: u64 = 1_000;
+
+// How many workers there are, how many of them may still find something to do, and how often one found something. A worker that
+// found nothing, while nobody found anything, looks no more. Once one finds something, all look again: what it did may be work for
+// others.
+#[derive(Drop)]
+struct Count {
+    workers: u64,
+    looking: u64,
+    finds: u64,
+}
+
+// The workers of a pool. Where nobody looks any more each has looked since one last found something, and nobody is in a round:
+// so there is nothing left to do, and it is over.
+#[derive(Drop)]
+pub(crate) struct Crew {
+    count: Mutex<Count>,
+
+    // 1 once it is over.
+    over: AtomicU64,
+}
+
+impl Crew {
+    // The crew whose one worker is the caller, which looks.
+    pub(crate) fn new() -> Crew {
+        Crew {
+            count: Mutex::new(Count {
+                workers: 1,
+                looking: 1,
+                finds: 0,
+            }),
+            over: AtomicU64::new(0),
+        }
+    }
+
+    // Takes in one worker more, which looks.
+    pub(crate) fn enter<R: Wait>(&self, rt: &R) {
+        let mut count = self.count.lock(rt);
+        count.workers = count.workers.saturating_add(1);
+        count.looking = count.looking.saturating_add(1);
+        self.over.store(0, Ordering::SeqCst);
+    }
+
+    // Lets one go that looks.
+    pub(crate) fn leave<R: Wait>(&self, rt: &R) {
+        let mut count = self.count.lock(rt);
+        count.workers = count.workers.saturating_sub(1);
+        count.looking = count.looking.saturating_sub(1);
+        self.end_at(count.looking);
+    }
+
+    // How often one found something, for a worker that is to look now.
+    pub(crate) fn finds<R: Wait>(&self, rt: &R) -> u64 {
+        self.count.lock(rt).finds
+    }
+
+    // One found something.
+    pub(crate) fn found<R: Wait>(&self, rt: &R) {
+        let mut count = self.count.lock(rt);
+        count.finds = count.finds.wrapping_add(1);
+        count.looking = count.workers;
+    }
+
+    // One found nothing, and had begun to look when so many had found something. It looks no more if nobody has found anything
+    // meanwhile.
+    pub(crate) fn found_nothing<R: Wait>(&self, rt: &R, began: u64) {
+        let mut count = self.count.lock(rt);
+        if count.finds == began {
+            count.looking = count.looking.saturating_sub(1);
+            self.end_at(count.looking);
+        }
+    }
+
+    // Ends it where nobody looks.
+    fn end_at(&self, looking: u64) {
+        if looking == 0 {
+            self.over.store(1, Ordering::SeqCst);
+            self.over.wake_all();
+        }
+    }
+
+    // Waits, for one that found nothing and had begun to look at this count of finds, until one has found something since. It sleeps at
+    // least once, and each time twice as long as before, up to the longest nap. Whether it is over.
+    pub(crate) fn rest<R: Wait>(&self, rt: &R, began: u64) -> bool {
+        let mut nap = SHORTEST_NAP;
+        for _ in rt.forever() {
+            if self.over.load(Ordering::SeqCst) != 0 {
+                return true;
+            }
+            self.over.park_timeout(rt, 0, Duration::from_micros(nap));
+            nap = nap.saturating_mul(2).min(LONGEST_NAP);
+            if self.finds(rt) != began {
+                return false;
+            }
+        }
+        true
+    }
+}

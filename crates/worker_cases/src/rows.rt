@@ -1,0 +1,209 @@
+//! Runs that one thread makes too, with one worker and with four.
+
+use crate::calls::{Host, check_any, check_text, run};
+use crate::texts::{FOUR, text_without, with_workers};
+use std::alloc::Global;
+use std::test::Fail;
+
+// Scenarios of one node, up to their workers, their texts and their statuses. One node alone casts the same votes in every schedule.
+// Its coins of rounds 0, 1 and 2 are 0, 0 and 1 with the seed 0.
+const ALONE: [(&str, &str, u8); 4] = [
+    (
+        r#"{"nodes":1,"faulty":0,"epochs":1,"rounds":3,"seed":0,"submit":[{"node":0,"tx":"6869"}]"#,
+        "run nodes 1 faulty 0 version 1 epochs 1
+node 0 running
+epoch 0 batches 1
+batch 0 txs 1
+tx 6869
+end 0
+",
+        0,
+    ),
+    (
+        r#"{"nodes":1,"faulty":0,"epochs":1,"rounds":2,"seed":0,"submit":[{"node":0,"tx":"6869"}]"#,
+        "run nodes 1 faulty 0 version 1 epochs 1
+node 0 running
+end 5
+",
+        5,
+    ),
+    (
+        r#"{"nodes":1,"faulty":0,"epochs":2,"batch":1,"submit":[{"node":0,"tx":"61"},{"node":0,"tx":"62"},{"node":0,"tx":"61"}]"#,
+        "run nodes 1 faulty 0 version 1 epochs 2
+node 0 running
+epoch 0 batches 1
+batch 0 txs 1
+tx 61
+epoch 1 batches 1
+batch 0 txs 1
+tx 62
+end 0
+",
+        0,
+    ),
+    (
+        r#"{"nodes":1,"faulty":0,"epochs":2"#,
+        "run nodes 1 faulty 0 version 1 epochs 2
+node 0 running
+epoch 0 batches 1
+batch 0 txs 0
+epoch 1 batches 1
+batch 0 txs 0
+end 0
+",
+        0,
+    ),
+];
+
+#[test]
+fn one_node(rt: HostRuntime) -> Result<(), Fail> {
+    let alloc = rt.alloc();
+    for (scenario, text, status) in ALONE {
+        for workers in [1, 4] {
+            let scenario = with_workers(alloc, scenario, "", workers)?;
+            let answer = run(&rt, alloc, scenario.as_str())?;
+            check_text(&rt, &answer, status, text, scenario.as_str());
+            check_any(&rt, alloc, &answer, &[status], scenario.as_str())?;
+        }
+    }
+    Ok(())
+}
+
+const KINDS: [&str; 6] = [
+    "silent",
+    "equivocate",
+    "echo_split",
+    "bval_both",
+    "false_share",
+    "babble",
+];
+
+// Beside a liar whose broadcast nobody delivers, a node wants no more lanes only where it has accepted those of the three correct
+// nodes. So each of these begins with 1, at every correct node, and the liar's with 0, and no schedule can change a ledger.
+fn check_kind(rt: &impl Host, alloc: Global, node: u8, name: &str) -> Result<(), Fail> {
+    let want = text_without(alloc, node, "liar")?;
+    let keys = format!(in alloc; ",\"liars\":[{{\"node\":{node},\"name\":\"{name}\"}}]")?;
+    for workers in [1, 4] {
+        let scenario = with_workers(alloc, FOUR, keys.as_str(), workers)?;
+        let answer = run(rt, alloc, scenario.as_str())?;
+        check_text(rt, &answer, 0, want.as_str(), scenario.as_str());
+        check_any(rt, alloc, &answer, &[0], scenario.as_str())?;
+    }
+    Ok(())
+}
+
+#[test]
+fn six_kinds(rt: HostRuntime) -> Result<(), Fail> {
+    for name in KINDS {
+        check_kind(&rt, rt.alloc(), 3, name)?;
+        check_kind(&rt, rt.alloc(), 0, name)?;
+    }
+    Ok(())
+}
+
+const THREE_EPOCHS: &str =
+    r#"{"nodes":4,"faulty":1,"epochs":3,"batch":2,"submit":[{"node":0,"tx":"6131"},{"node":0,"tx":"6132"},
+{"node":0,"tx":"6133"},{"node":1,"tx":"7373"},{"node":2,"tx":"7373"},{"node":3,"tx":"6431"},{"node":3,"tx":"7373"}]"#;
+
+// Scenarios, keys besides, the statuses that a schedule may leave, and a line of each text.
+type Row = (&'static str, &'static str, &'static [u8], &'static str);
+
+const ROWS: [Row; 12] = [
+    (FOUR, "", &[0, 5], "node 3 running\n"),
+    (FOUR, r#","version":2"#, &[0, 5], "node 3 running\n"),
+    (
+        FOUR,
+        r#","links":[{"every":1,"at":0,"shape":"twice"}]"#,
+        &[0, 5],
+        "node 3 running\n",
+    ),
+    (
+        FOUR,
+        r#","order":"mixed","seed":7,"links":[{"every":2,"at":0,"shape":"twice"}]"#,
+        &[0, 5],
+        "node 3 running\n",
+    ),
+    (
+        FOUR,
+        r#","links":[{"from":3,"every":1,"at":0,"shape":"late"},{"every":2,"at":0,"shape":"twice"}]"#,
+        &[0, 5],
+        "node 3 running\n",
+    ),
+    // node 2 hears nobody but itself
+    (
+        FOUR,
+        r#","links":[{"to":2,"every":1,"at":0,"shape":"drop"}]"#,
+        &[4, 5],
+        "node 2 running\nnode 3 running\n",
+    ),
+    // a lane is stopped in its first entry, which it writes whatever it hears
+    (
+        FOUR,
+        r#","stops":[{"node":1,"actor":1,"call":9,"leave":"torn"}]"#,
+        &[0, 5],
+        "node 1 running\n",
+    ),
+    // a desk is stopped in that of its proposal, and again as it begins again
+    (
+        FOUR,
+        r#","stops":[{"node":1,"actor":4,"call":9,"leave":"old"},{"node":1,"actor":4,"call":12,"leave":"new"}]"#,
+        &[0, 5],
+        "node 1 running\n",
+    ),
+    // the disk of a lane fails in its first entry
+    (
+        FOUR,
+        r#","faults":[{"node":1,"actor":1,"call":9}]"#,
+        &[0, 5],
+        "node 1 ended\nactor 1 journal\n",
+    ),
+    (THREE_EPOCHS, "", &[0, 5], "node 3 running\n"),
+    (
+        THREE_EPOCHS,
+        r#","version":2,"liars":[{"node":3,"name":"bval_both"}]"#,
+        &[0, 5],
+        "node 3 liar\n",
+    ),
+    (
+        r#"{"nodes":6,"faulty":1,"epochs":2,"submit":[{"node":0,"tx":"61"},{"node":5,"tx":"66"}]"#,
+        "",
+        &[0, 5],
+        "node 5 running\n",
+    ),
+];
+
+// Whether a text has a line, or several, that stand behind another.
+fn has_lines(text: &[u8], lines: &str) -> bool {
+    text.windows(lines.len().max(1))
+        .any(|part| part == lines.as_bytes())
+}
+
+#[test]
+fn rows_of_one_thread(rt: HostRuntime) -> Result<(), Fail> {
+    let alloc = rt.alloc();
+    for (scenario, keys, statuses, lines) in ROWS {
+        for workers in [1, 4] {
+            let scenario = with_workers(alloc, scenario, keys, workers)?;
+            let answer = run(&rt, alloc, scenario.as_str())?;
+            check_any(&rt, alloc, &answer, statuses, scenario.as_str())?;
+            assert!(rt; has_lines(answer.out.held(), lines), "{scenario}");
+        }
+    }
+    Ok(())
+}
+
+// Sixteen nodes, of which five may be faulty: 272 actors, and 64 workers.
+#[test]
+fn sixteen_nodes(rt: HostRuntime) -> Result<(), Fail> {
+    let alloc = rt.alloc();
+    let scenario = with_workers(
+        alloc,
+        r#"{"nodes":16,"faulty":5,"epochs":1,"submit":[{"node":0,"tx":"61"},{"node":15,"tx":"62"}]"#,
+        "",
+        4,
+    )?;
+    let answer = run(&rt, alloc, scenario.as_str())?;
+    check_any(&rt, alloc, &answer, &[0, 5], "sixteen nodes")?;
+    assert_eq!(rt; answer.report.ends.len(), 272);
+    Ok(())
+}
