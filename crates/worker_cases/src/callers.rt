@@ -18,8 +18,8 @@ use std::alloc::{AllocError, Global};
 use std::sync::Wait;
 use std::thread::Threads;
 
-/// Runs the scenario that the bytes say to this cast, with as many workers at each node as it asks for: the status, and what was
-/// printed. It may wait, and before each delivery the thread that makes it enters the gate. After 0, 4 and 5 the report tells a run of
+/// Runs the scenario that the bytes say to this cast, through this gate: the status, and what was printed. It may wait. How many
+/// workers run it, and when they enter the gate, no clause tells. After 0, 4 and 5 the report tells a run of
 /// exactly that scenario, with this status, whose text was printed. Its history is legal, nothing is left to do, and no more was done
 /// than is planned. Where no two hashed strings share a digest, of any two correct nodes' ledgers one begins with the other, each list
 /// has the batches of n - f nodes at least, and correct nodes' batches are unaltered.
