@@ -9,7 +9,7 @@ const SHORTEST_NAP: u64 = 20;
 
 const LONGEST_NAP: u64 = 1_000;
 
-// How many workers there are, how many of them may still find something to do, and how often one found something. A worker that
+// How many workers there are that have not gone, how many of them may still find something to do, and how often one found something. A worker that
 // found nothing, while nobody found anything, looks no more. Once one finds something, all look again: what it did may be work for
 // others.
 #[derive(Drop)]
@@ -88,12 +88,23 @@ impl Crew {
         }
     }
 
+    // Lets one go that looks no more, if nobody looks. Whether it has gone: a worker that came late may look again, and then all may
+    // have something to do once more.
+    fn retires<R: Wait>(&self, rt: &R) -> bool {
+        let mut count = self.count.lock(rt);
+        if count.looking != 0 {
+            return false;
+        }
+        count.workers = count.workers.saturating_sub(1);
+        true
+    }
+
     // Waits, for one that found nothing and had begun to look at this count of finds, until one has found something since. It sleeps at
-    // least once, and each time twice as long as before, up to the longest nap. Whether it is over.
+    // least once, and each time twice as long as before, up to the longest nap. Whether it is over, and the worker has gone.
     pub(crate) fn rest<R: Wait>(&self, rt: &R, began: u64) -> bool {
         let mut nap = SHORTEST_NAP;
         for _ in rt.forever() {
-            if self.over.load(Ordering::SeqCst) != 0 {
+            if self.over.load(Ordering::SeqCst) != 0 && self.retires(rt) {
                 return true;
             }
             self.over.park_timeout(rt, 0, Duration::from_micros(nap));
