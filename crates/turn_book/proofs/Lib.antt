@@ -1,4 +1,4 @@
-pub mod Pigeons
+pub mod Put
 pub mod Lists
 pub mod Views
 pub mod Turning

@@ -1,32 +1,5 @@
 -- A book that was just made meets the rule. Seats that are split, joined and settled keep it, and a book that is closed gives its whole history.
-use Rattle.std.proofs.Common.{
-  ◌≡◌,
-  ℕ,
-  ◌^◌,
-  ◌<◌,
-  ◌≢◌,
-  ◌⊎◌,
-  inl,
-  inr,
-  ⊎_elim,
-  true,
-  false,
-  List,
-  [],
-  ◌∷◌,
-  ◌++◌,
-  length,
-  set,
-  refl,
-  ap,
-  sym,
-  subst,
-  ◌∙◌,
-  arith,
-  Option,
-  Some,
-  None,
-}
+use Rattle.std.proofs.Common.{◌≡◌, ℕ, ◌<◌, ◌≢◌, ◌⊎◌, inl, inr, ⊎_elim, true, false, List, [], ◌∷◌, ◌++◌, length, set, refl, ap, sym, subst, ◌∙◌, arith, Option, Some}
 use mathlib.Core.Option.{some, none, some-injective, some-ne-none}
 use mathlib.Core.List.{IsPrefix}
 use mathlib.Core.Logic.{dite}
@@ -39,36 +12,35 @@ use Rattle.atomic_table.specs.Table.{Act, step, keeps, Valid, stepped, carried_a
 use Rattle.atomic_table.proofs.Lists.{set_again, set_else}
 use Rattle.turn_book.specs.declared.view.View.{View}
 use Rattle.turn_book.specs.Entries.{entries_of, NamesGiven}
-use Rattle.turn_book.specs.Kept.{Standing, IsOnce, At, Fits, Kept, Turntable, Waits, IsInTurn}
+use Rattle.turn_book.specs.Kept.{Standing, IsOnce, At, Fits, Kept, Turntable, IsInTurn}
 use Rattle.turn_book.specs.Told.{first_view, spent, bare, left_of, right_of, both_seen, both_ended, ended_of, settled, Seated}
-use Rattle.turn_book.proofs.Pigeons.{put, put_at, put_else}
+use Rattle.turn_book.proofs.Put.{put, put_at, put_else}
 use Rattle.turn_book.proofs.Lists.{prefix_shorter, prefix_self, none_of, entries_of-between, not_in_none, once_push}
 use Rattle.turn_book.proofs.Views.{same_there, each_set, each_push, find_set, find_push}
 use Rattle.turn_book.proofs.Turning.{not_true}
 
 module _ {S E : Type 0} (entries : S → List E) (names : E → ℕ) where
-  pub starts : (bells : List ℕ) (x : S) → entries x ≡ [] → Kept entries names (opening (0 ∷ 0 ∷ bells) (Some x ∷ []) first_view)
-  starts bells x empty =
-      let z : Standing E = record { log = []; drawn = 0; served = 0; owner = λ _. 0; place = λ _. 0; given = []; ended = []; taken = false } in
+  pub starts : (x : S) → entries x ≡ [] → Kept entries names (opening (0 ∷ []) (Some x ∷ []) first_view)
+  starts x empty =
+      let z : Standing E = record { log = []; place = λ _. 0; given = []; ended = []; taken = false; holder = 0 } in
       let here : Fits names z 0 first_view = record {
         seen = ([], refl);
         beside = ([], refl);
         mine = λ n e. refl;
-        small = λ n e. let is : 0 ≡ n = cc e in omega arith;
         placed = λ n e. refl;
         named = λ n e. let is : 0 ≡ n = cc e in inl (sym is);
         going = λ n e l c. not_in_none (n, l) c;
-        waits = λ t e. absurd (cc e);
         turns = λ e. absurd (cc e);
+        numbered = λ e. absurd (cc e);
         first = λ e. (refl, refl);
       } in
       record {
         z = z;
-        bells = bells;
+        lock = 0;
         words = refl;
-        order = omega arith;
+        locked = λ e. absurd (cc e);
+        unlocked = λ _. refl;
         fits = each_push (Fits names z) [] first_view here (λ j u e. absurd (some-ne-none u (sym e)));
-        owned = λ t lo hi. absurd (omega arith);
         closed = λ n l c. absurd (not_in_none (n, l) c);
         once = tt;
         named = All-nil (λ e. (names e ≡ 0) ⊎ Contains [] (names e));
@@ -76,9 +48,9 @@ module _ {S E : Type 0} (entries : S → List E) (names : E → ℕ) where
         away = λ e. absurd (cc e);
       }
 
-  pub splits : (number id : ℕ) (v : View E) → v.number ≡ Some 0 → 0 < number → number < 2 ^ 32 → ¬ Contains v.given number
+  pub splits : (number id : ℕ) (v : View E) → v.number ≡ Some 0 → 0 < number → ¬ Contains v.given number
       → Splits (Kept entries names) id v (left_of number v) (right_of number v)
-  splits number id v zero_is pos small new s k at =
+  splits number id v zero_is pos new s k at =
       let z = k.z in
       let f = k.fits id v at in
       let same = f.first zero_is in
@@ -97,12 +69,11 @@ module _ {S E : Type 0} (entries : S → List E) (names : E → ℕ) where
         seen = f.seen;
         beside = f.beside;
         mine = f.mine;
-        small = f.small;
         placed = λ n e. put_else z.place number (length views) n (other n (f.named n e)) ∙ f.placed n e;
         named = λ n e. known n (f.named n e);
         going = f.going;
-        waits = f.waits;
         turns = f.turns;
+        numbered = f.numbered;
         first = λ e. (ap (λ (g : List ℕ). g ++ number ∷ []) same.0, same.1);
       } in
       let there : (j : ℕ) (u : View E) → j ≢ id → get_elem? s.views j ≡ some u → Fits names z' j u = λ j u ne e.
@@ -111,12 +82,11 @@ module _ {S E : Type 0} (entries : S → List E) (names : E → ℕ) where
         seen = g.seen;
         beside = g.beside;
         mine = g.mine;
-        small = g.small;
         placed = λ n h. put_else z.place number (length views) n (other n (g.named n h)) ∙ g.placed n h;
         named = λ n h. known n (g.named n h);
         going = g.going;
-        waits = g.waits;
         turns = g.turns;
+        numbered = g.numbered;
         first = λ h. absurd (ne (sym (g.placed 0 h) ∙ f.placed 0 zero_is));
       } in
       let fresh : Fits names z' (length views) r = record {
@@ -124,33 +94,27 @@ module _ {S E : Type 0} (entries : S → List E) (names : E → ℕ) where
         beside = f.seen;
         mine = λ n e. let is : number ≡ n = cc e in subst (λ (m : ℕ). entries_of names m z.log ≡ []) is
             (none_of names number z.given z.log (λ q. omega arith) new' k.named);
-        small = λ n e. let is : number ≡ n = cc e in omega arith;
         placed = λ n e. let is : number ≡ n = cc e in put_at z.place number (length views) n (sym is);
         named = λ n e. let is : number ≡ n = cc e in inr (subst (λ (m : ℕ). Contains given m) is (Contains-push z.given number));
         going = λ n e l c. let is : number ≡ n = cc e in new' (subst (λ (m : ℕ). Contains z.given m) (sym is) (k.closed n l c).0);
-        waits = λ t e. absurd (cc e);
         turns = λ e. absurd (cc e);
+        numbered = λ e. absurd (cc e);
         first = λ e. let is : number ≡ 0 = cc e in absurd (omega arith);
       } in
-      let moved : (Q : View E → Type 0) (m : ℕ) → (m ≡ 0) ⊎ Contains z.given m → (Q v → Q w) → At Q s.views (z.place m)
-      → At Q (views ++ r ∷ []) (place m) = λ Q m h keep a.
-      subst (λ (i : ℕ). At Q (views ++ r ∷ []) i) (sym (put_else z.place number (length views) m (other m h)))
-      (find_push Q views (z.place m) r (find_set Q s.views id (z.place m) v w at keep a)) in
       record {
         z = z';
-        bells = k.bells;
+        lock = k.lock;
         words = k.words;
-        order = k.order;
+        locked = k.locked;
+        unlocked = k.unlocked;
         fits = each_push (Fits names z') views r fresh (each_set (Fits names z') s.views id w here there);
-        owned = λ t lo hi. let a = k.owned t lo hi in let g = k.fits (z.place (z.owner t)) a.0 a.1 in
-            moved (Waits t) (z.owner t) (g.named (z.owner t) (g.waits t a.2).2) (λ e. e) a;
         closed = λ n l c. let h = k.closed n l c in (Contains-append_left z.given (number ∷ []) n h.0, h.1);
         once = k.once;
         named = All-weaker (λ e. (names e ≡ 0) ⊎ Contains z.given (names e)) (λ e. (names e ≡ 0) ⊎ Contains given (names e))
             (λ e h. known (names e) h) z.log k.named;
         home = k.home;
-        away = λ e. let a = k.away e in let u = a.1 in let g = k.fits (z.place (z.owner z.served)) u.0 u.1 in
-            (a.0, moved IsInTurn (z.owner z.served) (g.named (z.owner z.served) (g.waits z.served (g.turns u.2).1).2) (λ h. h) u);
+        away = λ e. let a = k.away e in
+            (a.0, find_push IsInTurn views z.holder r (find_set IsInTurn s.views id z.holder v w at (λ h. h) a.1));
       }
 
   pub splits_bare : (id : ℕ) (v : View E) → Splits (Kept entries names) id v v (bare v)
@@ -161,40 +125,39 @@ module _ {S E : Type 0} (entries : S → List E) (names : E → ℕ) where
         seen = f.seen;
         beside = (z.log, refl);
         mine = λ n e. absurd (cc e);
-        small = λ n e. absurd (cc e);
         placed = λ n e. absurd (cc e);
         named = λ n e. absurd (cc e);
         going = λ n e. absurd (cc e);
-        waits = λ t e. absurd (cc e);
         turns = λ e. absurd (cc e);
+        numbered = λ e. absurd (cc e);
         first = λ e. absurd (cc e);
       } in
       subst (λ (vs : List (View E)). Kept entries names record { words = s.words; homes = s.homes; views = vs ++ bare v ∷ [] })
       (sym (set_again s.views id v at)) record {
         z = z;
-        bells = k.bells;
+        lock = k.lock;
         words = k.words;
-        order = k.order;
+        locked = k.locked;
+        unlocked = k.unlocked;
         fits = each_push (Fits names z) s.views (bare v) fresh k.fits;
-        owned = λ t lo hi. find_push (Waits t) s.views (z.place (z.owner t)) (bare v) (k.owned t lo hi);
         closed = k.closed;
         once = k.once;
         named = k.named;
         home = k.home;
-        away = λ e. let a = k.away e in (a.0, find_push IsInTurn s.views (z.place (z.owner z.served)) (bare v) a.1);
+        away = λ e. let a = k.away e in (a.0, find_push IsInTurn s.views (z.holder) (bare v) a.1);
       }
 
   -- the seat `other` is spent, and `id` keeps what it had seen. The numbers ended become `ended'`, as `id` knows them
   joined : (s : Turntable S E) (k : Kept entries names s) (id other : ℕ) (v w : View E) (ended ended' : List (ℕ × List E))
       → get_elem? s.views id ≡ some v → ¬ (other ≡ id) → get_elem? (set s.views id (record v { beside = w.seen; ended = ended })) other ≡ some w
-      → w.ticket ≡ None → w.in_turn ≡ false
+      → w.in_turn ≡ false
       → (v.number ≡ Some 0 → ended ≡ ended')
       → ((j : ℕ) (u : View E) → j ≢ id → get_elem? s.views j ≡ some u → u.number ≡ Some 0 → u.ended ≡ ended')
       → ((j : ℕ) (u : View E) → j ≢ other → get_elem? s.views j ≡ some u → (n : ℕ) → u.number ≡ Some n → (l : List E) → ¬ Contains ended' (n, l))
       → ((n : ℕ) (l : List E) → Contains ended' (n, l) → Contains k.z.given n × (entries_of names n k.z.log ≡ l))
       → IsOnce ended'
       → Kept entries names record { words = s.words; homes = s.homes; views = set (set s.views id (record v { beside = w.seen; ended = ended })) other spent }
-  joined s k id other v w ended ended' at apart there idle out mine others going closed once =
+  joined s k id other v w ended ended' at apart there out mine others going closed once =
       let z = k.z in
       let f = k.fits id v at in
       let b : View E = record v { beside = w.seen; ended = ended } in
@@ -206,24 +169,22 @@ module _ {S E : Type 0} (entries : S → List E) (names : E → ℕ) where
         seen = (z.log, refl);
         beside = (z.log, refl);
         mine = λ n e. absurd (cc e);
-        small = λ n e. absurd (cc e);
         placed = λ n e. absurd (cc e);
         named = λ n e. absurd (cc e);
         going = λ n e. absurd (cc e);
-        waits = λ t e. absurd (cc e);
         turns = λ e. absurd (cc e);
+        numbered = λ e. absurd (cc e);
         first = λ e. absurd (cc e);
       } in
       let here : Fits names z' id b = record {
         seen = f.seen;
         beside = h.seen;
         mine = f.mine;
-        small = f.small;
         placed = f.placed;
         named = f.named;
         going = λ n e l c. going id v (λ q. apart (sym q)) at n e l c;
-        waits = f.waits;
         turns = f.turns;
+        numbered = f.numbered;
         first = λ e. ((f.first e).0, mine e);
       } in
       let elsewhere : (j : ℕ) (u : View E) → j ≢ id → get_elem? s.views j ≡ some u → j ≢ other → Fits names z' j u = λ j u ne e no_other.
@@ -232,45 +193,44 @@ module _ {S E : Type 0} (entries : S → List E) (names : E → ℕ) where
         seen = g.seen;
         beside = g.beside;
         mine = g.mine;
-        small = g.small;
         placed = g.placed;
         named = g.named;
         going = λ n q l c. going j u no_other e n q l c;
-        waits = g.waits;
         turns = g.turns;
+        numbered = g.numbered;
         first = λ q. ((g.first q).0, others j u ne e q);
       } in
       let keep : (Q : View E → Type 0) (i : ℕ) → (Q v → Q b) → (Q w → Q spent) → At Q s.views i → At Q (set views other spent) i = λ Q i p q a.
       find_set Q views other i w spent there q (find_set Q s.views id i v b at p a) in
       record {
         z = z';
-        bells = k.bells;
+        lock = k.lock;
         words = k.words;
-        order = k.order;
+        locked = k.locked;
+        unlocked = k.unlocked;
         fits = each_set (Fits names z') views other spent gone
             (λ j u ne e. each_set (λ i t. i ≢ other → Fits names z' i t) s.views id b (λ _. here) elsewhere j u e ne);
-        owned = λ t lo hi. keep (Waits t) (z.place (z.owner t)) (λ e. e) (λ e. absurd (cc (idle, e))) (k.owned t lo hi);
         closed = closed;
         once = once;
         named = k.named;
         home = k.home;
-        away = λ e. let a = k.away e in (a.0, keep IsInTurn (z.place (z.owner z.served)) (λ q. q) (λ q. absurd (cc (out, q))) a.1);
+        away = λ e. let a = k.away e in (a.0, keep IsInTurn (z.holder) (λ q. q) (λ q. absurd (cc (out, q))) a.1);
       }
 
-  pub meets : (id : ℕ) (v : View E) (other : ℕ) (w : View E) → w.ticket ≡ None → w.in_turn ≡ false
+  pub meets : (id : ℕ) (v : View E) (other : ℕ) (w : View E) → w.in_turn ≡ false
       → Joins (Kept entries names) id v other w (both_seen v w) spent
-  meets id v other w idle out s k at apart there =
+  meets id v other w out s k at apart there =
       let z = k.z in
-      joined s k id other v w v.ended z.ended at apart there idle out
+      joined s k id other v w v.ended z.ended at apart there out
       (λ e. ((k.fits id v at).first e).1)
       (λ j u ne e q. ((k.fits j u e).first q).1)
       (λ j u ne e. (k.fits j u e).going)
       k.closed
       k.once
 
-  pub ends : (id : ℕ) (v : View E) (other : ℕ) (w : View E) (n : ℕ) → v.number ≡ Some 0 → w.number ≡ Some n → w.ticket ≡ None → w.in_turn ≡ false
+  pub ends : (id : ℕ) (v : View E) (other : ℕ) (w : View E) (n : ℕ) → v.number ≡ Some 0 → w.number ≡ Some n → w.in_turn ≡ false
       → Joins (Kept entries names) id v other w (both_ended names v w) spent
-  ends id v other w n zero_is number idle out s k at apart there =
+  ends id v other w n zero_is number out s k at apart there =
       let z = k.z in
       let f = k.fits id v at in
       let b : View E = both_ended names v w in
@@ -281,7 +241,7 @@ module _ {S E : Type 0} (entries : S → List E) (names : E → ℕ) where
       let known : v.ended ++ ended_of names w.number w.seen ≡ ended' = λ i. (f.first zero_is).1 i ++ ended_of names (number i) w.seen in
       let given : Contains z.given n = ⊎_elim (λ (q : n ≡ 0). absurd (apart (sym (h.placed n number) ∙ (ap z.place q ∙ f.placed 0 zero_is))))
       (λ c. c) (h.named n number) in
-      joined s k id other v w (v.ended ++ ended_of names w.number w.seen) ended' at apart there idle out
+      joined s k id other v w (v.ended ++ ended_of names w.number w.seen) ended' at apart there out
       (λ _. known)
       (λ j u ne e q. absurd (ne (sym ((k.fits j u e).placed 0 q) ∙ f.placed 0 zero_is)))
       (λ j u ne e m q l c. let g = k.fits j u e in ⊎_elim
@@ -312,12 +272,11 @@ module _ {S E : Type 0} (entries : S → List E) (names : E → ℕ) where
         seen = whole;
         beside = f.beside;
         mine = λ n e. f.mine n e ∙ sym (same n e);
-        small = f.small;
         placed = f.placed;
         named = f.named;
         going = f.going;
-        waits = f.waits;
         turns = λ e. absurd (cc (out, e));
+        numbered = f.numbered;
         first = f.first;
       } in (
         w,
@@ -325,16 +284,16 @@ module _ {S E : Type 0} (entries : S → List E) (names : E → ℕ) where
         tt,
         record {
           z = z;
-          bells = k.bells;
+          lock = k.lock;
           words = ap (λ (ws : List ℕ). set ws 0 (slice_index ws 0)) k.words;
-          order = k.order;
+          locked = k.locked;
+          unlocked = k.unlocked;
           fits = each_set (Fits names z) s.views id w here (λ j u ne e. k.fits j u e);
-          owned = λ t lo hi. find_set (Waits t) s.views id (z.place (z.owner t)) v w at (λ e. e) (k.owned t lo hi);
           closed = k.closed;
           once = k.once;
           named = k.named;
           home = k.home;
-          away = λ e. let a = k.away e in (a.0, find_set IsInTurn s.views id (z.place (z.owner z.served)) v w at (λ q. q) a.1);
+          away = λ e. let a = k.away e in (a.0, find_set IsInTurn s.views id (z.holder) v w at (λ q. q) a.1);
         },
         record {
           view = refl;
@@ -367,18 +326,18 @@ module _ {S E : Type 0} (entries : S → List E) (names : E → ℕ) where
       let same = f.first zero_is in
       let free : z.taken ≡ false = not_true z.taken (λ taken.
       let u = (k.away taken).1 in
-      let p : ℕ = z.place (z.owner z.served) in
-      let g = k.fits p u.0 u.1 in
-      let number = (g.waits z.served (g.turns u.2).1).2 in
+      let g = k.fits z.holder u.0 u.1 in
+      let numbered = g.numbered u.2 in
+      let n = numbered.0 in
       ⊎_elim
-      (λ (q : z.owner z.served ≡ 0).
-      let one : u.0 ≡ v = same_there s.views p id u.0 v u.1 at (ap z.place q ∙ f.placed 0 zero_is) in
+      (λ (q : n ≡ 0).
+      let one : u.0 ≡ v = same_there s.views z.holder id u.0 v u.1 at (sym (g.placed n numbered.1) ∙ (ap z.place q ∙ f.placed 0 zero_is)) in
       let both : v.in_turn ≡ true = sym (ap (λ (t : View E). t.in_turn) one) ∙ u.2 in
       cc (out, both))
-      (λ (c : Contains z.given (z.owner z.served)).
-      let e = all (z.owner z.served) (subst (λ (l : List ℕ). Contains l (z.owner z.served)) (sym same.0) c) in
-      g.going (z.owner z.served) number e.0 (subst (λ (d : List (ℕ × List E)). Contains d (z.owner z.served, e.0)) same.1 e.1))
-      (g.named (z.owner z.served) number)) in
+      (λ (c : Contains z.given n).
+      let e = all n (subst (λ (l : List ℕ). Contains l n) (sym same.0) c) in
+      g.going n numbered.1 e.0 (subst (λ (d : List (ℕ × List E)). Contains d (n, e.0)) same.1 e.1))
+      (g.named n numbered.1)) in
       let h = k.home free in
       let at_home : get_elem? s.homes 0 ≡ some (some (Some h.0)) = ap (λ hs. get_elem? hs 0) h.1 in
       let is : z.log ≡ entries h.0 = sym h.2 in (

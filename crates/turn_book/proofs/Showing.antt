@@ -68,7 +68,7 @@ module _ {S E : Type 0} (names : E → ℕ) (number : ℕ) (v : View E) (m m' : 
   pub new_ready : IsReady m'
   new_ready = record {
     numbered = (number, ap (λ (x : Seated S E). x.0.number) known);
-    outside = λ _. (ap (λ (x : Seated S E). x.1) known, ap (λ (x : Seated S E). x.0.ticket) known);
+    outside = λ _. ap (λ (x : Seated S E). x.1) known;
     inside = λ e. absurd (cc (e, ap (λ (x : Seated S E). x.0.in_turn) known));
   }
 

@@ -49,8 +49,8 @@ module _ {E : Type 0} (names : E → ℕ) where
     ended = v.ended;
   }
 
--- A seat has a number. In its turn it holds the emptied slot, and outside of it neither the slot nor a ticket.
+-- A seat has a number. In its turn it holds the emptied slot, and outside of it no slot.
 pub record IsReady {S E : Type 0} (me : Me (Option S) (View E)) : Type 0 where
   pub numbered : (n : ℕ) × (me.0.number ≡ Some n)
-  pub outside : me.0.in_turn ≡ false → (me.1 ≡ []) × (me.0.ticket ≡ None)
+  pub outside : me.0.in_turn ≡ false → me.1 ≡ []
   pub inside : me.0.in_turn ≡ true → me.1 ≡ (0, None) ∷ []

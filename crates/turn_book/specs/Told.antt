@@ -1,5 +1,5 @@
 -- What each step of a turn book tells the seat that makes it.
-use Rattle.std.specs.Prelude.{◌≡◌, ◌≢◌, ℕ, ◌+◌, ◌%◌, ◌^◌, ◌⊎◌, ◌++◌, true, false, List, [], ◌∷◌, Option, Some, None, Contains}
+use Rattle.std.specs.Prelude.{◌≡◌, ◌≢◌, ℕ, ◌+◌, ◌⊎◌, ◌++◌, true, false, List, [], ◌∷◌, Option, Some, None, Contains}
 use mathlib.Core.List.{IsPrefix}
 use Rattle.atomic_table.specs.Table.{Me, Step}
 use Rattle.turn_book.specs.declared.view.View.{View}
@@ -12,7 +12,6 @@ module _ {E : Type 0} where
     seen = seen;
     beside = beside;
     number = number;
-    ticket = None;
     in_turn = false;
     looks = 0;
     given = [];
@@ -79,17 +78,12 @@ module _ {S E : Type 0} where
       held_in None = []
       held_in (Some x) = entries x
 
-  abbrev pub drew : Step (Option S) → Seated S E → ℕ → Seated S E → Type 0
-  drew st m r m' = (t : ℕ) × (r ≡ t % 2 ^ 64) × (m' ≡ (record m.0 { ticket = Some t }, m.1))
-
+  -- the turn has begun where the lock was found free
   abbrev pub looked : (S → List E) → (E → ℕ) → Step (Option S) → Seated S E → ℕ → Seated S E → Type 0
-  looked entries names st m r m' = (t : ℕ) → m.0.ticket ≡ Some t → (r ≡ t % 2 ^ 64 → Takes entries names m m') × (r ≢ t % 2 ^ 64 → m' ≡ m)
+  looked entries names st m r m' = (r ≡ 0 → Takes entries names m m') × (r ≢ 0 → m' ≡ m)
 
   abbrev pub settled : (E → ℕ) → Step (Option S) → Seated S E → ℕ → Seated S E → Type 0
   settled names st m r m' = Settles names m m'
 
-  abbrev pub rung : Step (Option S) → Seated S E → ℕ → Seated S E → Type 0
-  rung st m r m' = m' ≡ m
-
   abbrev pub passed : (S → List E) → Step (Option S) → Seated S E → ℕ → Seated S E → Type 0
-  passed entries st m r m' = m' ≡ (record m.0 { seen = held entries m.1; ticket = None; in_turn = false }, [])
+  passed entries st m r m' = m' ≡ (record m.0 { seen = held entries m.1; in_turn = false }, [])

@@ -5,10 +5,10 @@ ghost use Rattle.turn_book.specs.Entries.{entries_of, AddsAtMostOne, NamesGiven}
 ghost use Rattle.turn_book.specs.SeatState.{new_seat, AllEnded};
 
 use crate::history::History;
-use crate::plays::{Bare, Draw, End, Meet, Pass};
+use crate::plays::{Bare, End, Meet, Pass};
 use crate::seat::Seat;
-use crate::steps::{ring, settle, split_as, wait};
-use crate::view::{SERVING, TICKET, Turntable, VALUE, WORDS};
+use crate::steps::{settle, split_as, wait};
+use crate::view::{AWAITED, FREE, LOCK, Turntable, VALUE, WORDS};
 use atomic_table::Table;
 use std::alloc::{AllocError, Global};
 use std::marker::{Brand, Model};
@@ -104,8 +104,7 @@ impl<S: History + Drop> TurnBook<S> {
         ensures mine { entries_of S.names seat.old.number (S.entries result) ≡ seat.old.mine }
     {
         let top = &self.table.shared;
-        let ticket = top.fetch_add::<Draw>(&mut seat.place, TICKET, 1);
-        wait(rt, top, &mut seat.place, ticket);
+        wait(rt, top, &mut seat.place);
         match top.exchange(&mut seat.place, VALUE, None) {
             Some(value) => value,
             None => unreachable!(),
@@ -125,8 +124,9 @@ impl<S: History + Drop> TurnBook<S> {
             None => {}
             Some(_) => unreachable!(),
         }
-        let served = top.fetch_add::<Pass>(&mut seat.place, SERVING, 1);
-        ring(top, &mut seat.place, served.wrapping_add(1));
+        if top.swap::<Pass>(&mut seat.place, LOCK, FREE) == AWAITED {
+            top.wake_one(LOCK);
+        }
     }
 
     /// Gives the value back, once each number given has ended: its history has the entries that the first seat knows, and no others.

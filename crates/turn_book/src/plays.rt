@@ -1,19 +1,12 @@
 //! What each step tells, and how seats are split and joined. These types are for the proofs alone.
-ghost use Rattle.turn_book.specs.Told.{drew, looked, settled, passed, rung, left_of, right_of, bare, both_seen, both_ended, spent};
+ghost use Rattle.turn_book.specs.Told.{looked, settled, passed, left_of, right_of, bare, both_seen, both_ended, spent};
 
 use crate::history::History;
 use crate::view::View;
 use atomic_table::{Join, Play, Split};
 use std::marker::{Brand, PhantomData};
 
-// A ticket is drawn.
-pub(crate) struct Draw;
-
-impl<S: History> Play<Option<S>, View<S::Entry>> for Draw {
-    ghost then = { drew };
-}
-
-// A look at the ticket that is served, which begins the turn where it is the seat's.
+// A look at the lock, which is held from then on: it begins the turn where the lock was free.
 pub(crate) struct Look;
 
 impl<S: History> Play<Option<S>, View<S::Entry>> for Look {
@@ -27,18 +20,11 @@ impl<S: History> Play<Option<S>, View<S::Entry>> for Settle {
     ghost then = { settled S.names };
 }
 
-// The value goes back, and the next ticket is served.
+// The value goes back, and the lock is free.
 pub(crate) struct Pass;
 
 impl<S: History> Play<Option<S>, View<S::Entry>> for Pass {
     ghost then = { passed S.entries };
-}
-
-// A bell is rung.
-pub(crate) struct Ring;
-
-impl<S: History> Play<Option<S>, View<S::Entry>> for Ring {
-    ghost then = { rung };
 }
 
 // The number of a new seat. Each call picks it.

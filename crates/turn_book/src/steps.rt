@@ -1,11 +1,11 @@
 //! The steps of a book on its table, which several of its calls make.
-ghost use Rattle.std.specs.Prelude.{◌≡◌, ℕ, ◌%◌, ◌^◌, ◌<◌, ◌≤◌, [], ◌∷◌, false, Some, Contains};
+ghost use Rattle.std.specs.Prelude.{◌≡◌, ℕ, ◌<◌, [], ◌∷◌, false, Some, Contains};
 ghost use Rattle.turn_book.specs.Kept.{IsTable};
 ghost use Rattle.turn_book.specs.Told.{Settles, Takes, left_of, right_of};
 
 use crate::history::History;
-use crate::plays::{Look, Numbered, Numbering, Ring, Settle};
-use crate::view::{BELLS, FIRST_BELL, Place, SERVING, TICKET, Top};
+use crate::plays::{Look, Numbered, Numbering, Settle};
+use crate::view::{AWAITED, FREE, HELD, LOCK, Place, Top};
 use std::sync::Wait;
 
 // Makes a seat with this number, which is the one that the call picks.
@@ -31,46 +31,27 @@ pub(crate) fn settle<S: History>(top: &Top<S>, place: &mut Place<S>)
     ensures table { place.new.table_id ≡ place.old.table_id }
     ensures settles { Settles S.names place.old.me place.new.me }
 {
-    top.load::<Settle>(place, TICKET);
+    top.load::<Settle>(place, LOCK);
 }
 
-// The bell on which a thread with this ticket sleeps.
-fn bell_of(ticket: u64) -> usize
-    ensures { (2 ≤ result) × (result < 66) }
-{
-    FIRST_BELL + ticket as usize % BELLS
-}
-
-// Waits until the seat's ticket is served, and takes the slot.
+// Waits until no other seat has the slot, and takes it.
 //
-// Whoever serves this ticket rings the bell after that. So the bell is read first: a ring that comes after the look ends the sleep.
-pub(crate) fn wait<S: History, R: Wait>(rt: &R, top: &Top<S>, place: &mut Place<S>, ticket: u64)
+// A thread that finds the lock held marks it as awaited, and sleeps. It holds the lock with that mark too, since others may sleep.
+pub(crate) fn wait<S: History, R: Wait>(rt: &R, top: &Top<S>, place: &mut Place<S>)
     requires table { (place.old.table_id ≡ top.now.table_id) × IsTable top.now.table_id }
-    requires ticket { (t : ℕ) × (place.old.me.0.ticket ≡ Some t) × (ticket ≡ t % 2 ^ 64) }
+    requires number { (n : ℕ) × (place.old.me.0.number ≡ Some n) }
     requires out { (place.old.me.0.in_turn ≡ false) × (place.old.me.1 ≡ []) }
     ensures table { place.new.table_id ≡ place.old.table_id }
     ensures takes { Takes S.entries S.names place.old.me place.new.me }
 {
-    let bell = bell_of(ticket);
-    for _ in rt.forever() {
-        let rung = top.peek(bell);
-        if top.load::<Look>(place, SERVING) == ticket {
-            return;
-        }
-        top.park(rt, bell, (rung & 0xffff_ffff) as u32);
-    }
-    unreachable!()
-}
-
-// Wakes the thread that waits for this ticket, where it was drawn.
-pub(crate) fn ring<S: History>(top: &Top<S>, place: &mut Place<S>, ticket: u64)
-    requires table { (place.old.table_id ≡ top.now.table_id) × IsTable top.now.table_id }
-    ensures { (place.new.table_id ≡ place.old.table_id) × (place.new.me ≡ place.old.me) }
-{
-    if top.peek(TICKET) == ticket {
+    if top.compare_exchange::<Look>(place, LOCK, FREE, HELD) == FREE {
         return;
     }
-    let bell = bell_of(ticket);
-    top.fetch_add::<Ring>(place, bell, 1);
-    top.wake_all(bell);
+    for _ in rt.forever() {
+        if top.swap::<Look>(place, LOCK, AWAITED) == FREE {
+            return;
+        }
+        top.park(rt, LOCK, AWAITED as u32);
+    }
+    unreachable!()
 }

@@ -4,17 +4,18 @@ use atomic_table::{Seat, Shared, Table, TableRule};
 use std::alloc::Global;
 use std::collections::LinkedList;
 
-// Word 0 is the next ticket to be drawn, and word 1 the ticket that is served.
-pub(crate) const TICKET: usize = 0;
+// The one word, which says whether a seat has the value. Threads that wait sleep on it.
+pub(crate) const LOCK: usize = 0;
 
-pub(crate) const SERVING: usize = 1;
+pub(crate) const FREE: u64 = 0;
 
-// The other words are bells. A thread that waits sleeps on the bell of its ticket, so that up to 64 threads are woken one by one.
-pub(crate) const FIRST_BELL: usize = 2;
+// A seat has the value, and no thread sleeps.
+pub(crate) const HELD: u64 = 1;
 
-pub(crate) const BELLS: usize = 64;
+// A seat has the value, and a thread may sleep.
+pub(crate) const AWAITED: u64 = 2;
 
-pub(crate) const WORDS: usize = 66;
+pub(crate) const WORDS: usize = 1;
 
 // The one slot, which holds the value outside of turns.
 pub(crate) const VALUE: usize = 0;
@@ -27,8 +28,6 @@ pub struct View<E> {
     pub beside: LinkedList<E>,
     /// The seat's number, which no other seat has. A seat that is made to be taken in at once has none.
     pub number: Option<u32>,
-    /// The ticket that is out, which counts on without end.
-    pub ticket: Option<u64>,
     /// Whether the seat has the value.
     pub in_turn: bool,
     /// How often the seat was shown the whole history.

@@ -12,6 +12,5 @@ split_seat-requires g c =
       c.requires.table.0,
       omega arith,
       subst (λ (k : ℕ). Splits (Kept g.S.History.entries g.S.History.names) id v (left_of k v) (right_of k v)) c.requires.number.0
-          (splits g.S.History.entries g.S.History.names c.args.number id v c.requires.first c.requires.number.1 (omega (arith, c.ranges.number))
-          c.requires.number.2),
+          (splits g.S.History.entries g.S.History.names c.args.number id v c.requires.first c.requires.number.1 c.requires.number.2),
     )

@@ -1,14 +1,25 @@
-use Rattle.std.proofs.Common.{arith, ap, ◌∙◌}
-use Rattle.turn_book.proofs.Turning.{sees}
+use Rattle.std.proofs.Common.{arith, ap, ◌∙◌, eqb}
+use prog.Atomic.{either}
+use Rattle.turn_book.proofs.Turning.{sees, held_from_then}
 use Rattle.turn_book.proofs.steps.wait.Goals as goal
 
-pub load-requires : goal.load-requires
-load-requires g c =
-    let same = c.loop.invariant.1 in (
-      c.loop.invariant.0 ∙ c.requires.table.0,
+pub compare_exchange-requires : goal.compare_exchange-requires
+compare_exchange-requires g c = (
+  c.requires.table.0,
+  omega arith,
+  sees g.S.History.entries g.S.History.names c.requires.number.0 _ _ 0 1 (λ x. either (eqb x 0) 1 x) c.args.place.now.me
+      c.requires.number.1 c.requires.out.0 c.requires.out.1 held_from_then,
+)
+
+pub swap-requires : goal.swap-requires
+swap-requires g c =
+    let tried = c.compare_exchange.ensures in
+    let same = c.loop.invariant.1 ∙ tried.2.1 c.if-compare_exchange-eq-FREE.false in (
+      c.loop.invariant.0 ∙ (tried.0 ∙ c.requires.table.0),
       omega arith,
-      sees g.S.History.entries g.S.History.names c.requires.ticket.0 _ _ c.loop.place.me
-          (ap (λ m. m.0.ticket) same ∙ c.requires.ticket.1)
+      sees g.S.History.entries g.S.History.names c.requires.number.0 _ _ 2 0 (λ x. 2) c.loop.place.me
+          (ap (λ m. m.0.number) same ∙ c.requires.number.1)
           (ap (λ m. m.0.in_turn) same ∙ c.requires.out.0)
-          (ap (λ m. m.1) same ∙ c.requires.out.1),
+          (ap (λ m. m.1) same ∙ c.requires.out.1)
+          (λ x e. cc e),
     )

@@ -12,10 +12,10 @@ join_seat-requires g c =
     let idle = c.other.invariant.outside (o.in_turn ∙ c.requires.turns.1) in (
       s.book_is ∙ (c.requires.book.0 ∙ sym c.self.view_is),
       o.book_is ∙ (c.requires.book.1 ∙ sym c.self.view_is),
-      idle.0,
+      idle,
       omega (arith, c.self.invariant.0),
       ends g.S.History.entries names _ c.seat.inside.place.me.0 _ c.other.inside.place.me.0 c.args.other.number
-          (s.number ∙ ap Some c.requires.first) o.number idle.1 (o.in_turn ∙ c.requires.turns.1),
+          (s.number ∙ ap Some c.requires.first) o.number (o.in_turn ∙ c.requires.turns.1),
     )
 
 pub returns-clause-given : goal.returns-clause-given

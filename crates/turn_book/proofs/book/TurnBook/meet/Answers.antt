@@ -16,6 +16,5 @@ join_seat-requires g c =
       made.3 ∙ (ap (λ s. s.book) c.other.view_is ∙ (c.requires.book.1 ∙ sym c.self.view_is)),
       ap (λ m. m.1) made.4,
       omega (arith, c.self.invariant.0),
-      meets g.S.History.entries g.S.History.names _ c.seat.inside.place.me.0 _ c.split_seat-place.result.me.0 (ap (λ m. m.0.ticket) made.4)
-          (ap (λ m. m.0.in_turn) made.4),
+      meets g.S.History.entries g.S.History.names _ c.seat.inside.place.me.0 _ c.split_seat-place.result.me.0 (ap (λ m. m.0.in_turn) made.4),
     )

@@ -6,8 +6,8 @@ use Rattle.turn_book.proofs.Turning.{passes}
 use Rattle.turn_book.proofs.Showing.{sits, mine_more}
 use Rattle.turn_book.proofs.book.TurnBook.pass.Goals as goal
 
-pub fetch_add-served-requires : goal.fetch_add-served-requires
-fetch_add-served-requires g c =
+pub swap-requires : goal.swap-requires
+swap-requires g c =
     let names = g.S.History.names in
     let s = sits names c.seat.inside.place.table_id c.seat.inside.place.me c.args.seat.now c.seat.view_is c.seat.invariant in
     let now = c.exchange.ensures.3 in
@@ -27,7 +27,7 @@ returns-clause-mine g c = λ added is.
     let names = g.S.History.names in
     let s = sits names c.seat.inside.place.table_id c.seat.inside.place.me c.args.seat.now c.seat.view_is c.seat.invariant in
     let now = c.exchange.ensures.3 in
-    let after = c.ring.ensures.1 ∙ c.fetch_add-served.ensures.2 in
+    let after = c.swap.ensures.2 in
     let number = ap (λ m. m.0.number) after ∙ (ap (λ m. m.0.number) now ∙ s.number) in
     let seen = ap (λ m. m.0.seen) after ∙ ap (λ m. held g.S.History.entries m.1) now in
     (λ i. entries_of names (unwrap_or (number i) 0) (seen i))
