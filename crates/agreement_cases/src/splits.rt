@@ -13,7 +13,9 @@ use std::alloc::{AllocError, Global};
 use std::process::Abort;
 use std::test::Fail;
 
-// So many orders are drawn for each split.
+// So many orders are drawn for each split, of which the sums of the first are known.
+const ORDERS: u64 = 1_000;
+
 const DRAWN: u64 = 125;
 
 // The version, and the inputs of nodes 0 to 2 as bits from the lowest; what they have decided where the first envelope comes
@@ -147,6 +149,17 @@ fn drawn(alloc: Global, config: &Config, deal: &Deal, split: u8) -> Result<Sums,
     Ok(sums)
 }
 
+// Whether all is sound in the drawn orders behind the first.
+fn check_others(alloc: Global, config: &Config, deal: &Deal, split: u8) -> Result<(), Fail>
+    requires { deal.now ≡ config.now }
+{
+    for k in DRAWN..ORDERS {
+        let order = Order::Drawn(8 * k + split as u64);
+        let _letters = outcome(alloc, config, deal, split, order)?;
+    }
+    Ok(())
+}
+
 #[test]
 fn splits(rt: HostRuntime) -> Result<(), Fail> {
     let alloc = rt.alloc();
@@ -167,6 +180,7 @@ fn splits(rt: HostRuntime) -> Result<(), Fail> {
             Sums { decided, votes },
             "version {version}, split {split}"
         );
+        check_others(alloc, &config, &deal, split)?;
     }
     Ok(())
 }

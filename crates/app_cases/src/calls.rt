@@ -4,6 +4,7 @@ use hb_app::hb_main;
 use hb_base::{Bytes, MemorySink, MemorySource, OpenGate};
 use hb_rules::Report;
 use liar_cast::{Liar, cast};
+use quiet_check::is_quiet;
 use std::alloc::{AllocError, Global};
 use std::process::Abort;
 use std::sync::Wait;
@@ -56,7 +57,7 @@ fn failing(alloc: Global, call: u32) -> Result<Vec<u32>, AllocError> {
     Ok(calls)
 }
 
-// Calls the program with this cast.
+// Calls the program with this cast. What a run leaves is quiet.
 pub(crate) fn call_with(
     rt: &impl Host,
     alloc: Global,
@@ -83,6 +84,9 @@ pub(crate) fn call_with(
         &OpenGate,
         &mut report,
     );
+    if report.status != 255 {
+        assert!(rt; is_quiet(alloc, &report)?);
+    }
     Ok(Answer {
         status,
         report,

@@ -15,16 +15,23 @@ fn is_of(post: &Post, node: u8, actor: u8) -> bool {
     post.from == node && post.actor == actor
 }
 
-// Whether an actor that posts a vote again posts from there on all that it had posted. An actor that never began again posts none
-// twice.
+// Whether what an actor had posted stands behind this again, all of it and in its order, before anything else of it.
+fn begins_with_all(after: &[Post], before: &[Post], node: u8, actor: u8) -> bool {
+    let mut again = after.iter().filter(|post| is_of(post, node, actor));
+    before
+        .iter()
+        .filter(|old| is_of(old, node, actor))
+        .all(|old| again.next().is_some_and(|new| *new == *old))
+}
+
+// Whether an actor that posts a vote again posts from there on all that it had posted, in that order, before anything else. An actor
+// that never began again posts none twice.
 pub(crate) fn has_posted_all_again(report: &Report, node: u8, actor: u8) -> bool {
     let history = report.history.as_slice();
     for (place, post) in history.iter().enumerate() {
         let (before, after) = history.split_at(place.min(history.len()));
         if is_of(post, node, actor) && stands_in(before, post) {
-            return before
-                .iter()
-                .all(|old| !is_of(old, node, actor) || stands_in(after, old));
+            return begins_with_all(after, before, node, actor);
         }
     }
     true

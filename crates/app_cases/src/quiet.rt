@@ -2,6 +2,7 @@
 
 use crate::calls::{Host, run};
 use crate::texts::four;
+use acs_world::common_epochs;
 use hb_rules::{End, Fate, Report};
 use quiet_check::is_quiet;
 use std::alloc::{AllocError, Global};
@@ -28,6 +29,16 @@ fn reports_of_runs(rt: HostRuntime) -> Result<(), Fail> {
     ] {
         assert!(rt; is_quiet(alloc, &report_of(&rt, alloc, keys)?)?, "{keys}");
     }
+    Ok(())
+}
+
+// What was dropped nobody misses, though the node that runs without it has closed no epoch.
+#[test]
+fn a_lost_node(rt: HostRuntime) -> Result<(), Fail> {
+    let keys = r#","links":[{"to":2,"every":1,"at":0,"shape":"drop"}]"#;
+    let report = report_of(&rt, rt.alloc(), keys)?;
+    assert!(rt; is_quiet(rt.alloc(), &report)?);
+    assert_eq!(rt; common_epochs(&report), 0);
     Ok(())
 }
 

@@ -38,7 +38,7 @@ fn run<R: Threads + Wait + Sync>(
 #[test]
 fn generated_runs(rt: HostRuntime) -> Result<(), Fail> {
     let alloc = rt.alloc();
-    for number in 0..21u64 {
+    for number in 0..300u64 {
         let mut report = Report::empty(alloc);
         let (status, out) = run(&rt, alloc, number, &mut report)?;
         assert!(rt; status == 0 || status == 5, "{number}");

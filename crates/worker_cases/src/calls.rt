@@ -2,7 +2,8 @@
 
 use crate::run_gated;
 use acs_world::{batches_ok, comparable, unaltered};
-use hb_base::{Bytes, Gate, MemorySink, OpenGate};
+use hb_app::hb_main;
+use hb_base::{Bytes, Gate, MemorySink, MemorySource, OpenGate};
 use hb_rules::Report;
 use liar_cast::{Liar, cast};
 use quiet_check::is_quiet;
@@ -42,13 +43,51 @@ pub(crate) fn run_with<G: Gate>(
     })
 }
 
-// Runs a scenario to the cast of the program.
-pub(crate) fn run(rt: &impl Host, alloc: Global, scenario: &str) -> Result<Answer, AllocError> {
+// The cast of the program.
+fn cast_of(alloc: Global) -> Result<Vec<Box<dyn Liar>>, AllocError> {
     let mut liars: Vec<Box<dyn Liar>> = Vec::new(alloc);
     for kind in cast(alloc)? {
         liars.push(Box::new(alloc, kind)?)?;
     }
-    run_with(rt, alloc, scenario, liars, &OpenGate)
+    Ok(liars)
+}
+
+// Runs a scenario to the cast of the program.
+pub(crate) fn run(rt: &impl Host, alloc: Global, scenario: &str) -> Result<Answer, AllocError> {
+    run_with(rt, alloc, scenario, cast_of(alloc)?, &OpenGate)
+}
+
+// Calls the program with this word and this input, to the cast of the program. The put with this number fails, none if it is 0.
+pub(crate) fn call(
+    rt: &impl Host,
+    alloc: Global,
+    word: &str,
+    input: &[u8],
+    put: u32,
+) -> Result<Answer, AllocError> {
+    let words = Vec::from_array(alloc, [String::from_str(alloc, word)?])?;
+    let failing = Vec::from_array(alloc, [put])?;
+    let mut source = MemorySource::new(Bytes::copy(alloc, input)?, 4_096, Vec::new(alloc));
+    let mut out = MemorySink::new(alloc, failing);
+    let mut err = MemorySink::new(alloc, Vec::new(alloc));
+    let mut report = Report::empty(alloc);
+    let (liars, words) = (cast_of(alloc)?, words.as_slice());
+    let status = hb_main(
+        rt,
+        alloc,
+        words,
+        &mut source,
+        &mut out,
+        &mut err,
+        liars,
+        &OpenGate,
+        &mut report,
+    );
+    Ok(Answer {
+        status,
+        report,
+        out,
+    })
 }
 
 // Checks that there was a run, with this status and this text.

@@ -9,6 +9,8 @@ mod callers;
 #[cfg(test)]
 mod calls;
 #[cfg(test)]
+mod disks;
+#[cfg(test)]
 mod holding;
 #[cfg(test)]
 mod rows;
@@ -16,5 +18,7 @@ mod rows;
 mod storms;
 #[cfg(test)]
 mod texts;
+#[cfg(test)]
+mod words;
 
 pub use callers::run_gated;

@@ -1,13 +1,13 @@
 //! Runs that one thread makes too, with one worker and with four.
 
-use crate::calls::{Host, check_any, check_text, run};
+use crate::calls::{Answer, Host, check_any, check_text, run};
 use crate::texts::{FOUR, text_without, with_workers};
-use std::alloc::Global;
+use std::alloc::{AllocError, Global};
 use std::test::Fail;
 
 // Scenarios of one node, up to their workers, their texts and their statuses. One node alone casts the same votes in every schedule.
 // Its coins of rounds 0, 1 and 2 are 0, 0 and 1 with the seed 0.
-const ALONE: [(&str, &str, u8); 4] = [
+const ALONE: [(&str, &str, u8); 6] = [
     (
         r#"{"nodes":1,"faulty":0,"epochs":1,"rounds":3,"seed":0,"submit":[{"node":0,"tx":"6869"}]"#,
         "run nodes 1 faulty 0 version 1 epochs 1
@@ -22,6 +22,25 @@ end 0
     (
         r#"{"nodes":1,"faulty":0,"epochs":1,"rounds":2,"seed":0,"submit":[{"node":0,"tx":"6869"}]"#,
         "run nodes 1 faulty 0 version 1 epochs 1
+node 0 running
+end 5
+",
+        5,
+    ),
+    (
+        r#"{"nodes":1,"faulty":0,"epochs":1,"rounds":3,"seed":0,"version":2,"submit":[{"node":0,"tx":"6869"}]"#,
+        "run nodes 1 faulty 0 version 2 epochs 1
+node 0 running
+epoch 0 batches 1
+batch 0 txs 1
+tx 6869
+end 0
+",
+        0,
+    ),
+    (
+        r#"{"nodes":1,"faulty":0,"epochs":1,"rounds":2,"seed":0,"version":2,"submit":[{"node":0,"tx":"6869"}]"#,
+        "run nodes 1 faulty 0 version 2 epochs 1
 node 0 running
 end 5
 ",
@@ -69,6 +88,27 @@ fn one_node(rt: HostRuntime) -> Result<(), Fail> {
     Ok(())
 }
 
+// Fourteen epochs, in which the journals of the node fold, and each batch is empty.
+#[test]
+fn one_node_for_long(rt: HostRuntime) -> Result<(), Fail> {
+    let alloc = rt.alloc();
+    let front = "run nodes 1 faulty 0 version 1 epochs 14\nnode 0 running\n";
+    let mut text = String::from_str(alloc, front)?;
+    for epoch in 0..14u32 {
+        let lines = format!(in alloc; "epoch {epoch} batches 1\nbatch 0 txs 0\n")?;
+        text.push_str(lines.as_str())?;
+    }
+    text.push_str("end 0\n")?;
+    let node = r#"{"nodes":1,"faulty":0,"epochs":14,"rounds":12,"seed":58"#;
+    for workers in [1, 4] {
+        let scenario = with_workers(alloc, node, "", workers)?;
+        let answer = run(&rt, alloc, scenario.as_str())?;
+        check_text(&rt, &answer, 0, text.as_str(), scenario.as_str());
+        check_any(&rt, alloc, &answer, &[0], scenario.as_str())?;
+    }
+    Ok(())
+}
+
 const KINDS: [&str; 6] = [
     "silent",
     "equivocate",
@@ -108,9 +148,15 @@ const THREE_EPOCHS: &str =
 // Scenarios, keys besides, the statuses that a schedule may leave, and a line of each text.
 type Row = (&'static str, &'static str, &'static [u8], &'static str);
 
-const ROWS: [Row; 12] = [
+const ROWS: [Row; 15] = [
     (FOUR, "", &[0, 5], "node 3 running\n"),
     (FOUR, r#","version":2"#, &[0, 5], "node 3 running\n"),
+    (
+        FOUR,
+        r#","links":[{"every":1,"at":0,"shape":"once"}]"#,
+        &[0, 5],
+        "node 3 running\n",
+    ),
     (
         FOUR,
         r#","links":[{"every":1,"at":0,"shape":"twice"}]"#,
@@ -150,6 +196,13 @@ const ROWS: [Row; 12] = [
         &[0, 5],
         "node 1 running\n",
     ),
+    // a fault that is never met
+    (
+        FOUR,
+        r#","faults":[{"node":1,"actor":1,"call":1000000}]"#,
+        &[0, 5],
+        "node 1 running\n",
+    ),
     // the disk of a lane fails in its first entry
     (
         FOUR,
@@ -165,15 +218,23 @@ const ROWS: [Row; 12] = [
         "node 3 liar\n",
     ),
     (
-        r#"{"nodes":6,"faulty":1,"epochs":2,"submit":[{"node":0,"tx":"61"},{"node":5,"tx":"66"}]"#,
+        r#"{"nodes":6,"faulty":1,"epochs":2,"submit":[{"node":0,"tx":"61"},{"node":1,"tx":"62"},{"node":1,"tx":"6263"},
+{"node":2,"tx":"63"},{"node":3,"tx":"64"},{"node":4,"tx":"65"},{"node":5,"tx":"66"}]"#,
         "",
         &[0, 5],
         "node 5 running\n",
     ),
+    // one transaction at three nodes, and at one of them twice
+    (
+        r#"{"nodes":4,"faulty":1,"epochs":1,"submit":[{"node":0,"tx":"61"},{"node":1,"tx":"61"},{"node":2,"tx":"61"},{"node":2,"tx":"61"}]"#,
+        "",
+        &[0, 5],
+        "node 3 running\n",
+    ),
 ];
 
 // Whether a text has a line, or several, that stand behind another.
-fn has_lines(text: &[u8], lines: &str) -> bool {
+pub(crate) fn has_lines(text: &[u8], lines: &str) -> bool {
     text.windows(lines.len().max(1))
         .any(|part| part == lines.as_bytes())
 }
@@ -188,6 +249,40 @@ fn rows_of_one_thread(rt: HostRuntime) -> Result<(), Fail> {
             check_any(&rt, alloc, &answer, statuses, scenario.as_str())?;
             assert!(rt; has_lines(answer.out.held(), lines), "{scenario}");
         }
+    }
+    Ok(())
+}
+
+// The first byte of each post of a node, in order, 0 for a post of no bytes.
+fn first_bytes(alloc: Global, answer: &Answer, node: u8) -> Result<Vec<u8>, AllocError> {
+    let mut firsts = Vec::new(alloc);
+    for post in &answer.report.history {
+        if post.from == node {
+            firsts.push(post.bytes.as_slice().first().copied().unwrap_or(0))?;
+        }
+    }
+    Ok(firsts)
+}
+
+// Two liars among seven nodes, each at its own node: one sends each node a VAL at its start, and the other answers the first post that
+// reaches it by a byte of no vote and that post with a bit turned.
+#[test]
+fn two_liars(rt: HostRuntime) -> Result<(), Fail> {
+    let alloc = rt.alloc();
+    let keys =
+        r#","liars":[{"node":5,"name":"equivocate","hears":0},{"node":6,"name":"babble","hears":1}]"#;
+    for workers in [1, 4] {
+        let seven = r#"{"nodes":7,"faulty":2,"epochs":1"#;
+        let scenario = with_workers(alloc, seven, keys, workers)?;
+        let answer = run(&rt, alloc, scenario.as_str())?;
+        check_any(&rt, alloc, &answer, &[0, 5], scenario.as_str())?;
+        assert_eq!(rt;
+            first_bytes(alloc, &answer, 5)?.as_slice(),
+            [1u8; 7].as_slice()
+        );
+        let answers = first_bytes(alloc, &answer, 6)?;
+        assert_eq!(rt; answers.len(), 2);
+        assert_eq!(rt; answers.first(), Some(&0xff));
     }
     Ok(())
 }
