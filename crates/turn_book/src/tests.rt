@@ -8,7 +8,8 @@ use std::sync::Wait;
 use std::test::Fail;
 use std::thread::{Threads, join};
 
-const MANY: u32 = 1_000;
+// So many that threads meet often, and one that no turn wakes would sleep for ever.
+const MANY: u32 = 200_000;
 
 // Adds as many notes, each in a turn.
 fn add_all<R: Wait>(
