@@ -6,6 +6,7 @@ use hb_rules::Report;
 use liar_cast::{Liar, cast};
 use quiet_check::is_quiet;
 use std::alloc::{AllocError, Global};
+use std::process::Abort;
 use std::sync::Wait;
 use std::test::Fail;
 use std::thread::Threads;
@@ -35,12 +36,10 @@ fn run<R: Threads + Wait + Sync>(
 }
 
 // Each ends with every epoch closed, or with rounds that are spent. All its ledgers agree, and nothing is left to do.
-#[test]
-fn generated_runs(rt: HostRuntime) -> Result<(), Fail> {
-    let alloc = rt.alloc();
-    for number in 0..300u64 {
+fn check(rt: &(impl Abort + Threads + Wait + Sync), alloc: Global, from: u64) -> Result<(), Fail> {
+    for number in from..from.saturating_add(50) {
         let mut report = Report::empty(alloc);
-        let (status, out) = run(&rt, alloc, number, &mut report)?;
+        let (status, out) = run(rt, alloc, number, &mut report)?;
         assert!(rt; status == 0 || status == 5, "{number}");
         assert_eq!(rt; report.status, status, "{number}");
         let text = format!(in alloc;
@@ -51,4 +50,34 @@ fn generated_runs(rt: HostRuntime) -> Result<(), Fail> {
         assert!(rt; is_quiet(alloc, &report)?, "{number}");
     }
     Ok(())
+}
+
+#[test]
+fn generated_runs_from_0(rt: HostRuntime) -> Result<(), Fail> {
+    check(&rt, rt.alloc(), 0)
+}
+
+#[test]
+fn generated_runs_from_50(rt: HostRuntime) -> Result<(), Fail> {
+    check(&rt, rt.alloc(), 50)
+}
+
+#[test]
+fn generated_runs_from_100(rt: HostRuntime) -> Result<(), Fail> {
+    check(&rt, rt.alloc(), 100)
+}
+
+#[test]
+fn generated_runs_from_150(rt: HostRuntime) -> Result<(), Fail> {
+    check(&rt, rt.alloc(), 150)
+}
+
+#[test]
+fn generated_runs_from_200(rt: HostRuntime) -> Result<(), Fail> {
+    check(&rt, rt.alloc(), 200)
+}
+
+#[test]
+fn generated_runs_from_250(rt: HostRuntime) -> Result<(), Fail> {
+    check(&rt, rt.alloc(), 250)
 }
