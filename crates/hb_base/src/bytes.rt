@@ -1,27 +1,34 @@
-ghost use Rattle.std.specs.Prelude.{◌≡◌, IfOk, nat_eq, refl, Some};
+//! Byte strings that never change.
+ghost use Rattle.std.specs.Prelude.{◌≡◌, ◌+◌, ◌≤◌, IfOk, nat_eq, refl, Some, length, take, drop};
 ghost use Rattle.std.specs.Ordering.{nat_cmp};
 ghost use Rattle.std.specs.Cmp.Lexicographic.{pointwise, slice_cmp, nat_list_eq_equiv, nat_list_cmp_total, texts_ties, texts_po};
 ghost use Rattle.std.specs.Cmp.{partial_equiv_from_equiv};
 
 use std::alloc::{AllocError, Global};
 use std::cmp::Ordering;
+use std::fmt;
 use std::marker::Model;
 use std::sync::ArcSlice;
 
 /// A byte string that never changes. Its owners, which may be in several threads, share one copy of the bytes, which
 /// goes with the last of them. Clauses see it as the list of its bytes.
-#[derive(Debug, Drop)]
+#[derive(Drop)]
 pub struct Bytes {
-    bytes: ArcSlice<u8>,
+    // The string is so many of these bytes, from this place on: owners of a part keep the whole.
+    whole: ArcSlice<u8>,
+    from: usize,
+    len: usize,
 }
 
 impl Model for Bytes {
-    ghost use Rattle.std.specs.Prelude.{ℕ, List};
+    ghost use Rattle.std.specs.Prelude.{ℕ, List, ◌+◌, ◌≤◌, take, drop, length};
     ghost use Rattle.std.specs.Arc.{arc_slice_items};
 
     ghost Value = { List ℕ };
 
-    ghost view = { λ b. arc_slice_items b.bytes };
+    ghost view = { λ b. take b.len (drop b.from (arc_slice_items b.whole)) };
+
+    ghost invariant = { λ b. b.from + b.len ≤ length (arc_slice_items b.whole) };
 }
 
 impl Bytes {
@@ -29,8 +36,12 @@ impl Bytes {
     pub fn copy(alloc: Global, from: &[u8]) -> Result<Bytes, AllocError>
         ensures { IfOk result (λ b. b ≡ from.now) }
     {
-        let bytes = ArcSlice::from_slice(alloc, from)?;
-        Ok(Bytes { bytes })
+        let whole = ArcSlice::from_slice(alloc, from)?;
+        Ok(Bytes {
+            whole,
+            from: 0,
+            len: from.len(),
+        })
     }
 
     /// The same bytes, without a copy of them. Err where there is no memory for the count of owners: the bytes are
@@ -38,15 +49,34 @@ impl Bytes {
     pub fn from_vec(bytes: Vec<u8>) -> Result<Bytes, AllocError>
         ensures { IfOk result (λ b. b ≡ bytes.items) }
     {
-        let bytes = ArcSlice::from_vec(bytes)?;
-        Ok(Bytes { bytes })
+        let len = bytes.len();
+        let whole = ArcSlice::from_vec(bytes)?;
+        Ok(Bytes {
+            whole,
+            from: 0,
+            len,
+        })
+    }
+
+    /// So many of the bytes, from this place on: one more owner of the whole, and no copy. Err only where 2 ^ 63 - 1 owners are
+    /// counted already.
+    pub fn part(&self, from: usize, len: usize) -> Result<Bytes, AllocError>
+        requires { from + len ≤ length self.now }
+        ensures { IfOk result (λ b. b ≡ take len (drop from self.now)) }
+    {
+        let whole = self.whole.clone()?;
+        Ok(Bytes {
+            whole,
+            from: self.from + from,
+            len,
+        })
     }
 
     /// The bytes, lent.
     pub fn as_slice(&self) -> &[u8]
         ensures { result.now ≡ self.now }
     {
-        self.bytes.as_slice()
+        &self.whole.as_slice()[self.from..self.from + self.len]
     }
 }
 
@@ -56,8 +86,18 @@ impl Clone for Bytes {
     ghost is_clone = { λ b copy. copy ≡ b };
 
     fn clone(&self) -> Result<Bytes, AllocError> {
-        let bytes = self.bytes.clone()?;
-        Ok(Bytes { bytes })
+        let whole = self.whole.clone()?;
+        Ok(Bytes {
+            whole,
+            from: self.from,
+            len: self.len,
+        })
+    }
+}
+
+impl fmt::Debug for Bytes {
+    fn fmt<W: fmt::Write>(&self, f: &mut fmt::Formatter<W>) -> Result<(), fmt::Error> {
+        self.as_slice().fmt(f)
     }
 }
 

@@ -1,3 +1,4 @@
+//! The numbers of a run.
 ghost use Rattle.std.specs.Prelude.{◌≡◌, ℕ, ◌+◌, ◌-◌, ◌*◌, ◌<◌, ◌≤◌, ◌↔◌, Bool, true, false, replicate, IsSome, IfSome, IsTrue};
 ghost use Rattle.hb_base.specs.Numbers.{numbers, AreSound};
 ghost use Rattle.hb_base.specs.NodeSet.{is_in};

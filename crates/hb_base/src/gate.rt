@@ -1,3 +1,5 @@
+//! A gate before each delivery, which a test may close.
+
 /// What a run enters before each delivery, under the lock of the actor that it is for. It promises nothing: a test
 /// may hold a thread there, to make a schedule happen.
 pub trait Gate: Sync {

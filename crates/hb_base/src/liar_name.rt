@@ -1,3 +1,4 @@
+//! The names of liars.
 ghost use Rattle.std.specs.Prelude.{◌≡◌, ◌↔◌, IsSome, IfSome};
 ghost use Rattle.hb_base.specs.LiarName.{is_name_byte, IsName};
 

@@ -1,3 +1,4 @@
+//! A source and a sink in memory, of which chosen calls fail.
 ghost use Rattle.std.specs.Prelude.{◌≡◌, ℕ, ◌+◌, ◌-◌, ◌^◌, ◌<◌, ◌≤◌, ◌↔◌, min, [], ◌++◌, List, length, drop, Some, IsErr, IsTrue, IfOk, OnOk, OnErr, MatchResult, Contains};
 ghost use Rattle.std.specs.Io.{ReadsAtMost};
 ghost use Rattle.std.specs.Io.KnownBytes.{ReadConsumes};

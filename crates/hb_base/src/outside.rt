@@ -1,3 +1,4 @@
+//! Where input comes from, and where output goes.
 ghost use Rattle.std.specs.Prelude.{ℕ, ◌<◌, List, length, Option};
 ghost use Rattle.std.specs.Io.{ReadsAtMost};
 ghost use Rattle.std.specs.Io.KnownBytes.{ReadConsumes};

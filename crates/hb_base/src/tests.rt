@@ -73,6 +73,20 @@ fn byte_strings(rt: HostRuntime) -> Result<(), Fail> {
 }
 
 #[test]
+fn parts_of_byte_strings(rt: HostRuntime) -> Result<(), Fail> {
+    let whole = Bytes::copy(rt.alloc(), b"honey badger")?;
+    let badger = whole.part(6, 6)?;
+    let middle = badger.part(1, 3)?;
+    let end = badger.part(6, 0)?;
+    drop(whole);
+    drop(badger);
+    assert_eq!(rt; middle.as_slice(), b"adg".as_slice());
+    assert_eq!(rt; middle.clone()?.part(2, 1)?.as_slice(), b"g".as_slice());
+    assert!(rt; end.as_slice().is_empty() && end < middle);
+    Ok(())
+}
+
+#[test]
 fn a_source_in_pieces(rt: HostRuntime) -> Result<(), Fail> {
     let alloc = rt.alloc();
     let mut source = MemorySource::new(Bytes::copy(alloc, b"honey")?, 2, vec![in alloc; 2]?);

@@ -1,9 +1,10 @@
+//! What an actor hears of a post.
 ghost use Rattle.std.specs.Prelude.{◌≡◌, true, IfOk};
 ghost use Rattle.hb_wire.specs.Addresses.{reaches};
 ghost use Rattle.hb_rules.specs.Hearing.{round_of, is_below, is_within, heeds, hearing_of};
 
 use hb_base::Config;
-use hb_wire::{Post, Vote, WireFault, read};
+use hb_wire::{Post, Vote, WireFault, read_shared};
 use std::alloc::{AllocError, Global};
 use std::marker::Model;
 
@@ -35,7 +36,7 @@ pub fn hear(
     ensures { IfOk result (λ heard. heard ≡ hearing_of config.now node actor post.now) }
 {
     let n = config.n();
-    match read(alloc, n, config.version(), post.bytes.as_slice()) {
+    match read_shared(alloc, n, config.version(), &post.bytes) {
         Ok(vote) if heeds(n, node, actor, post, &vote) && is_within(config, &vote) => {
             let from = if actor == n { post.actor } else { post.from };
             Ok(Some(Heard { from, vote }))

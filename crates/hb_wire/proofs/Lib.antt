@@ -5,4 +5,5 @@ pub mod ListLemmas
 pub mod VoteLemmas
 pub mod GlanceLemmas
 pub mod BatchLemmas
+pub mod PartLemmas
 pub mod Equality

@@ -82,6 +82,11 @@ length-siblings n branch is =
     let low : branch.len ≤ 4 = is.padded.len in
     length-take-le branch.len branch.digests (omega arith) ∙ is.len
 
+-- a branch's digests have 32 bytes each
+pub length-path : (n : ℕ) (branch : Branch) → IsPath n branch → length (flat_map (λ digest. digest) (siblings branch)) ≡ 32 * branch.len
+length-path n branch is =
+    length-joined (siblings branch) is.digests ∙ ap (λ k. 32 * k) (length-siblings n branch is ∙ sym is.len)
+
 abbrev pub with_digests : ℕ → List (List ℕ) → Branch
 with_digests len digests = record { len = len; digests = digests }
 

@@ -1,4 +1,6 @@
 -- The vote that a view is of.
+use Rattle.std.specs.Prelude.{◌≡◌, ℕ, ◌+◌, ◌≤◌, List, length, take, drop}
+use Rattle.hb_wire.specs.Votes.{Spells}
 use Rattle.hb_wire.specs.declared.vote_view.VoteView.{VoteView}
 use Rattle.hb_wire.specs.declared.vote_view.VoteView.TheVariants as views
 use Rattle.hb_wire.specs.declared.vote.Vote.{Vote}
@@ -20,3 +22,12 @@ vote_of (views.Conf epoch round vals) = Conf epoch round vals
 vote_of (views.Propose epoch value) = Propose epoch value.now
 vote_of (views.NoMore epoch) = NoMore epoch
 vote_of (views.Closed epoch list) = Closed epoch list
+
+-- these bytes stand in others, from a place on
+pub record StandsAt (at : ℕ) (bytes whole : List ℕ) : Type 0 where
+  pub inside : at + length bytes ≤ length whole
+  pub same : take (length bytes) (drop at whole) ≡ bytes
+
+-- the bytes spell the vote, among some number of nodes and under some version of the rules
+abbrev pub IsSpelling : Vote → List ℕ → Type 0
+IsSpelling vote bytes = (n : ℕ) × (version : ℕ) × Spells n version bytes vote

@@ -3,7 +3,7 @@
 ghost use Rattle.std.specs.Prelude.{◌≡◌, ℕ, ◌++◌, ◌≤◌, ◌<◌, ◌^◌, List, length, slice_index_or, IfOk, OnOk, IfSome};
 ghost use Rattle.std.specs.List.{flat_map};
 ghost use Rattle.std.specs.Int.{w16, to_be_bytes};
-ghost use Rattle.hb_base.specs.Limits.{longest_value};
+ghost use Rattle.hb_base.specs.Limits.{most_batch, longest_value};
 ghost use Rattle.hb_base.specs.ByteLists.{AreBytes};
 ghost use Rattle.hb_wire.specs.Reading.{Shows};
 ghost use Rattle.hb_wire.specs.Batches.{IsBatch, batch_bytes, transaction_bytes, short_at, transaction_at, transactions_at, after_transactions};
@@ -55,7 +55,7 @@ fn after_transactions_of(count: u16, bytes: &[u8]) -> Option<&[u8]>
 #[tactic(auto, unfolding(crate::specs::Batches::count_at))]
 fn count_of(bytes: &[u8]) -> Option<u16>
     ensures shows { Shows (λ count. count) result (count_at bytes.now) }
-    ensures few { IfSome result (λ count. count ≤ 64) }
+    ensures few { IfSome result (λ count. count ≤ most_batch) }
 {
     let (count, rest) = short_of(bytes)?;
     if (MOST_BATCH as u16) < count {

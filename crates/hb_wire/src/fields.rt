@@ -1,6 +1,7 @@
 //! The fields of a vote in its bytes: each with the bytes after it.
 
 ghost use Rattle.std.specs.Prelude.{◌≡◌, ◌+◌, ◌*◌, ◌≤◌, length};
+ghost use Rattle.hb_base.specs.Limits.{most_nodes};
 ghost use Rattle.merkle_branch.specs.Digests.{height as height_of};
 ghost use Rattle.hb_wire.specs.Reading.{Shows, byte_at, bit_at, set_at, block_at, sized_at, path_at, branch_in, item_at, after_items, list_at};
 ghost use Rattle.hb_wire.specs.Lists.{item};
@@ -80,7 +81,7 @@ pub(crate) fn sized_of(least: usize, most: usize, bytes: &[u8]) -> Field<'_, &[u
 // The branch that has these digests.
 fn branch_of(n: u8, path: &[u8]) -> Branch
     requires some { 1 ≤ n }
-    requires few { n ≤ 16 }
+    requires few { n ≤ most_nodes }
     requires whole { length path.now ≡ 32 * height_of n }
     ensures { result ≡ branch_in n path.now }
 {
@@ -99,7 +100,7 @@ fn branch_of(n: u8, path: &[u8]) -> Branch
 #[tactic(auto, unfolding(crate::specs::Reading::path_at))]
 pub(crate) fn path_of(n: u8, bytes: &[u8]) -> Field<'_, Branch>
     requires some { 1 ≤ n }
-    requires few { n ≤ 16 }
+    requires few { n ≤ most_nodes }
     ensures { Shows (λ x. (x.0, x.1.now)) result (path_at n bytes.now) }
 {
     let (path, rest) = block_of(32 * height(n) as usize, bytes)?;
@@ -136,7 +137,7 @@ fn after_items_of(n: u8, count: u8, bytes: &[u8]) -> Option<&[u8]>
 // A list of items, with its count in front.
 #[tactic(auto, using(crate::proofs::ItemLemmas::count_first), unfolding(crate::specs::Reading::list_at))]
 pub(crate) fn list_of(n: u8, bytes: &[u8]) -> Field<'_, ItemsView<'_>>
-    requires { n ≤ 16 }
+    requires { n ≤ most_nodes }
     ensures { Shows (λ x. (x.0, x.1.now)) result (list_at n bytes.now) }
 {
     let (count, rest) = byte_of(n as u16 + 1, bytes)?;

@@ -1,6 +1,7 @@
 //! What can be seen of a vote's bytes without a copy.
 
 ghost use Rattle.std.specs.Prelude.{◌≡◌, ℕ, ◌≤◌, ◌<◌, List, slice_index_or, IsSomeAnd, IfSome, IfNone, None};
+ghost use Rattle.hb_base.specs.Limits.{most_nodes};
 ghost use Rattle.hb_wire.specs.declared.items.Item.{Item};
 ghost use Rattle.hb_wire.specs.Reading.{vote_at};
 ghost use Rattle.hb_wire.specs.Glances.{IsGlance, HasItemAt, IsClosedRest};
@@ -14,7 +15,7 @@ use crate::reading::view;
 /// where they spell none. It takes no memory.
 pub fn glance<'a>(n: u8, version: u8, bytes: &'a [u8]) -> Option<Glance<'a>>
     requires some { 1 ≤ n }
-    requires few { n ≤ 16 }
+    requires few { n ≤ most_nodes }
     ensures none { IfNone result (vote_at n version bytes.now ≡ None) }
     ensures seen { IfSome result (λ g. IsSomeAnd (vote_at n version bytes.now) (λ vote. IsGlance bytes.now vote g.kind g.epoch g.rest.now)) }
 {

@@ -1,7 +1,7 @@
 //! Bytes to votes, with nothing copied.
 
 ghost use Rattle.std.specs.Prelude.{◌≡◌, ◌≤◌, length, OnSome};
-ghost use Rattle.hb_base.specs.Limits.{most_rounds};
+ghost use Rattle.hb_base.specs.Limits.{most_nodes, most_rounds};
 ghost use Rattle.hb_wire.specs.Reading.{Shows, pair, ended, byte_at, bit_at, val_at, echo_at, ready_at, delivered_at, est_at, bval_at, aux_at};
 ghost use Rattle.hb_wire.specs.Reading.{pick_at, conf_at, coin_at, decided_at, propose_at, closed_at, broadcast_at, agreement_at, desk_at, fields_at};
 ghost use Rattle.hb_wire.specs.Reading.{whole_vote};
@@ -17,7 +17,7 @@ const ROUNDS: u16 = MOST_ROUNDS as u16;
 #[tactic(auto, unfolding(crate::specs::Reading::val_at))]
 fn val_of(n: u8, epoch: u8, bytes: &[u8]) -> Field<'_, VoteView<'_>>
     requires some { 1 ≤ n }
-    requires few { n ≤ 16 }
+    requires few { n ≤ most_nodes }
     ensures { Shows (λ x. (vote_of x.0, x.1.now)) result (val_at n epoch bytes.now) }
 {
     let (target, rest) = byte_of(n as u16, bytes)?;
@@ -37,7 +37,7 @@ fn val_of(n: u8, epoch: u8, bytes: &[u8]) -> Field<'_, VoteView<'_>>
 #[tactic(auto, unfolding(crate::specs::Reading::echo_at))]
 fn echo_of(n: u8, epoch: u8, bytes: &[u8]) -> Field<'_, VoteView<'_>>
     requires some { 1 ≤ n }
-    requires few { n ≤ 16 }
+    requires few { n ≤ most_nodes }
     ensures { Shows (λ x. (vote_of x.0, x.1.now)) result (echo_at n epoch bytes.now) }
 {
     let (root, rest) = array_of(bytes)?;
@@ -55,7 +55,7 @@ fn echo_of(n: u8, epoch: u8, bytes: &[u8]) -> Field<'_, VoteView<'_>>
 #[tactic(auto, unfolding(crate::specs::Reading::coin_at))]
 fn coin_of(n: u8, epoch: u8, bytes: &[u8]) -> Field<'_, VoteView<'_>>
     requires some { 1 ≤ n }
-    requires few { n ≤ 16 }
+    requires few { n ≤ most_nodes }
     ensures { Shows (λ x. (vote_of x.0, x.1.now)) result (coin_at n epoch bytes.now) }
 {
     let (round, rest) = byte_of(ROUNDS, bytes)?;
@@ -124,7 +124,7 @@ fn decided_of(epoch: u8, bytes: &[u8]) -> Field<'_, VoteView<'_>>
 
 #[tactic(auto, unfolding(crate::specs::Reading::closed_at))]
 fn closed_of(n: u8, epoch: u8, bytes: &[u8]) -> Field<'_, VoteView<'_>>
-    requires { n ≤ 16 }
+    requires { n ≤ most_nodes }
     ensures { Shows (λ x. (vote_of x.0, x.1.now)) result (closed_at n epoch bytes.now) }
 {
     let (list, rest) = list_of(n, bytes)?;
@@ -168,7 +168,7 @@ fn aux_of(epoch: u8, bytes: &[u8]) -> Field<'_, VoteView<'_>>
 #[tactic(auto, unfolding(crate::specs::Reading::broadcast_at))]
 fn broadcast_of(n: u8, kind: u8, epoch: u8, bytes: &[u8]) -> Field<'_, VoteView<'_>>
     requires some { 1 ≤ n }
-    requires few { n ≤ 16 }
+    requires few { n ≤ most_nodes }
     ensures { Shows (λ x. (vote_of x.0, x.1.now)) result (broadcast_at n kind epoch bytes.now) }
 {
     match kind {
@@ -184,7 +184,7 @@ fn broadcast_of(n: u8, kind: u8, epoch: u8, bytes: &[u8]) -> Field<'_, VoteView<
 #[tactic(auto, unfolding(crate::specs::Reading::agreement_at))]
 fn agreement_of(n: u8, version: u8, kind: u8, epoch: u8, bytes: &[u8]) -> Field<'_, VoteView<'_>>
     requires some { 1 ≤ n }
-    requires few { n ≤ 16 }
+    requires few { n ≤ most_nodes }
     ensures { Shows (λ x. (vote_of x.0, x.1.now)) result (agreement_at n version kind epoch bytes.now) }
 {
     match kind {
@@ -202,7 +202,7 @@ fn agreement_of(n: u8, version: u8, kind: u8, epoch: u8, bytes: &[u8]) -> Field<
 // The fields of a kind of the desk.
 #[tactic(auto, unfolding(crate::specs::Reading::desk_at, crate::specs::Reading::no_more_at))]
 fn desk_of(n: u8, kind: u8, epoch: u8, bytes: &[u8]) -> Field<'_, VoteView<'_>>
-    requires { n ≤ 16 }
+    requires { n ≤ most_nodes }
     ensures { Shows (λ x. (vote_of x.0, x.1.now)) result (desk_at n kind epoch bytes.now) }
 {
     match kind {
@@ -217,7 +217,7 @@ fn desk_of(n: u8, kind: u8, epoch: u8, bytes: &[u8]) -> Field<'_, VoteView<'_>>
 #[tactic(auto, unfolding(crate::specs::Reading::fields_at))]
 fn fields_of(n: u8, version: u8, kind: u8, epoch: u8, bytes: &[u8]) -> Field<'_, VoteView<'_>>
     requires some { 1 ≤ n }
-    requires few { n ≤ 16 }
+    requires few { n ≤ most_nodes }
     ensures { Shows (λ x. (vote_of x.0, x.1.now)) result (fields_at n version kind epoch bytes.now) }
 {
     if kind < 0x05 {
@@ -233,7 +233,7 @@ fn fields_of(n: u8, version: u8, kind: u8, epoch: u8, bytes: &[u8]) -> Field<'_,
 #[tactic(auto, unfolding(crate::specs::Reading::whole_vote, crate::specs::Reading::front_vote))]
 pub(crate) fn scan(n: u8, version: u8, bytes: &[u8]) -> Option<VoteView<'_>>
     requires some { 1 ≤ n }
-    requires few { n ≤ 16 }
+    requires few { n ≤ most_nodes }
     ensures { Shows vote_of result (whole_vote n version bytes.now) }
 {
     match bytes {

@@ -1,7 +1,7 @@
 //! Votes whose byte strings are still where they were read.
 
-ghost use Rattle.std.specs.Prelude.{◌≡◌, IfOk};
-ghost use Rattle.hb_wire.specs.Views.{vote_of};
+ghost use Rattle.std.specs.Prelude.{◌≡◌, IfOk, IfSome};
+ghost use Rattle.hb_wire.specs.Views.{vote_of, StandsAt, IsSpelling};
 
 use crate::items_view::ItemsView;
 use crate::vote::{Vals, Vote};
@@ -87,6 +87,19 @@ impl VoteView<'_> {
     pub fn to_vote(self, alloc: Global) -> Result<Vote, AllocError>
         ensures { IfOk result (λ vote. vote ≡ vote_of self.entry) }
     {
+        self.to_vote_over(alloc, None)
+    }
+
+    // The vote. Where the bytes are given that spell it, its shard or its value is a part of them. The batches of a Closed are
+    // copied: no actor hears of them.
+    pub(crate) fn to_vote_over(
+        self,
+        alloc: Global,
+        whole: Option<&Bytes>,
+    ) -> Result<Vote, AllocError>
+        requires { IfSome whole (λ bytes. IsSpelling (vote_of self) bytes.now) }
+        ensures { IfOk result (λ vote. vote ≡ vote_of self.entry) }
+    {
         Ok(match self {
             VoteView::Val {
                 epoch,
@@ -98,7 +111,7 @@ impl VoteView<'_> {
                 epoch,
                 target,
                 root,
-                shard: Bytes::copy(alloc, shard)?,
+                shard: held(alloc, whole, VAL_FRONT, shard)?,
                 branch,
             },
             VoteView::Echo {
@@ -109,13 +122,13 @@ impl VoteView<'_> {
             } => Vote::Echo {
                 epoch,
                 root,
-                shard: Bytes::copy(alloc, shard)?,
+                shard: held(alloc, whole, ECHO_FRONT, shard)?,
                 branch,
             },
             VoteView::Ready { epoch, root } => Vote::Ready { epoch, root },
             VoteView::Delivered { epoch, value } => Vote::Delivered {
                 epoch,
-                value: Bytes::copy(alloc, value)?,
+                value: held(alloc, whole, VALUE_FRONT, value)?,
             },
             VoteView::Est { epoch, round, bit } => Vote::Est { epoch, round, bit },
             VoteView::Bval { epoch, round, bit } => Vote::Bval { epoch, round, bit },
@@ -138,7 +151,7 @@ impl VoteView<'_> {
             VoteView::Conf { epoch, round, vals } => Vote::Conf { epoch, round, vals },
             VoteView::Propose { epoch, value } => Vote::Propose {
                 epoch,
-                value: Bytes::copy(alloc, value)?,
+                value: held(alloc, whole, VALUE_FRONT, value)?,
             },
             VoteView::NoMore { epoch } => Vote::NoMore { epoch },
             VoteView::Closed { epoch, list } => Vote::Closed {
@@ -146,5 +159,24 @@ impl VoteView<'_> {
                 list: list.to_items(alloc)?,
             },
         })
+    }
+}
+
+// What stands before a value: a kind, an epoch, and its length in four bytes. Before a shard stands a root besides, and in a Val a
+// target.
+const VALUE_FRONT: usize = 2 + 4;
+
+const ECHO_FRONT: usize = 2 + 32 + 4;
+
+const VAL_FRONT: usize = 3 + 32 + 4;
+
+// These bytes, as the part of the whole that stands at this place, or else copied.
+fn held(alloc: Global, whole: Option<&Bytes>, at: usize, bytes: &[u8]) -> Result<Bytes, AllocError>
+    requires { IfSome whole (λ whole. StandsAt at bytes.now whole.now) }
+    ensures { IfOk result (λ held. held ≡ bytes.now) }
+{
+    match whole {
+        Some(whole) => whole.part(at, bytes.len()),
+        None => Bytes::copy(alloc, bytes),
     }
 }

@@ -8,6 +8,7 @@ ghost use Rattle.hb_wire.specs.Votes.{IsVote, Spells, AreItems, spelling, row, s
 ghost use Rattle.hb_wire.specs.Reading.{vote_at};
 
 use crate::items::Item;
+use crate::lengths::spelling_len;
 use crate::vote::Vote;
 use hb_base::Bytes;
 use merkle_branch::Branch;
@@ -152,7 +153,9 @@ pub fn write(alloc: Global, n: u8, version: u8, vote: &Vote) -> Result<Bytes, Al
     ensures spelled { IfOk result (λ bytes. Spells n version bytes vote.now) }
     ensures meant { IfOk result (λ bytes. vote_at n version bytes ≡ Some vote.now) }
 {
-    let mut out = Vec::new(alloc);
+    // Adding up the lengths of the fields, of which no byte is read, spares the copies of a vector that grows, and up to
+    // as much room again as the vote takes.
+    let mut out = Vec::with_capacity(alloc, spelling_len(n, version, vote))?;
     put_vote(&mut out, n, version, vote)?;
     Bytes::from_vec(out)
 }

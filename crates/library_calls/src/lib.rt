@@ -3,7 +3,7 @@
 #![tactic(auto)]
 
 ghost use Rattle.std.specs.Prelude.{◌≡◌, ◌-◌, ◌*◌, ◌<◌, ◌≤◌, length, IfOk, OnOk, slice_index_or, [], ◌++◌, true, false};
-ghost use Rattle.std.specs.List.{filter_map};
+ghost use Rattle.std.specs.List.{flat_map};
 ghost use Rattle.std.specs.Option.{option_to_list};
 ghost use Rattle.hb_base.specs.Limits.{most_nodes, most_epochs, most_rounds, longest_value};
 ghost use Rattle.merkle_branch.specs.Digests.{leaf_digests, tree_root};
@@ -18,7 +18,7 @@ ghost use Rattle.hb_wire.specs.Batches.{IsBatch, batch_bytes};
 
 use coin_deal::{Deal, DealtShare};
 use hb_base::{Bytes, Config};
-use hb_wire::{Post, Vote, WireFault, equality_laws, read, write, write_batch};
+use hb_wire::{Post, Vote, WireFault, equality_laws, read_shared, write, write_batch};
 use merkle_branch::{Leaves, Tree};
 use rs_shards::{encode, value_of};
 use std::alloc::{AllocError, Global};
@@ -148,7 +148,7 @@ pub fn proposal(
 
 /// The votes that posts spell, in order. What spells none is passed over.
 pub fn heard(alloc: Global, config: &Config, posts: &[Post]) -> Result<Vec<Vote>, AllocError>
-    ensures { IfOk result (λ votes. votes.items ≡ filter_map (λ post. vote_at config.now.n config.now.version post.bytes) posts.now) }
+    ensures { IfOk result (λ votes. votes.items ≡ flat_map (λ post. option_to_list (vote_at config.now.n config.now.version post.bytes)) posts.now) }
 {
     let mut votes = Vec::new(alloc);
     for post in posts {
@@ -174,7 +174,7 @@ fn hear(
 ) -> Result<(), AllocError>
     ensures { OnOk result (votes.new.items ≡ votes.old.items ++ option_to_list (vote_at config.now.n config.now.version post.now.bytes)) }
 {
-    match read(alloc, config.n(), config.version(), post.bytes.as_slice()) {
+    match read_shared(alloc, config.n(), config.version(), &post.bytes) {
         Ok(vote) => {
             votes.push(vote)?;
             Ok(())

@@ -1,9 +1,10 @@
 -- Tables of claims, and places of lists.
-use Rattle.std.proofs.Common.{◌≡◌, ℕ, zero, suc, ◌+◌, Bool, true, false, List, [], ◌∷◌, ◌++◌, bytes_eq, replicate, slice_index_or, unwrap_or, Option, None, Some, if◌then◌else◌, refl, ap, ◌∙◌, arith}
+use Rattle.std.proofs.Common.{◌≡◌, ℕ, zero, suc, ◌+◌, ◌<◌, ◌==◌, Bool, true, false, List, [], ◌∷◌, ◌++◌, bytes_eq, length, replicate, slice_index_or, slice_set, unwrap_or, Option, None, Some, if◌then◌else◌, refl, ap, ◌∙◌, arith}
 use Rattle.std.specs.BTreeMap.{BTreeMap, get}
 use Rattle.std.specs.Cmp.Lexicographic.{slice_cmp}
 use Rattle.std.specs.Ordering.{nat_cmp, is_eq}
-use Rattle.std.proofs.lemmas.List.{length-replicate}
+use Rattle.std.proofs.lemmas.Bool.{eqb-true, eqb-false}
+use Rattle.std.proofs.lemmas.List.{length-replicate, length-set, get_or-set_same, get_or-set_other}
 use Rattle.std.proofs.lemmas.Map.Text.{is_eq-slice_cmp}
 use Rattle.observer.specs.Claims.{Table, no_nodes, nodes_at, Sets}
 use Rattle.hb_base.specs.Limits.{most_nodes}
@@ -55,3 +56,19 @@ pub heard_new : (c : Numbers) (claims : Table) (taken : List (Option (List ℕ))
     → HasHeard (record { config = c; claims = claims; taken = taken }) []
 heard_new c claims taken count empty none = rw (empty, none) (heard_none (record { config = c; claims = []; taken = replicate count None })
     (λ bytes a. blank most_nodes a false) (λ e. blank count e None))
+
+-- ---- one list more
+
+pub sound_set : (c : Numbers) (before after : Table) (taken new : List (Option (List ℕ))) (e : ℕ) (bytes : List ℕ)
+    → IsSoundView (record { config = c; claims = before; taken = taken }) → e < c.epochs → new ≡ slice_set taken e (Some bytes)
+    → closes_one c (Some bytes) ≡ true → IsSoundView (record { config = c; claims = after; taken = new })
+sound_set c before after taken new e bytes sound inside is closes = record {
+  places = ap length is ∙ length-set taken e (Some bytes) ∙ sound.places;
+  closed = λ i. ap (λ (lists : List (Option (List ℕ))). closes_one c (slice_index_or lists i None)) is ∙ at i (i == e) refl;
+}
+  where
+    at : (i : ℕ) (b : Bool) → (i == e) ≡ b → closes_one c (slice_index_or (slice_set taken e (Some bytes)) i None) ≡ true
+    at i true same =
+        ap (λ k. closes_one c (slice_index_or (slice_set taken e (Some bytes)) k None)) (eqb-true i e same)
+        ∙ ap (closes_one c) (get_or-set_same taken e (Some bytes) None (omega (arith, inside, sound.places))) ∙ closes
+    at i false other = ap (closes_one c) (get_or-set_other taken e i (Some bytes) None (eqb-false i e other)) ∙ sound.closed i

@@ -7,7 +7,7 @@ ghost use Rattle.quiet_check.specs.Receipts.{AreReceived};
 
 use hb_base::Config;
 use hb_rules::{End, Heard, Report, hear};
-use hb_wire::{Post, Vote, WireFault, read};
+use hb_wire::{Post, Vote, WireFault, read_shared};
 use std::alloc::{AllocError, Global};
 
 // The votes that an actor has cast in a run, in order.
@@ -36,7 +36,7 @@ fn vote_by(
     if post.from != node || post.actor != actor {
         return Ok(None);
     }
-    match read(alloc, config.n(), config.version(), post.bytes.as_slice()) {
+    match read_shared(alloc, config.n(), config.version(), &post.bytes) {
         Ok(vote) => Ok(Some(vote)),
         Err(WireFault::NotAMessage) => Ok(None),
         Err(WireFault::Memory) => Err(AllocError),

@@ -1,3 +1,5 @@
+//! Why shards are not rebuilt.
+
 use thiserror::Error;
 
 /// Why shards cannot be rebuilt.

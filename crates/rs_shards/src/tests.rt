@@ -1,3 +1,5 @@
+//! What no clause says: that calls find memory and succeed, and that the shards are those that were worked out elsewhere.
+
 ghost use Rattle.std.specs.Prelude.{◌≡◌, ◌<◌, ◌≤◌, ◌^◌, length, IfOk, All, slice_get};
 ghost use Rattle.hb_base.specs.Limits.{most_nodes, longest_value, longest_shard};
 ghost use Rattle.rs_shards.specs.Rebuilding.{AreShards};
@@ -5,7 +7,7 @@ ghost use Rattle.rs_shards.specs.Rebuilding.{AreShards};
 mod codes;
 
 use super::*;
-use codes::CODES;
+use codes::{CODES, PAIRS, TRIPLES};
 use std::process::Abort;
 use std::test::Fail;
 
@@ -74,6 +76,15 @@ fn every_code(rt: HostRuntime) -> Result<(), Fail> {
         }
         assert_eq!(rt; hash, wanted, "k = {k} of n = {n}");
     }
+    Ok(())
+}
+
+/// Every choice of two of 4 shards of a value, and of three of 7, gives back all.
+#[test]
+fn every_choice(rt: HostRuntime) -> Result<(), Fail> {
+    let value = b"The quick brown fox jumps over lazy dogs";
+    compare(&rt, rt.alloc(), 4, 2, value, &PAIRS, 0)?;
+    compare(&rt, rt.alloc(), 7, 3, value, &TRIPLES, 0)?;
     Ok(())
 }
 

@@ -155,7 +155,10 @@ fn is_read(alloc: Global, n: u8, version: u8, bytes: &[u8], vote: &Vote) -> Resu
     requires few { n ≤ 16 }
 {
     let found = read(alloc, n, version, bytes)?;
-    Ok(found == *vote)
+    let whole = Bytes::copy(alloc, bytes)?;
+    let shared = read_shared(alloc, n, version, &whole)?;
+    drop(whole);
+    Ok(found == *vote && shared == *vote)
 }
 
 fn is_viewed(alloc: Global, n: u8, version: u8, bytes: &[u8], vote: &Vote) -> Result<bool, Fail>

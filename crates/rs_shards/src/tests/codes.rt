@@ -1,3 +1,17 @@
+//! The rows of the tests: choices of shards, and what another program gives for each code.
+
+/// Every choice of two of 4 nodes, each node a bit.
+pub static PAIRS: [u16; 6] = [0b0011, 0b0101, 0b0110, 0b1001, 0b1010, 0b1100];
+
+/// Every choice of three of 7 nodes.
+pub static TRIPLES: [u16; 35] = [
+    0b0000111, 0b0001011, 0b0001101, 0b0001110, 0b0010011, 0b0010101, 0b0010110, 0b0011001,
+    0b0011010, 0b0011100, 0b0100011, 0b0100101, 0b0100110, 0b0101001, 0b0101010, 0b0101100,
+    0b0110001, 0b0110010, 0b0110100, 0b0111000, 0b1000011, 0b1000101, 0b1000110, 0b1001001,
+    0b1001010, 0b1001100, 0b1010001, 0b1010010, 0b1010100, 0b1011000, 0b1100001, 0b1100010,
+    0b1100100, 0b1101000, 0b1110000,
+];
+
 /// For each k of each n up to 16: n, k, every other k nodes and k drawn ones, each node a bit, and the FNV-1a hash of
 /// 32 bits over all shards of the values of the test, one value after another. They were computed by another program,
 /// which multiplies by shifts and sums and takes each weight from Lagrange's formula.
