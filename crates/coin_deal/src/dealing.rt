@@ -3,9 +3,10 @@
 ghost use Rattle.std.specs.Prelude.{◌≡◌, IfOk};
 
 use crate::dealt::Deal;
-use crate::leaves::root_over;
+use crate::leaves::leaves_of;
 use crate::words::{draw_bytes, draw_salts};
 use hb_base::Config;
+use merkle_branch::Tree;
 use seed_words::words_of;
 use std::alloc::{AllocError, Global};
 
@@ -19,16 +20,17 @@ pub fn deal(alloc: Global, config: &Config) -> Result<Deal, AllocError>
     let mut words = words_of(config.seed(), 0);
     let mut coefficients = Vec::with_capacity(alloc, count * width)?;
     let mut salts = Vec::with_capacity(alloc, count * n)?;
-    let mut roots = Vec::with_capacity(alloc, count)?;
+    let mut trees = Vec::with_capacity(alloc, count)?;
     for coin in 0..count {
         draw_bytes(&mut words, width, &mut coefficients)?;
         draw_salts(&mut words, n, &mut salts)?;
-        roots.push(root_over(alloc, &coefficients[coin * width..], &salts[coin * n..])?)?;
+        let leaves = leaves_of(&coefficients[coin * width..], &salts[coin * n..]);
+        trees.push(Tree::build(alloc, &leaves)?)?;
     }
     Ok(Deal {
         config: *config,
         coefficients,
         salts,
-        roots,
+        trees,
     })
 }

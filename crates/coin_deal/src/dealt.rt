@@ -9,7 +9,7 @@ ghost use Rattle.coin_deal.specs.Deal.{coefficients as dealt_coefficients, salt 
 ghost use Rattle.coin_deal.specs.Heard.{heard_share, IsGoodShare, HasForm};
 ghost use Rattle.coin_deal.specs.Holding.{coin_number, coin_count, coin_salts};
 
-use crate::leaves::{leaves_of, share_at};
+use crate::leaves::share_at;
 use gf_field::eval;
 use hb_base::Config;
 use merkle_branch::{Branch, Tree};
@@ -21,10 +21,10 @@ use std::marker::Model;
 pub struct Deal {
     pub(crate) config: Config,
 
-    // The coins lie one behind the other: f + 1 coefficients, n salts and one root each.
+    // The coins lie one behind the other: f + 1 coefficients, n salts and one tree each.
     pub(crate) coefficients: Vec<u8>,
     pub(crate) salts: Vec<[u8; 16]>,
-    pub(crate) roots: Vec<[u8; 32]>,
+    pub(crate) trees: Vec<Tree>,
 }
 
 impl Model for Deal {
@@ -35,7 +35,7 @@ impl Model for Deal {
 
     ghost view = { λ d. d.config };
 
-    ghost invariant = { λ d. HoldsAllCoins d.config d.coefficients.items d.salts.items d.roots.items };
+    ghost invariant = { λ d. HoldsAllCoins d.config d.coefficients.items d.salts.items d.trees.items };
 }
 
 /// The share of a node, and the salt and the branch that prove it against the coin's root.
@@ -54,7 +54,7 @@ impl Deal {
         requires round { r < self.now.rounds }
         ensures { result ≡ coin_root self.now e j r }
     {
-        self.roots[self.number_of(e, j, r)]
+        self.tree_of(e, j, r).root()
     }
 
     /// The coin of an epoch, a lane and a round: the lowest bit of the secret.
@@ -68,10 +68,10 @@ impl Deal {
     }
 
     /// The share of node m of the coin of an epoch, a lane and a round. The branch leads from it to the root. It
-    /// comes from the coin's tree, which is not kept but built again.
+    /// is read from the coin's tree, which the deal keeps, so that no memory is asked for.
     pub fn share_of(
         &self,
-        alloc: Global,
+        _alloc: Global,
         e: u8,
         j: u8,
         r: u8,
@@ -89,11 +89,10 @@ impl Deal {
     {
         let coefficients = self.coefficients_of(e, j, r);
         let salts = self.salts_of(e, j, r);
-        let tree = Tree::build(alloc, &leaves_of(coefficients, salts))?;
         Ok(DealtShare {
             share: share_at(coefficients, m),
             salt: salts[m as usize],
-            branch: tree.branch(m),
+            branch: self.tree_of(e, j, r).branch(m),
         })
     }
 
@@ -121,6 +120,16 @@ impl Deal {
         let n = self.config.n() as usize;
         let start = self.number_of(e, j, r) * n;
         &self.salts[start..start + n]
+    }
+
+    // The tree of one coin.
+    fn tree_of(&self, e: u8, j: u8, r: u8) -> &Tree
+        requires epoch { e < self.now.epochs }
+        requires lane { j < self.now.n }
+        requires round { r < self.now.rounds }
+        ensures { result.now ≡ leaf_digests (coin_leaves self.now e j r) }
+    {
+        &self.trees[self.number_of(e, j, r)]
     }
 
     // How many coins stand before this one.

@@ -1,14 +1,13 @@
 //! The leaves of a coin's tree.
 
-ghost use Rattle.std.specs.Prelude.{◌≡◌, ◌+◌, ◌<◌, ◌≤◌, ◌∷◌, length, IfOk};
+ghost use Rattle.std.specs.Prelude.{◌≡◌, ◌+◌, ◌<◌, ◌≤◌, ◌∷◌, length};
 ghost use Rattle.hb_base.specs.Limits.{most_nodes};
 ghost use Rattle.gf_field.specs.Polynomial.{polynomial_at};
-ghost use Rattle.merkle_branch.specs.Digests.{leaf_digests, tree_root};
+ghost use Rattle.merkle_branch.specs.Digests.{leaf_digests};
 ghost use Rattle.coin_deal.specs.Holding.{leaves_with};
 
 use gf_field::eval;
-use merkle_branch::{Leaves, Tree};
-use std::alloc::{AllocError, Global};
+use merkle_branch::Leaves;
 
 /// The share of node m: the value at m + 1.
 pub(crate) fn share_at(coefficients: &[u8], m: u8) -> u8
@@ -28,20 +27,6 @@ pub(crate) fn leaves_of(coefficients: &[u8], salts: &[[u8; 16]]) -> Leaves
         leaves.add(&leaf_of(share_at(coefficients, m as u8), &salts[m]));
     }
     leaves
-}
-
-/// The root of the tree over these leaves.
-pub(crate) fn root_over(
-    alloc: Global,
-    coefficients: &[u8],
-    salts: &[[u8; 16]],
-) -> Result<[u8; 32], AllocError>
-    requires some { 1 ≤ length salts.now }
-    requires few { length salts.now ≤ most_nodes }
-    ensures { IfOk result (λ root. root ≡ tree_root (leaves_with coefficients.now salts.now)) }
-{
-    let tree = Tree::build(alloc, &leaves_of(coefficients, salts))?;
-    Ok(tree.root())
 }
 
 /// The leaf of a node: its share, and its salt behind it.

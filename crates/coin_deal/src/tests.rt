@@ -1,3 +1,5 @@
+//! What no clause says: that calls find memory and succeed, and that the deals are those that Python gives.
+
 ghost use Rattle.std.specs.Prelude.{◌≡◌, ◌≤◌, length, IfOk};
 ghost use Rattle.coin_deal.specs.Sharing.{AreOfDistinctNodes};
 

@@ -112,14 +112,22 @@ impl Area {
         self.least = self.least.min(len);
     }
 
-    /// Makes the content durable. It touches only what was written or cut off since the last sync.
+    /// Makes the content durable. It touches only what was written or cut off since the last sync, and gives room back
+    /// where less than half of the most that it held is left.
     pub(crate) fn settle(&mut self)
         ensures { self.new ≡ at_rest self.old.content }
     {
         settle_bytes(&mut self.synced, &self.content, &self.written, self.least);
         self.written.clear();
-        self.least = self.content.len();
-        self.most = self.content.len();
+        let len = self.content.len();
+        // What is left is copied into two smaller blocks: fewer bytes for each than were cut off. A half that grows again
+        // asks for the room again, in blocks that double.
+        if len < self.most / 2 {
+            self.content.shrink_to_fit();
+            self.synced.shrink_to(len);
+        }
+        self.least = len;
+        self.most = len;
     }
 
     /// What a stop leaves, with nothing pending.

@@ -1,8 +1,7 @@
 -- A seat as its callers see it.
-use Rattle.std.specs.Prelude.{◌≡◌, ℕ, Bool, true, false, List, [], ◌∷◌, Some, None, unwrap_or, Contains}
+use Rattle.std.specs.Prelude.{◌≡◌, ℕ, Bool, true, false, List, [], ◌∷◌, Option, Some, None, unwrap_or, Contains}
 use Rattle.atomic_table.specs.Seated.{TableId}
 use Rattle.atomic_table.specs.Table.{Me}
-use Rattle.std.specs.Prelude.{Option}
 use Rattle.turn_book.specs.declared.view.View.{View}
 use Rattle.turn_book.specs.Entries.{entries_of}
 

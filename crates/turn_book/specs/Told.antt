@@ -24,7 +24,7 @@ module _ {E : Type 0} where
   abbrev pub spent : View E
   spent = fresh [] [] None
 
-  -- a seat is split from this one: it has no number, or this one
+  -- a seat is split from this one: it has no number, or the one given
   abbrev pub bare : View E → View E
   bare v = fresh v.seen [] None
 

@@ -1,5 +1,5 @@
 //! The book, and its turns.
-ghost use Rattle.std.specs.Prelude.{◌≡◌, ◌≢◌, ℕ, ◌+◌, ◌<◌, ◌⊎◌, ◌++◌, true, false, List, [], ◌∷◌, Contains, IfOk};
+ghost use Rattle.std.specs.Prelude.{◌≡◌, ℕ, ◌+◌, ◌<◌, ◌⊎◌, ◌++◌, true, false, List, [], ◌∷◌, Contains, IfOk};
 ghost use mathlib.Core.List.{IsPrefix};
 ghost use Rattle.turn_book.specs.Entries.{entries_of, AddsAtMostOne, NamesGiven};
 ghost use Rattle.turn_book.specs.SeatState.{new_seat, AllEnded};

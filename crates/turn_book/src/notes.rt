@@ -1,5 +1,5 @@
 //! A small caller of a book, which only the tests run: notes, and who leaves one in a turn.
-ghost use Rattle.std.specs.Prelude.{◌≡◌, ◌≢◌, ℕ, ◌+◌, ◌<◌, true, false, [], ◌∷◌, ◌++◌, OnOk, OnErr};
+ghost use Rattle.std.specs.Prelude.{◌≡◌, ◌+◌, false, [], ◌∷◌, ◌++◌, OnOk, OnErr};
 ghost use Rattle.turn_book.specs.Entries.{entries_of};
 
 use crate::{History, Seat, TurnBook};

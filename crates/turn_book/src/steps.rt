@@ -1,5 +1,5 @@
 //! The steps of a book on its table, which several of its calls make.
-ghost use Rattle.std.specs.Prelude.{◌≡◌, ℕ, ◌<◌, [], ◌∷◌, false, Some, Contains};
+ghost use Rattle.std.specs.Prelude.{◌≡◌, ℕ, ◌<◌, [], false, Some, Contains};
 ghost use Rattle.turn_book.specs.Kept.{IsTable};
 ghost use Rattle.turn_book.specs.Told.{Settles, Takes, left_of, right_of};
 

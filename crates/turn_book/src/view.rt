@@ -9,10 +9,11 @@ pub(crate) const LOCK: usize = 0;
 
 pub(crate) const FREE: u64 = 0;
 
-// A seat has the value, and no thread sleeps.
+// A seat has the value. Its turn ends without a wake: if a thread sleeps, a wake is on its way, or one that is awake marks the lock
+// before it sleeps.
 pub(crate) const HELD: u64 = 1;
 
-// A seat has the value, and a thread may sleep.
+// A seat has the value, and a thread may sleep: the turn ends with a wake.
 pub(crate) const AWAITED: u64 = 2;
 
 pub(crate) const WORDS: usize = 1;
@@ -28,7 +29,7 @@ pub struct View<E> {
     pub beside: LinkedList<E>,
     /// The seat's number, which no other seat has. A seat that is made to be taken in at once has none.
     pub number: Option<u32>,
-    /// Whether the seat has the value.
+    /// Whether it is the seat's turn.
     pub in_turn: bool,
     /// How often the seat was shown the whole history.
     pub looks: u64,

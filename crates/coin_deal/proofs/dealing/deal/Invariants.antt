@@ -6,5 +6,5 @@ use Rattle.coin_deal.proofs.dealing.deal.Given as goal
 abbrev pub invariant-loop-coin : goal.invariant-loop-coin
 invariant-loop-coin l = record {
   next : l.words ≡ start l.config l.coin;
-  held : HoldsCoins l.config l.coin l.coefficients.items l.salts.items l.roots.items;
+  held : HoldsCoins l.config l.coin l.coefficients.items l.salts.items l.trees.items;
 }
