@@ -1,8 +1,8 @@
 -- The coin of the first good shares, and any coin that was heard.
-use Rattle.std.proofs.Common.{◌≡◌, ℕ, suc, ◌+◌, ◌-◌, ◌<◌, ◌≤◌, nat_lt, Bool, true, false, ◌&&◌, ◌||◌, ◌==◌, List, [], ◌∷◌, ◌++◌, Contains, Option, None, Some, length, take, get_or, refl, sym, ap, ◌∙◌, subst, arith, append-nil}
+use Rattle.std.proofs.Common.{◌≡◌, ℕ, suc, ◌+◌, ◌-◌, ◌<◌, ◌≤◌, nat_lt, Bool, true, false, ◌&&◌, ◌||◌, ◌==◌, List, [], ◌∷◌, ◌++◌, Contains, Option, None, Some, IfSome, if◌then◌else◌, length, take, get_or, refl, sym, ap, ◌∙◌, subst, arith, append-nil}
 use Rattle.std.specs.List.{list_any, filter_map, range_with_len}
 use Rattle.std.specs.Option.{is_some}
-use Rattle.std.proofs.lemmas.Bool.{and_parts, eqb-true, lt-ltb}
+use Rattle.std.proofs.lemmas.Bool.{and_parts, and_from, eqb-true, eq-eqb, lt-ltb}
 use Rattle.std.proofs.lemmas.List.Elements.{All-weaker, Contains-get_or}
 use Rattle.std.proofs.lemmas.List.FromFn.{get_or-range_with_len, length-range_with_len}
 use Rattle.std.proofs.lemmas.List.{take_more, take_all}
@@ -10,8 +10,10 @@ use Rattle.hb_base.specs.Counting.{count_nodes}
 use Rattle.hb_base.specs.Numbers.{Numbers, AreSound}
 use Rattle.hb_wire.specs.declared.vote.Vote.{Vote}
 use Rattle.hb_wire.specs.declared.vote.Vote.TheVariants.{Coin}
+use Rattle.merkle_branch.specs.declared.Branch.{Branch}
 use Rattle.coin_deal.specs.Deal.{coin_root, dealt_coin}
-use Rattle.coin_deal.specs.Heard.{HeardShare, heard_share, has_share_of, is_good_share, is_good}
+use Rattle.coin_deal.specs.Heard.{HeardShare, heard_share, has_share_of, is_good_share, is_good, IsGood}
+use Rattle.coin_deal.proofs.Shares.{is_good-is}
 use Rattle.coin_share.specs.Shares.{SharesView}
 use Rattle.hb_rules.specs.Claims.{is_bit}
 use Rattle.hb_rules.specs.Coins.{is_share, share_count, hearing_of_share, HasCoin, share_in, shares_in, coin_in}
@@ -28,7 +30,8 @@ use Rattle.aba_core.proofs.Hearing.{shares_none, shares_one}
 use Rattle.aba_world.proofs.Coins.{coin_dealt}
 use Rattle.quiet_agreement.proofs.Coins.{taken_all, few_nodes}
 use Rattle.hb_rules.specs.Apart.{IsHeardApart}
-use Rattle.agreement_judge.specs.Offers.{with_some, offered, shares_at}
+use Rattle.agreement_judge.specs.Checked.{is_share_checked}
+use Rattle.agreement_judge.specs.Adding.{with_some, with_shown, shares_at}
 
 -- ---- a known coin
 
@@ -133,10 +136,34 @@ any_from p n r inside =
 pub any_past : (p : ℕ → Bool) (n r : ℕ) → n ≤ r → list_any p (range_with_len r (n - r)) ≡ false
 any_past p n r past = let none : n - r ≡ 0 = omega (arith, past) in ap (λ (k : ℕ). list_any p (range_with_len r k)) none
 
--- ---- shares that are offered as they were heard
+-- ---- shares that are added as they were heard
 
-offered_more : (c : Numbers) (e j r : ℕ) (heard : List Hearing) (h : Hearing) → offered (shares_at c e j r heard) e r h ≡ shares_at c e j r (heard ++ h ∷ [])
-offered_more c e j r heard h = by (share_in e r h.from h.vote) refl
+-- the share that a vote shows is good, if it was checked
+pub share_good : (c : Numbers) (e j r m : ℕ) (vote : Vote) → is_share_checked c j m vote ≡ true
+    → IfSome (share_in e r m vote) (IsGood (coin_root c e j r) c.n)
+share_good c e j r m (Coin d s share salt branch) checked = by ((d == e) && (s == r)) refl
+  where
+    a : HeardShare
+    a = heard_share m share salt branch
+
+    by : (b : Bool) → ((d == e) && (s == r)) ≡ b → IfSome (if b then Some a else None) (IsGood (coin_root c e j r) c.n)
+    by true is =
+        let same = and_parts (d == e) (s == r) is in
+        subst (λ (x : ℕ). IsGood (coin_root c x j r) c.n a) (eqb-true d e same.0)
+        (subst (λ (y : ℕ). IsGood (coin_root c d j y) c.n a) (eqb-true s r same.1) (is_good-is (coin_root c d j s) c.n a checked))
+    by false is = tt
+share_good c e j r m vote checked = tt
+
+-- it is the share of a Coin of the round
+pub share_there : (root : List ℕ) (n e r m d s share : ℕ) (salt : List ℕ) (branch : Branch) (vote : Vote) → vote ≡ Coin d s share salt branch → d ≡ e → s ≡ r
+    → IfSome (share_in e r m vote) (IsGood root n) → IsGood root n (heard_share m share salt branch)
+share_there root n e r m d s share salt branch vote is epoch round good =
+    let here : ((d == e) && (s == r)) ≡ true = and_from (d == e) (s == r) (eq-eqb d e epoch) (eq-eqb s r round) in
+    subst (λ (b : Bool). IfSome (if b then Some (heard_share m share salt branch) else None) (IsGood root n)) here
+    (subst (λ (v : Vote). IfSome (share_in e r m v) (IsGood root n)) is good)
+
+shown_more : (c : Numbers) (e j r : ℕ) (heard : List Hearing) (h : Hearing) → with_shown (shares_at c e j r heard) e r h ≡ shares_at c e j r (heard ++ h ∷ [])
+shown_more c e j r heard h = by (share_in e r h.from h.vote) refl
   where
     by : (o : Option HeardShare) → share_in e r h.from h.vote ≡ o → with_some (shares_at c e j r heard) o ≡ shares_at c e j r (heard ++ h ∷ [])
     by None is =
@@ -144,12 +171,12 @@ offered_more c e j r heard h = by (share_in e r h.from h.vote) refl
     by (Some a) is =
         ap (λ (xs : List HeardShare). record { n = c.n; f = c.f; root = coin_root c e j r; added = xs }) (sym (shares_one c e j r heard h a is))
 
-pub offered_next : (c : Numbers) (e j r : ℕ) (heard : List Hearing) (k : ℕ) (h : Hearing) (old new : SharesView) → k < length heard
-    → h ≡ get_or heard k h → old ≡ shares_at c e j r (take k heard) → new ≡ offered old e r h → new ≡ shares_at c e j r (take (k + 1) heard)
-offered_next c e j r heard k h old new inside is before more =
-    more ∙ ap (λ (s : SharesView). offered s e r h) before ∙ offered_more c e j r (take k heard) h
+pub shown_next : (c : Numbers) (e j r : ℕ) (heard : List Hearing) (k : ℕ) (h : Hearing) (old new : SharesView) → k < length heard
+    → h ≡ get_or heard k h → old ≡ shares_at c e j r (take k heard) → new ≡ with_shown old e r h → new ≡ shares_at c e j r (take (k + 1) heard)
+shown_next c e j r heard k h old new inside is before more =
+    more ∙ ap (λ (s : SharesView). with_shown s e r h) before ∙ shown_more c e j r (take k heard) h
     ∙ ap (shares_at c e j r) (sym (take_more heard k h inside ∙ ap (λ (g : Hearing). take k heard ++ g ∷ []) (sym is)))
 
-pub offered_all : (c : Numbers) (e j r : ℕ) (heard : List Hearing) (k : ℕ) (s : SharesView) → length heard ≤ k → s ≡ shares_at c e j r (take k heard)
+pub shown_all : (c : Numbers) (e j r : ℕ) (heard : List Hearing) (k : ℕ) (s : SharesView) → length heard ≤ k → s ≡ shares_at c e j r (take k heard)
     → s ≡ shares_at c e j r heard
-offered_all c e j r heard k s all is = is ∙ ap (shares_at c e j r) (take_all k heard all)
+shown_all c e j r heard k s all is = is ∙ ap (shares_at c e j r) (take_all k heard all)

@@ -1,3 +1,4 @@
+pub mod Checked
 pub mod Names
 pub mod Tests
-pub mod Offers
+pub mod Adding

@@ -4,6 +4,7 @@ ghost use Rattle.hb_wire.specs.Votes.{epoch_of};
 ghost use Rattle.hb_rules.specs.Agreement.{MayAgree};
 ghost use Rattle.hb_rules.specs.Terms.{AreHeardSpelled};
 ghost use Rattle.hb_rules.specs.Apart.{IsHeardApart};
+ghost use Rattle.agreement_judge.specs.Checked.{AreSharesChecked};
 
 use crate::place::Place;
 use crate::rows::{
@@ -18,10 +19,12 @@ use std::alloc::{AllocError, Global};
 /// has heard (after Mostéfaoui, Moumen and Raynal, PODC 2014; with a confirm phase where the rules are of version 2). A yes is always
 /// right. A no is right where all was heard in a legal history in which no two strings that were hashed share a digest: only there do
 /// all choices of f + 1 good shares give one coin, and it looks at the first f + 1 that were heard. Votes of other epochs and parts may
-/// be among those that were cast and heard. Err where there is no memory; all but a share of a coin takes none.
+/// be among those that were cast and heard, but no share that is not good for its own epoch and round, and so none of a round that the
+/// run has not: whoever hands them over has checked each once, and no look at them checks them again. Err where there is no memory,
+/// which only a share of a coin may want, and today none does.
 ///
-/// Time is linear in the number of votes; an estimate of a later round checks the shares of the round before, a decision those of
-/// each round in which the lane picked the bit alone.
+/// Time is linear in the number of votes; an estimate of a later round makes the coin of the round before, a decision that of each
+/// round in which the lane picked the bit alone.
 pub fn may_agree(
     alloc: Global,
     deal: &Deal,
@@ -35,6 +38,7 @@ pub fn may_agree(
     requires lane { place.now.lane < place.now.config.n }
     requires epoch { place.now.epoch < place.now.config.epochs }
     requires same { epoch_of vote.now ≡ place.now.epoch }
+    requires checked { AreSharesChecked place.now.config place.now.lane heard.now }
     requires spelled { AreHeardSpelled place.now.config heard.now }
     ensures sound { IfOk result (λ may. may ≡ true → MayAgree place.now.config place.now.node place.now.lane own.now heard.now vote.now) }
     ensures complete { IfOk result (λ may. IsHeardApart place.now.config place.now.node place.now.lane heard.now

@@ -3,6 +3,7 @@ ghost use Rattle.std.specs.Prelude.{◌≡◌, ◌+◌, ◌-◌, ◌*◌, ◌<�
 ghost use Rattle.hb_rules.specs.AgreementRows.{view_of, is_gathered_one, is_confirmed_one, was_settled, dealt};
 ghost use Rattle.hb_rules.specs.Same.{same_vote};
 ghost use Rattle.hb_rules.specs.Marks.{bvals, any_pick, any_coin, has, support};
+ghost use Rattle.agreement_judge.specs.Checked.{AreSharesChecked};
 ghost use Rattle.agreement_judge.specs.Names.{claim_of, mark_of};
 ghost use Rattle.agreement_judge.specs.Tests.{gathers_both, gathers, confirms_both, is_confirmed, is_left, goes_on, begins, allows_est, allows_bval, allows_aux, allows_conf, allows_pick, allows_decided, settles};
 
@@ -138,6 +139,7 @@ fn goes_on(deal: &Deal, place: &Place, round: u8, bit: bool, own: &[Vote], heard
     requires lane { place.now.lane < place.now.config.n }
     requires epoch { place.now.epoch < place.now.config.epochs }
     requires round { round < place.now.config.rounds }
+    requires checked { AreSharesChecked place.now.config place.now.lane heard.now }
     ensures { result ≡ goes_on (view_of place.now.config place.now.node place.now.lane place.now.epoch own.now heard.now) round bit }
 {
     let alone = Cast::Pick {
@@ -161,6 +163,7 @@ fn begins(deal: &Deal, place: &Place, round: u8, bit: bool, own: &[Vote], heard:
     requires lane { place.now.lane < place.now.config.n }
     requires epoch { place.now.epoch < place.now.config.epochs }
     requires round { round < place.now.config.rounds }
+    requires checked { AreSharesChecked place.now.config place.now.lane heard.now }
     ensures { result ≡ begins (view_of place.now.config place.now.node place.now.lane place.now.epoch own.now heard.now) round bit }
 {
     if round > 0 {
@@ -184,6 +187,7 @@ pub(crate) fn may_estimate(
     requires deal { deal.now ≡ place.now.config }
     requires lane { place.now.lane < place.now.config.n }
     requires epoch { place.now.epoch < place.now.config.epochs }
+    requires checked { AreSharesChecked place.now.config place.now.lane heard.now }
     ensures { result ≡ allows_est place.now.config (view_of place.now.config place.now.node place.now.lane place.now.epoch own.now heard.now) round bit }
 {
     is_first(place, round, Cast::AnyEst { round }, own)
@@ -293,6 +297,7 @@ fn settles(deal: &Deal, place: &Place, round: u8, bit: bool, own: &[Vote], heard
     requires lane { place.now.lane < place.now.config.n }
     requires epoch { place.now.epoch < place.now.config.epochs }
     requires round { round < place.now.config.rounds }
+    requires checked { AreSharesChecked place.now.config place.now.lane heard.now }
     ensures { result ≡ settles (view_of place.now.config place.now.node place.now.lane place.now.epoch own.now heard.now) bit round }
 {
     let alone = Cast::Pick {
@@ -312,6 +317,7 @@ fn was_settled(deal: &Deal, place: &Place, bit: bool, own: &[Vote], heard: &[Hea
     requires deal { deal.now ≡ place.now.config }
     requires lane { place.now.lane < place.now.config.n }
     requires epoch { place.now.epoch < place.now.config.epochs }
+    requires checked { AreSharesChecked place.now.config place.now.lane heard.now }
     ensures { result ≡ was_settled (view_of place.now.config place.now.node place.now.lane place.now.epoch own.now heard.now) place.now.config.rounds bit }
 {
     for round in 0..place.config.rounds() {
@@ -333,6 +339,7 @@ pub(crate) fn may_decide(
     requires deal { deal.now ≡ place.now.config }
     requires lane { place.now.lane < place.now.config.n }
     requires epoch { place.now.epoch < place.now.config.epochs }
+    requires checked { AreSharesChecked place.now.config place.now.lane heard.now }
     ensures { result ≡ allows_decided place.now.config (view_of place.now.config place.now.node place.now.lane place.now.epoch own.now heard.now) bit }
 {
     !has(place.epoch, Cast::AnyDecision, own) && was_settled(deal, place, bit, own, heard)

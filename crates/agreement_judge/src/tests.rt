@@ -1,15 +1,17 @@
 //! What no clause says: that calls find memory, and what a lane of a run of one node may cast, row by row. There each count asks
 //! for one node. Votes that are heard are read of their bytes.
-ghost use Rattle.std.specs.Prelude.{◌≡◌, ◌<◌, ◌≤◌, IfOk};
+ghost use Rattle.std.specs.Prelude.{◌≡◌, ◌<◌, ◌≤◌, true, IfOk};
 ghost use Rattle.hb_wire.specs.Votes.{epoch_of};
 ghost use Rattle.hb_rules.specs.History.{HasSpelling};
 ghost use Rattle.hb_rules.specs.Terms.{AreHeardSpelled};
+ghost use Rattle.agreement_judge.specs.Checked.{is_share_checked, AreSharesChecked};
 
 use crate::{Place, may_agree};
-use coin_deal::{Deal, deal};
+use coin_deal::{Deal, deal, leaf_of};
 use hb_base::{Config, NodeSet};
 use hb_rules::Heard;
 use hb_wire::{Vals, Vote, read};
+use merkle_branch::is_branch;
 use std::alloc::Global;
 use std::process::Abort;
 use std::test::Fail;
@@ -20,20 +22,63 @@ fn one_node(version: u8) -> Result<Config, Fail> {
     Ok(config)
 }
 
-// A vote of node 0.
-fn said(alloc: Global, config: &Config, bytes: &[u8]) -> Result<Heard, Fail>
-    ensures { IfOk result (λ said. HasSpelling config.now said.vote) }
+// A vote of these bytes.
+fn vote_of(alloc: Global, config: &Config, bytes: &[u8]) -> Result<Vote, Fail>
+    ensures { IfOk result (λ vote. HasSpelling config.now vote) }
 {
     match read(alloc, config.n(), config.version(), bytes) {
-        Ok(vote) => Ok(Heard { from: 0, vote }),
+        Ok(vote) => Ok(vote),
         Err(_) => Err("no vote".into()),
     }
+}
+
+// A vote of node 0 that is no Coin.
+fn said(alloc: Global, config: &Config, bytes: &[u8]) -> Result<Heard, Fail>
+    ensures spelled { IfOk result (λ said. HasSpelling config.now said.vote) }
+    ensures checked { IfOk result (λ said. is_share_checked config.now 0 said.from said.vote ≡ true) }
+{
+    let vote = vote_of(alloc, config, bytes)?;
+    if let Vote::Coin { .. } = &vote {
+        return Err("a Coin".into());
+    }
+    Ok(Heard { from: 0, vote })
+}
+
+// A Coin of lane 0 of node 0, whose share is checked.
+fn shown(alloc: Global, config: &Config, deal: &Deal, bytes: &[u8]) -> Result<Heard, Fail>
+    requires { deal.now ≡ config.now }
+    ensures spelled { IfOk result (λ said. HasSpelling config.now said.vote) }
+    ensures checked { IfOk result (λ said. is_share_checked config.now 0 said.from said.vote ≡ true) }
+{
+    let n = config.n();
+    prove!(n >= 1);
+    let vote = vote_of(alloc, config, bytes)?;
+    match &vote {
+        Vote::Coin {
+            epoch,
+            round,
+            share,
+            salt,
+            branch,
+        } => {
+            if *epoch >= config.epochs() || *round >= config.rounds() {
+                return Err("no round".into());
+            }
+            let root = deal.root_of(*epoch, 0, *round);
+            if !is_branch(&root, n, 0, &leaf_of(*share, salt), branch) {
+                return Err("a wrong branch".into());
+            }
+        }
+        _ => return Err("no Coin".into()),
+    }
+    Ok(Heard { from: 0, vote })
 }
 
 // The share of node 0 in a round, and the coin.
 fn share_of(alloc: Global, config: &Config, deal: &Deal, round: u8) -> Result<(Heard, bool), Fail>
     requires { deal.now ≡ config.now }
-    ensures { IfOk result (λ shown. HasSpelling config.now shown.0.vote) }
+    ensures spelled { IfOk result (λ shown. HasSpelling config.now shown.0.vote) }
+    ensures checked { IfOk result (λ shown. is_share_checked config.now 0 shown.0.from shown.0.vote ≡ true) }
 {
     if round >= config.rounds() {
         return Err("no round".into());
@@ -48,7 +93,7 @@ fn share_of(alloc: Global, config: &Config, deal: &Deal, round: u8) -> Result<(H
     bytes.extend_from_slice(&[9, 0, round, dealt.share])?;
     bytes.extend_from_slice(&salt)?;
     Ok((
-        said(alloc, config, bytes.as_slice())?,
+        shown(alloc, config, deal, bytes.as_slice())?,
         deal.coin_of(0, 0, round),
     ))
 }
@@ -63,6 +108,7 @@ fn may(
     vote: &Vote,
 ) -> Result<bool, Fail>
     requires deal { deal.now ≡ config.now }
+    requires checked { AreSharesChecked config.now 0 heard.now }
     requires spelled { AreHeardSpelled config.now heard.now }
 {
     let epochs = config.epochs();

@@ -1,5 +1,5 @@
 -- The tests tell what a lane may cast in a broadcast.
-use Rattle.std.proofs.Common.{◌≡◌, ◌↔◌, ℕ, ◌+◌, ◌-◌, ◌*◌, ◌<◌, ◌≤◌, nat_lt, nat_le, Bool, true, not, ◌&&◌, ◌||◌, ◌==◌, inl, inr, List, [], Contains, Option, None, Some, length, get_or, slice_get, refl, sym, ap, ap₂, ◌∙◌, subst, arith, bytes_eq}
+use Rattle.std.proofs.Common.{◌≡◌, ◌↔◌, ℕ, ◌+◌, ◌-◌, ◌*◌, ◌<◌, ◌≤◌, nat_lt, nat_le, Bool, true, not, ◌&&◌, ◌||◌, ◌==◌, inl, inr, List, [], Contains, Option, None, Some, length, get_or, refl, sym, ap, ap₂, ◌∙◌, subst, arith, bytes_eq}
 use Rattle.std.specs.Prelude.{slice_index_or}
 use Rattle.std.specs.List.{list_any}
 use Rattle.std.specs.Option.{is_some}

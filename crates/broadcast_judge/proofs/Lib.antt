@@ -1,2 +1,3 @@
+mod SameShards
 mod Shown
 mod Allowed

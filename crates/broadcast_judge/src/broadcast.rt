@@ -7,6 +7,7 @@ ghost use Rattle.hb_rules.specs.Apart.{IsHeardApart};
 ghost use Rattle.broadcast_judge.specs.Checked.{AreChecked};
 
 use crate::delivering::{may_be_ready, may_deliver};
+use crate::known::Known;
 use crate::lane::Lane;
 use crate::sending::{may_echo, may_send};
 use hb_rules::Heard;
@@ -24,6 +25,7 @@ use std::alloc::{AllocError, Global};
 /// of its root. A Val encodes the value, a Ready and a Delivered rebuild one.
 pub fn may_broadcast(
     alloc: Global,
+    known: &mut Known,
     lane: &Lane,
     own: &[Vote],
     heard: &[Heard],
@@ -41,7 +43,7 @@ pub fn may_broadcast(
     let _sound = lane.config.liars();
     match vote {
         Vote::Val { epoch, target, .. } => {
-            may_send(alloc, lane, *epoch, *target, own, heard, vote)
+            may_send(alloc, known, lane, *epoch, *target, own, heard, vote)
         }
         Vote::Echo {
             epoch,
@@ -49,9 +51,9 @@ pub fn may_broadcast(
             shard,
             branch,
         } => may_echo(lane, *epoch, root, shard, branch, own, heard),
-        Vote::Ready { epoch, root } => may_be_ready(alloc, &lane.config, *epoch, root, own, heard),
+        Vote::Ready { epoch, root } => may_be_ready(alloc, known, lane, *epoch, root, own, heard),
         Vote::Delivered { epoch, value } => {
-            may_deliver(alloc, &lane.config, *epoch, value, own, heard)
+            may_deliver(alloc, known, lane, *epoch, value, own, heard)
         }
         _ => Ok(false),
     }

@@ -8,8 +8,10 @@ ghost use Rattle.broadcast_judge.specs.Checked.{AreChecked};
 ghost use Rattle.broadcast_judge.specs.Tests.{is_carried, is_delivered_by};
 
 use crate::claims::{count_echoes, count_readies};
+use crate::known::Known;
+use crate::lane::Lane;
 use crate::shards::value_of;
-use hb_base::{Bytes, Config};
+use hb_base::Bytes;
 use hb_rules::Heard;
 use hb_wire::Vote;
 use std::alloc::{AllocError, Global};
@@ -23,17 +25,18 @@ fn has_ready(epoch: u8, own: &[Vote]) -> bool
 // Whether what was heard makes a node ready for a root.
 fn is_made_ready(
     alloc: Global,
-    config: &Config,
+    known: &mut Known,
+    lane: &Lane,
     epoch: u8,
     root: &[u8; 32],
     heard: &[Heard],
 ) -> Result<bool, AllocError>
-    requires checked { AreChecked config.now.n heard.now }
-    requires spelled { AreHeardSpelled config.now heard.now }
-    ensures { IfOk result (λ made. made ≡ is_made_ready config.now epoch heard.now root.now) }
+    requires checked { AreChecked lane.now.config.n heard.now }
+    requires spelled { AreHeardSpelled lane.now.config heard.now }
+    ensures { IfOk result (λ made. made ≡ is_made_ready lane.now.config epoch heard.now root.now) }
 {
-    let n = config.n();
-    let f = config.f();
+    let n = lane.config.n();
+    let f = lane.config.f();
     prove!(f < n);
     if count_readies(n, epoch, root, heard) >= f + 1 {
         return Ok(true);
@@ -41,27 +44,28 @@ fn is_made_ready(
     if count_echoes(n, epoch, root, heard) < n - f {
         return Ok(false);
     }
-    let value = value_of(alloc, config, epoch, root, heard)?;
+    let value = value_of(alloc, known, lane, epoch, root, heard)?;
     Ok(value.is_some())
 }
 
 // Whether a node may be ready for a root: what was heard makes it so, and it is ready for none yet.
 pub(crate) fn may_be_ready(
     alloc: Global,
-    config: &Config,
+    known: &mut Known,
+    lane: &Lane,
     epoch: u8,
     root: &[u8; 32],
     own: &[Vote],
     heard: &[Heard],
 ) -> Result<bool, AllocError>
-    requires checked { AreChecked config.now.n heard.now }
-    requires spelled { AreHeardSpelled config.now heard.now }
-    ensures { IfOk result (λ may. may ≡ (not (list_any (is_any_ready epoch) own.now) && is_made_ready config.now epoch heard.now root.now)) }
+    requires checked { AreChecked lane.now.config.n heard.now }
+    requires spelled { AreHeardSpelled lane.now.config heard.now }
+    ensures { IfOk result (λ may. may ≡ (not (list_any (is_any_ready epoch) own.now) && is_made_ready lane.now.config epoch heard.now root.now)) }
 {
     if has_ready(epoch, own) {
         return Ok(false);
     }
-    is_made_ready(alloc, config, epoch, root, heard)
+    is_made_ready(alloc, known, lane, epoch, root, heard)
 }
 
 fn has_delivery(epoch: u8, own: &[Vote]) -> bool
@@ -73,22 +77,23 @@ fn has_delivery(epoch: u8, own: &[Vote]) -> bool
 // Whether a value is delivered under a root.
 fn is_carried(
     alloc: Global,
-    config: &Config,
+    known: &mut Known,
+    lane: &Lane,
     epoch: u8,
     heard: &[Heard],
     value: &Bytes,
     root: &[u8; 32],
 ) -> Result<bool, AllocError>
-    requires checked { AreChecked config.now.n heard.now }
-    requires spelled { AreHeardSpelled config.now heard.now }
-    ensures { IfOk result (λ carried. carried ≡ is_carried config.now epoch heard.now value.now root.now) }
+    requires checked { AreChecked lane.now.config.n heard.now }
+    requires spelled { AreHeardSpelled lane.now.config heard.now }
+    ensures { IfOk result (λ carried. carried ≡ is_carried lane.now.config epoch heard.now value.now root.now) }
 {
-    let n = config.n();
-    let f = config.f();
+    let n = lane.config.n();
+    let f = lane.config.f();
     if count_readies(n, epoch, root, heard) < 2 * f + 1 {
         return Ok(false);
     }
-    match value_of(alloc, config, epoch, root, heard)? {
+    match value_of(alloc, known, lane, epoch, root, heard)? {
         Some(other) => Ok(value.as_slice() == other.as_slice()),
         None => Ok(false),
     }
@@ -97,23 +102,24 @@ fn is_carried(
 // Whether it is delivered under the root for which a node that is no liar is ready in a hearing.
 fn is_delivered_by(
     alloc: Global,
-    config: &Config,
+    known: &mut Known,
+    lane: &Lane,
     epoch: u8,
     heard: &[Heard],
     value: &Bytes,
     said: &Heard,
 ) -> Result<bool, AllocError>
-    requires checked { AreChecked config.now.n heard.now }
-    requires spelled { AreHeardSpelled config.now heard.now }
-    ensures { IfOk result (λ delivered. delivered ≡ is_delivered_by config.now epoch heard.now value.now said.now) }
+    requires checked { AreChecked lane.now.config.n heard.now }
+    requires spelled { AreHeardSpelled lane.now.config heard.now }
+    ensures { IfOk result (λ delivered. delivered ≡ is_delivered_by lane.now.config epoch heard.now value.now said.now) }
 {
-    let is_correct = said.from < config.n() && !config.liars().has(said.from);
+    let is_correct = said.from < lane.config.n() && !lane.config.liars().has(said.from);
     if !is_correct {
         return Ok(false);
     }
     match &said.vote {
         Vote::Ready { epoch: other, root } if *other == epoch => {
-            is_carried(alloc, config, epoch, heard, value, root)
+            is_carried(alloc, known, lane, epoch, heard, value, root)
         }
         _ => Ok(false),
     }
@@ -123,22 +129,23 @@ fn is_delivered_by(
 // ready are enough to look at: in a legal history it is one.
 pub(crate) fn may_deliver(
     alloc: Global,
-    config: &Config,
+    known: &mut Known,
+    lane: &Lane,
     epoch: u8,
     value: &Bytes,
     own: &[Vote],
     heard: &[Heard],
 ) -> Result<bool, AllocError>
-    requires checked { AreChecked config.now.n heard.now }
-    requires spelled { AreHeardSpelled config.now heard.now }
+    requires checked { AreChecked lane.now.config.n heard.now }
+    requires spelled { AreHeardSpelled lane.now.config heard.now }
     ensures { IfOk result (λ may. may ≡ (not (list_any (is_any_delivery epoch) own.now)
-        && list_any (is_delivered_by config.now epoch heard.now value.now) heard.now)) }
+        && list_any (is_delivered_by lane.now.config epoch heard.now value.now) heard.now)) }
 {
     if has_delivery(epoch, own) {
         return Ok(false);
     }
     for said in heard {
-        let delivered = is_delivered_by(alloc, config, epoch, heard, value, said)?;
+        let delivered = is_delivered_by(alloc, known, lane, epoch, heard, value, said)?;
         if delivered {
             return Ok(true);
         }

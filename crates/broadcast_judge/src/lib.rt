@@ -4,6 +4,7 @@
 mod broadcast;
 mod claims;
 mod delivering;
+mod known;
 mod lane;
 mod sending;
 mod shards;
@@ -11,4 +12,5 @@ mod shards;
 mod tests;
 
 pub use broadcast::may_broadcast;
+pub use known::Known;
 pub use lane::Lane;

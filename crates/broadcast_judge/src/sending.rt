@@ -1,56 +1,27 @@
 //! What the sender hands out, and what a node echoes of it.
 ghost use Rattle.std.specs.Prelude.{◌≡◌, ◌<◌, ◌≤◌, ◌&&◌, ◌==◌, not, length, IfOk};
 ghost use Rattle.std.specs.List.{list_any};
-ghost use Rattle.hb_base.specs.Limits.{longest_value};
 ghost use Rattle.hb_wire.specs.declared.vote.Vote.TheVariants.{Val};
 ghost use Rattle.merkle_branch.specs.Branches.{is_branch};
-ghost use Rattle.rs_shards.specs.Completing.{encoded};
-ghost use Rattle.hb_rules.specs.BroadcastRows.{val_of};
 ghost use Rattle.hb_rules.specs.Claims.{is_val_to, is_any_echo};
-ghost use Rattle.hb_rules.specs.Code.{data_count};
 ghost use Rattle.hb_rules.specs.Hearing.{heard_by};
 ghost use Rattle.hb_rules.specs.History.{HasSpelling};
 ghost use Rattle.hb_rules.specs.Same.{same_vote};
 ghost use Rattle.hb_rules.specs.Terms.{AreHeardSpelled};
 ghost use Rattle.broadcast_judge.specs.Tests.{is_source};
 
+use crate::known::Known;
 use crate::lane::Lane;
-use hb_base::{Bytes, Config};
+use hb_base::Bytes;
 use hb_rules::Heard;
 use hb_wire::Vote;
 use merkle_branch::{Branch, is_branch};
-use rbc_core::tree_over;
-use rs_shards::encode;
 use std::alloc::{AllocError, Global};
-
-// The Val to a node of a value.
-fn val_of(
-    alloc: Global,
-    config: &Config,
-    epoch: u8,
-    target: u8,
-    value: &Bytes,
-) -> Result<Vote, AllocError>
-    requires short { length value.now ≤ longest_value }
-    requires target { target < config.now.n }
-    ensures { IfOk result (λ vote. vote ≡ val_of epoch target (encoded config.now.n (data_count config.now) value.now)) }
-{
-    let n = config.n();
-    let k = config.k();
-    let shards = encode(alloc, n, k, value.as_slice())?;
-    let tree = tree_over(alloc, &shards)?;
-    Ok(Vote::Val {
-        epoch,
-        target,
-        root: tree.root(),
-        shard: shards[target as usize].clone()?,
-        branch: tree.branch(target),
-    })
-}
 
 // Whether a Val to a node is of a value that the own desk proposes in a hearing.
 fn is_source(
     alloc: Global,
+    known: &mut Known,
     lane: &Lane,
     epoch: u8,
     target: u8,
@@ -69,7 +40,7 @@ fn is_source(
             epoch: other,
             value,
         } if *other == epoch => {
-            let val = val_of(alloc, &lane.config, epoch, target, value)?;
+            let val = known.val_of(alloc, &lane.config, lane.lane, epoch, target, value)?;
             Ok(val == *vote)
         }
         _ => Ok(false),
@@ -98,6 +69,7 @@ fn is_val_to(epoch: u8, target: u8, vote: &Vote) -> bool
 // Whether the sender may hand this shard to a node: it is of a value that its own desk has proposed, and the node has none yet.
 pub(crate) fn may_send(
     alloc: Global,
+    known: &mut Known,
     lane: &Lane,
     epoch: u8,
     target: u8,
@@ -115,7 +87,7 @@ pub(crate) fn may_send(
         return Ok(false);
     }
     for said in heard {
-        let found = is_source(alloc, lane, epoch, target, vote, said)?;
+        let found = is_source(alloc, known, lane, epoch, target, vote, said)?;
         if found {
             return Ok(true);
         }

@@ -8,10 +8,11 @@ ghost use Rattle.hb_rules.specs.Terms.{AreHeardSpelled};
 ghost use Rattle.broadcast_judge.specs.Checked.{is_checked, AreChecked};
 ghost use Rattle.broadcast_judge.specs.Shown.{with_some};
 
-use hb_base::{Bytes, Config};
+use crate::known::Known;
+use crate::lane::Lane;
+use hb_base::Bytes;
 use hb_rules::Heard;
 use hb_wire::Vote;
-use rbc_core::value_through;
 use std::alloc::{AllocError, Global};
 
 // The shard that a hearing shows for a root, if it shows one.
@@ -78,19 +79,21 @@ fn first_shards(
 // The value to which the first k of them rebuild, if there are so many and they do.
 pub(crate) fn value_of(
     alloc: Global,
-    config: &Config,
+    known: &mut Known,
+    lane: &Lane,
     epoch: u8,
     root: &[u8; 32],
     heard: &[Heard],
 ) -> Result<Option<Bytes>, AllocError>
-    requires checked { AreChecked config.now.n heard.now }
-    requires spelled { AreHeardSpelled config.now heard.now }
-    ensures { IfOk result (λ value. value ≡ value_of config.now epoch heard.now root.now) }
+    requires checked { AreChecked lane.now.config.n heard.now }
+    requires spelled { AreHeardSpelled lane.now.config heard.now }
+    ensures { IfOk result (λ value. value ≡ value_of lane.now.config epoch heard.now root.now) }
 {
-    let k = config.k() as usize;
-    let shards = first_shards(alloc, config.n(), epoch, root, heard)?;
+    let k = lane.config.k() as usize;
+    let mut shards = first_shards(alloc, lane.config.n(), epoch, root, heard)?;
     if shards.len() < k {
         return Ok(None);
     }
-    value_through(alloc, config, root, &shards[..k])
+    shards.truncate(k);
+    known.value_through(alloc, &lane.config, lane.lane, root, shards)
 }

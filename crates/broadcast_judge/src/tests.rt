@@ -6,7 +6,7 @@ ghost use Rattle.hb_rules.specs.History.{HasSpelling};
 ghost use Rattle.hb_rules.specs.Terms.{AreHeardSpelled};
 ghost use Rattle.broadcast_judge.specs.Checked.{is_checked, AreChecked};
 
-use crate::{Lane, may_broadcast};
+use crate::{Known, Lane, may_broadcast};
 use hb_base::{Bytes, Config, NodeSet};
 use hb_rules::Heard;
 use hb_wire::{Vote, read};
@@ -127,7 +127,13 @@ fn may(
         lane: 0,
     };
     let vote = vote_of(alloc, config, bytes)?;
-    Ok(may_broadcast(alloc, &lane, own, heard, &vote)?)
+    let mut known = Known::new(alloc);
+    let first = may_broadcast(alloc, &mut known, &lane, own, heard, &vote)?;
+    let again = may_broadcast(alloc, &mut known, &lane, own, heard, &vote)?;
+    if first != again {
+        return Err("another answer where all is known".into());
+    }
+    Ok(first)
 }
 
 #[test]

@@ -116,6 +116,18 @@ impl Shares {
         Offer::Added
     }
 
+    /// Adds the share of node m, unless one of m was added before. The share was found to be good before, and its branch is not
+    /// checked again.
+    pub fn add_checked(&mut self, m: u8, share: u8, salt: &[u8; 16], branch: &Branch)
+        requires { IsGood self.old.root self.old.n (heard_share m share salt.now branch.now) }
+        ensures { self.new ≡ with_offered self.old (heard_share m share salt.now branch.now) }
+    {
+        let is_first = !self.has_share_of(m);
+        if is_first {
+            self.keep(m, share, salt, branch);
+        }
+    }
+
     /// The coin, once f + 1 shares were added, and `None` before: the low bit of the value at 0 of the one
     /// polynomial of degree at most f through the first f + 1 shares added.
     pub fn coin(&self) -> Option<bool>

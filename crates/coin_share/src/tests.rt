@@ -188,6 +188,23 @@ fn offer_dealt(
     Ok(shares.offer(m, share, &salt, &branch))
 }
 
+// It is added too where it is known to be good.
+fn add_dealt(alloc: Global, run: &Deal, r: u8, m: u8, shares: &mut Shares) -> Result<(), AllocError>
+    requires epoch { 0 < run.now.epochs }
+    requires round { r < run.now.rounds }
+    requires node { m < run.now.n }
+    requires of { IsOfCoin shares.old run.now 0 0 r }
+    ensures { IfOk result (λ _. IsOfCoin shares.new run.now 0 0 r) }
+{
+    let DealtShare {
+        share,
+        salt,
+        branch,
+    } = run.share_of(alloc, 0, 0, r, m)?;
+    shares.add_checked(m, share, &salt, &branch);
+    Ok(())
+}
+
 // And f + 1 of them give the dealt coin, or two of the strings that are hashed to check one of them collide.
 fn coin_of_two(
     alloc: Global,
@@ -217,6 +234,14 @@ fn dealt_shares(rt: HostRuntime) -> Result<(), Fail> {
     let mut shares = Shares::new(4, 1, run.root_of(0, 0, 0));
     let coin = coin_of_two(rt.alloc(), &run, 0, &mut shares)?;
     assert_eq!(rt; coin, Some(run.coin_of(0, 0, 0)));
+
+    // one of each node counts
+    let mut checked = Shares::new(4, 1, run.root_of(0, 0, 0));
+    add_dealt(rt.alloc(), &run, 0, 2, &mut checked)?;
+    add_dealt(rt.alloc(), &run, 0, 2, &mut checked)?;
+    assert_eq!(rt; checked.coin(), None);
+    add_dealt(rt.alloc(), &run, 0, 3, &mut checked)?;
+    assert_eq!(rt; checked.coin(), coin);
     Ok(())
 }
 

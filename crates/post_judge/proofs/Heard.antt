@@ -7,12 +7,13 @@ use Rattle.std.proofs.lemmas.Option.{cond_some}
 use Rattle.std.proofs.lemmas.List.Elements.{All-weaker, All-contains_itself, recursion_from_All, Contains-append_left, Contains-append_right, Contains-append_cases}
 use Rattle.hb_base.specs.NodeSet.{is_in}
 use Rattle.hb_base.specs.Numbers.{Numbers}
+use Rattle.coin_deal.specs.Heard.{is_good_share}
 use Rattle.hb_wire.specs.Addresses.{reaches}
 use Rattle.hb_wire.specs.Votes.{address_of, epoch_of}
 use Rattle.hb_wire.specs.declared.post.Post.{Post}
 use Rattle.hb_wire.specs.declared.vote.To.TheVariants.{Home}
 use Rattle.hb_wire.specs.declared.vote.Vote.{Vote}
-use Rattle.hb_wire.specs.declared.vote.Vote.TheVariants.{Echo}
+use Rattle.hb_wire.specs.declared.vote.Vote.TheVariants.{Echo, Coin}
 use Rattle.hb_wire.proofs.VoteLemmas.{vote_again, vote_takes}
 use Rattle.hb_rules.specs.Hearing.{Hearing, hearing, heeds, is_within, spelled, name_at, hearing_at, hearing_of, heard_in, own_in}
 use Rattle.hb_rules.specs.History.{HasSpelling}
@@ -24,6 +25,7 @@ use Rattle.hb_rules.proofs.Among.{any_stands}
 use Rattle.hb_rules.proofs.Cast.{IsCastBy, IsHeard, cast_from, cast_stands, heard_from}
 use Rattle.hb_rules.proofs.Lists.{list_any-from, source_of, Contains-filter_map, Contains-cases, Contains-first, Contains-later}
 use Rattle.broadcast_judge.specs.Checked.{is_checked, AreChecked}
+use Rattle.agreement_judge.specs.Checked.{is_share_checked, AreSharesChecked}
 use Rattle.post_judge.specs.declared.place.Place.{Place}
 use Rattle.post_judge.specs.declared.told.Told.{Told}
 use Rattle.post_judge.specs.declared.told.Bucket.{Bucket}
@@ -32,7 +34,7 @@ use Rattle.post_judge.specs.Places.{place, own_place, heard_place, is_told, coun
 use Rattle.post_judge.specs.Tables.{told_at, own_votes, told_to, told_from, IsTold, AreTold}
 use Rattle.post_judge.proofs.Kept.{AreKept}
 use Rattle.post_judge.proofs.OwnEpoch.{AreAlike}
-use Rattle.post_judge.proofs.Places.{ListensAt, IsToldAs, told_heeded, not_own, heeded_told, same_lane}
+use Rattle.post_judge.proofs.Places.{ListensAt, IsToldAs, told_heeded, share_lane, not_own, heeded_told, same_lane}
 
 -- ---- lists
 
@@ -240,6 +242,12 @@ module _ (c : Numbers) (seen : List Post) (table : BTreeMap Place Bucket) (are :
       (vote_takes c.n c.version from.told.post.bytes from.told.vote from.heard.told.is).fits)
       (told_from c i x table wanted) (All-contains_itself (told_from c i x table wanted)))
 
+  -- a lane knows nodes by their numbers
+  lane_name : x < c.n → (post : Post) → name_at c x post ≡ post.from
+  lane_name lane post =
+      let other : (x == c.n) ≡ false = false_from_ne_true (x == c.n) (λ desk. omega (arith, eqb-true x c.n desk, lane)) in
+      ap (λ (b : Bool). if b then post.actor else post.from) other
+
   -- and a lane hears no Echo with a wrong branch there
   pub told_checked : x < c.n → (wanted : List Place) → ((p : Place) → Contains wanted p → ListensAt c.n i x p)
       → AreChecked c.n (told_from c i x table wanted)
@@ -247,17 +255,32 @@ module _ (c : Numbers) (seen : List Post) (table : BTreeMap Place Bucket) (are :
       All-weaker (Contains (told_from c i x table wanted)) (λ (h : Hearing). is_checked c.n h.from h.vote ≡ true)
       (λ h stands.
       let from = of_places wanted listens h stands in
-      let other : (x == c.n) ≡ false = false_from_ne_true (x == c.n) (λ desk. omega (arith, eqb-true x c.n desk, lane)) in
-      let named : name_at c x from.told.post ≡ from.told.post.from =
-      ap (λ (b : Bool). if b then from.told.post.actor else from.told.post.from) other in
       subst (λ (g : Hearing). is_checked c.n g.from g.vote ≡ true) from.heard.is
-      (subst (λ (a : ℕ). is_checked c.n a from.told.vote ≡ true) (sym named)
+      (subst (λ (a : ℕ). is_checked c.n a from.told.vote ≡ true) (sym (lane_name lane from.told.post))
       (checked from.told.post.from from.told.post.actor from.told.vote from.heard.counted)))
       (told_from c i x table wanted) (All-contains_itself (told_from c i x table wanted))
     where
       checked : (a y : ℕ) (vote : Vote) → counts c a y vote ≡ true → is_checked c.n a vote ≡ true
       checked a y (Echo e root shard branch) h = h
       checked a y vote h = refl
+
+  -- and no wrong share
+  pub told_shares_checked : x < c.n → (wanted : List Place) → ((p : Place) → Contains wanted p → ListensAt c.n i x p)
+      → AreSharesChecked c x (told_from c i x table wanted)
+  told_shares_checked lane wanted listens =
+      All-weaker (Contains (told_from c i x table wanted)) (λ (h : Hearing). is_share_checked c x h.from h.vote ≡ true)
+      (λ h stands.
+      let from = of_places wanted listens h stands in
+      subst (λ (g : Hearing). is_share_checked c x g.from g.vote ≡ true) from.heard.is
+      (subst (λ (a : ℕ). is_share_checked c x a from.told.vote ≡ true) (sym (lane_name lane from.told.post))
+      (checked from.told.post.from from.told.post.actor from.told.vote from.place from.heard.counted from.heard.at (listens from.place from.stands))))
+      (told_from c i x table wanted) (All-contains_itself (told_from c i x table wanted))
+    where
+      checked : (a y : ℕ) (vote : Vote) (p : Place) → counts c a y vote ≡ true → heard_place a y vote ≡ Some p → ListensAt c.n i x p
+          → is_share_checked c x a vote ≡ true
+      checked a y (Coin e r share salt branch) p h at there =
+          subst (λ (z : ℕ). is_good_share c e z r a share salt branch ≡ true) (share_lane c.n i x a y e r share salt branch p at there) h
+      checked a y vote p h at there = refl
 
   -- of all that it hears it has there what counts at these places
   pub heard_kept : AreAddressed c seen → is_in c.liars i ≡ false → (wanted : List Place) (p : Place) → Contains wanted p

@@ -1,8 +1,9 @@
 -- What is heard at the places of posts. The letters: actor x of node i hears actor y of node a, e is an epoch.
-use Rattle.std.proofs.Common.{◌≡◌, ◌≢◌, ℕ, zero, suc, ◌<◌, nat_lt, Bool, true, false, ◌&&◌, ◌==◌, [], ◌∷◌, Contains, Some, if◌then◌else◌, refl, sym, ap, ◌∙◌, subst, arith}
+use Rattle.std.proofs.Common.{◌≡◌, ◌≢◌, ℕ, zero, suc, ◌<◌, nat_lt, Bool, true, false, ◌&&◌, ◌==◌, List, [], ◌∷◌, Contains, Some, if◌then◌else◌, refl, sym, ap, ◌∙◌, subst, arith}
 use Rattle.std.proofs.lemmas.Bool.{and_parts, and_from, eqb-true, eq-eqb, ltb-true, lt-ltb, false_from_ne_true, both_ways}
 use Rattle.std.proofs.lemmas.Option.{same_Some}
 use Rattle.hb_base.specs.Numbers.{Numbers}
+use Rattle.merkle_branch.specs.declared.Branch.{Branch}
 use Rattle.hb_wire.specs.Addresses.{goes_to, is_at_home}
 use Rattle.hb_wire.specs.Votes.{address_of}
 use Rattle.hb_wire.specs.declared.vote.To.{To}
@@ -95,6 +96,11 @@ told_heeded n i x a y (Delivered e value) p told at there =
 told_heeded n i x a y (Decided e bit) p told at there =
     let l = at_place n i x (place topics.FromLanes a e 0) p at there in desk_heeds n i x a y l.0 l.1 told
 told_heeded n i x a y vote p told at there = absurd (cc (at))
+
+-- a share that is told where a lane listens is one of its coins
+pub share_lane : (n i x a y e r share : ℕ) (salt : List ℕ) (branch : Branch) (p : Place) → heard_place a y (Coin e r share salt branch) ≡ Some p
+    → ListensAt n i x p → y ≡ x
+share_lane n i x a y e r share salt branch p at there = (at_place n i x (place topics.Shared y e r) p at there).1
 
 abbrev is_own : Place → Bool
 is_own p = by p.topic

@@ -11,6 +11,7 @@ ghost use Rattle.hb_rules.specs.Strings.{NoCollision};
 ghost use Rattle.history_verdict.specs.Verdicts.{Judges};
 ghost use Rattle.hb_rules.specs.Terms.{AreHeardSpelled};
 ghost use Rattle.broadcast_judge.specs.Checked.{AreChecked};
+ghost use Rattle.agreement_judge.specs.Checked.{AreSharesChecked};
 ghost use Rattle.post_judge.specs.Places.{casts, is_cast_ever, looked_at};
 ghost use Rattle.post_judge.specs.Tables.{own_votes, told_from, AreTold};
 
@@ -19,6 +20,7 @@ use crate::gathering::{told_from, votes_of};
 use crate::placing::{looked_at, own_place};
 use crate::table::Table;
 use crate::told::Told;
+use broadcast_judge::Known;
 use hb_rules::Heard;
 use hb_wire::{Post, Vote, equality_laws};
 use history_verdict::verdict_laws;
@@ -38,6 +40,7 @@ fn heard_for(table: &Table, node: u8, actor: u8, vote: &Vote) -> Result<Vec<Hear
     ensures exact { IfOk result (λ heard. heard.items
         ≡ told_from table.now.config node actor table.now.buckets.by_place (looked_at table.now.config node actor vote.now)) }
     ensures checked { IfOk result (λ heard. actor < table.now.config.n → AreChecked table.now.config.n heard.items) }
+    ensures shares { IfOk result (λ heard. actor < table.now.config.n → AreSharesChecked table.now.config actor heard.items) }
     ensures spelled { IfOk result (λ heard. AreHeardSpelled table.now.config heard.items) }
 {
     let alloc = table.alloc;
@@ -49,6 +52,7 @@ fn heard_for(table: &Table, node: u8, actor: u8, vote: &Vote) -> Result<Vec<Hear
 // Whether an actor of a correct node may cast a vote now, by the votes that it has cast.
 fn may_cast_now(
     table: &Table,
+    known: &mut Known,
     node: u8,
     actor: u8,
     own: &[Vote],
@@ -77,11 +81,17 @@ fn may_cast_now(
         node,
         actor,
     };
-    may_cast(table.alloc, &table.deal, &caster, own, &heard, vote)
+    may_cast(table.alloc, &table.deal, known, &caster, own, &heard, vote)
 }
 
 // Whether an actor of a correct node has cast a vote before, or may cast it now.
-fn is_allowed(table: &Table, node: u8, actor: u8, vote: &Vote) -> Result<bool, AllocError>
+fn is_allowed(
+    table: &Table,
+    known: &mut Known,
+    node: u8,
+    actor: u8,
+    vote: &Vote,
+) -> Result<bool, AllocError>
     requires deal { table.now.deal ≡ table.now.config }
     requires told { AreTold table.now.config table.now.posts.items table.now.buckets.by_place }
     requires node { node < table.now.config.n }
@@ -97,7 +107,7 @@ fn is_allowed(table: &Table, node: u8, actor: u8, vote: &Vote) -> Result<bool, A
         return Ok(true);
     }
     let own = votes_of(table.alloc, cast)?;
-    may_cast_now(table, node, actor, &own, vote)
+    may_cast_now(table, known, node, actor, &own, vote)
 }
 
 // Whether one of these posts spells a vote.
@@ -116,7 +126,12 @@ fn goes_right(post: &Post, vote: &Vote) -> bool
 }
 
 // Whether a post of a correct node may follow that spells this vote.
-fn may_follow(table: &Table, post: &Post, vote: &Vote) -> Result<bool, AllocError>
+fn may_follow(
+    table: &Table,
+    known: &mut Known,
+    post: &Post,
+    vote: &Vote,
+) -> Result<bool, AllocError>
     requires deal { table.now.deal ≡ table.now.config }
     requires told { AreTold table.now.config table.now.posts.items table.now.buckets.by_place }
     requires node { post.now.from < table.now.config.n }
@@ -129,12 +144,17 @@ fn may_follow(table: &Table, post: &Post, vote: &Vote) -> Result<bool, AllocErro
     if !goes_right(post, vote) {
         return Ok(false);
     }
-    let allowed = is_allowed(table, post.from, post.actor, vote)?;
+    let allowed = is_allowed(table, known, post.from, post.actor, vote)?;
     Ok(allowed)
 }
 
 // Whether a post may follow, with the vote that it spells, if it spells one. A liar's post may, whatever it is.
-pub(crate) fn judged(table: &Table, post: &Post, vote: &Option<Vote>) -> Result<bool, AllocError>
+pub(crate) fn judged(
+    table: &Table,
+    known: &mut Known,
+    post: &Post,
+    vote: &Option<Vote>,
+) -> Result<bool, AllocError>
     requires deal { table.now.deal ≡ table.now.config }
     requires told { AreTold table.now.config table.now.posts.items table.now.buckets.by_place }
     requires vote { vote.now ≡ spelled table.now.config post.now }
@@ -148,7 +168,7 @@ pub(crate) fn judged(table: &Table, post: &Post, vote: &Option<Vote>) -> Result<
         return Ok(true);
     }
     match vote {
-        Some(vote) => may_follow(table, post, vote),
+        Some(vote) => may_follow(table, known, post, vote),
         None => Ok(false),
     }
 }

@@ -7,10 +7,11 @@ ghost use Rattle.hb_rules.specs.Rules.{MayCast};
 ghost use Rattle.hb_rules.specs.Terms.{AreHeardSpelled};
 ghost use Rattle.hb_rules.specs.Apart.{IsHeardApart};
 ghost use Rattle.broadcast_judge.specs.Checked.{AreChecked};
+ghost use Rattle.agreement_judge.specs.Checked.{AreSharesChecked};
 ghost use Rattle.post_judge.specs.Places.{casts};
 
 use agreement_judge::{Place as Agreement, may_agree};
-use broadcast_judge::{Lane, may_broadcast};
+use broadcast_judge::{Known, Lane, may_broadcast};
 use coin_deal::Deal;
 use desk_judge::may_at_desk;
 use hb_base::Config;
@@ -49,6 +50,7 @@ fn is_of_broadcast(vote: &Vote) -> bool
 fn may_in_lane(
     alloc: Global,
     deal: &Deal,
+    known: &mut Known,
     lane: &Lane,
     own: &[Vote],
     heard: &[Heard],
@@ -61,13 +63,14 @@ fn may_in_lane(
     requires epoch { epoch_of vote.now < lane.now.config.epochs }
     requires vote { HasSpelling lane.now.config vote.now }
     requires checked { AreChecked lane.now.config.n heard.now }
+    requires shares { AreSharesChecked lane.now.config lane.now.lane heard.now }
     requires spelled { AreHeardSpelled lane.now.config heard.now }
     ensures sound { IfOk result (λ may. may ≡ true → MayCast lane.now.config lane.now.node lane.now.lane own.now heard.now vote.now) }
     ensures complete { IfOk result (λ may. IsHeardApart lane.now.config lane.now.node lane.now.lane heard.now
         → MayCast lane.now.config lane.now.node lane.now.lane own.now heard.now vote.now → may ≡ true) }
 {
     if is_of_broadcast(vote) {
-        return may_broadcast(alloc, lane, own, heard, vote);
+        return may_broadcast(alloc, known, lane, own, heard, vote);
     }
     let place = Agreement {
         config: lane.config,
@@ -83,6 +86,7 @@ fn may_in_lane(
 pub(crate) fn may_cast(
     alloc: Global,
     deal: &Deal,
+    known: &mut Known,
     caster: &Caster,
     own: &[Vote],
     heard: &[Heard],
@@ -94,6 +98,7 @@ pub(crate) fn may_cast(
     requires epoch { epoch_of vote.now < caster.now.config.epochs }
     requires vote { HasSpelling caster.now.config vote.now }
     requires checked { caster.now.actor < caster.now.config.n → AreChecked caster.now.config.n heard.now }
+    requires shares { caster.now.actor < caster.now.config.n → AreSharesChecked caster.now.config caster.now.actor heard.now }
     requires spelled { AreHeardSpelled caster.now.config heard.now }
     ensures sound { IfOk result (λ may. may ≡ true → MayCast caster.now.config caster.now.node caster.now.actor own.now heard.now vote.now) }
     ensures complete { IfOk result (λ may. (caster.now.actor < caster.now.config.n → IsHeardApart caster.now.config caster.now.node caster.now.actor heard.now)
@@ -105,7 +110,7 @@ pub(crate) fn may_cast(
             node: caster.node,
             lane: caster.actor,
         };
-        return may_in_lane(alloc, deal, &lane, own, heard, vote);
+        return may_in_lane(alloc, deal, known, &lane, own, heard, vote);
     }
     Ok(may_at_desk(&caster.config, own, heard, vote))
 }

@@ -9,7 +9,7 @@ use crate::placing::{cast_place, own_place, told_place};
 use crate::told::Told;
 use coin_deal::{Deal, deal};
 use hb_base::Config;
-use hb_wire::{Post, Vote, WireFault, equality_laws, read};
+use hb_wire::{Post, Vote, WireFault, equality_laws, read_shared};
 use std::alloc::{AllocError, Global};
 
 // The posts of a run with this config, in order, and those that spell votes by their places. They share their bytes.
@@ -31,7 +31,7 @@ pub(crate) fn vote_of(
     ensures exact { IfOk result (λ vote. vote ≡ spelled config.now post.now) }
     ensures fits { IfOk result (λ vote. IfSome vote (HasSpelling config.now)) }
 {
-    match read(alloc, config.n(), config.version(), post.bytes.as_slice()) {
+    match read_shared(alloc, config.n(), config.version(), &post.bytes) {
         Ok(vote) => Ok(Some(vote)),
         Err(WireFault::NotAMessage) => Ok(None),
         Err(WireFault::Memory) => Err(AllocError),

@@ -1,5 +1,5 @@
 use Rattle.std.proofs.Common.{◌≡◌, take}
-use Rattle.agreement_judge.specs.Offers.{shares_at}
+use Rattle.agreement_judge.specs.Adding.{shares_at}
 use Rattle.agreement_judge.proofs.coins.collected.Given as goal
 
 -- the shares that were heard before this hearing

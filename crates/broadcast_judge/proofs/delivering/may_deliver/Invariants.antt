@@ -6,5 +6,5 @@ use Rattle.broadcast_judge.proofs.delivering.may_deliver.Given as goal
 -- one that shows the delivery is among the hearings from here on, if there is one
 abbrev pub invariant-loop-said : goal.invariant-loop-said
 invariant-loop-said l =
-    list_any (is_delivered_by l.config l.fn.epoch l.heard l.value) l.heard
-    ≡ list_any (is_delivered_by l.config l.fn.epoch l.heard l.value) (drop l.said-index l.heard)
+    list_any (is_delivered_by l.lane.config l.fn.epoch l.heard l.value) l.heard
+    ≡ list_any (is_delivered_by l.lane.config l.fn.epoch l.heard l.value) (drop l.said-index l.heard)

@@ -10,19 +10,16 @@ use Rattle.broadcast_judge.proofs.shards.value_of.Goals as goal
 
 pub value_through-requires-clause-shards : goal.value_through-requires-clause-shards
 value_through-requires-clause-shards c =
-    let n : c.n.result ≡ c.args.config.now.n = c.n.ensures.value in
-    let all : c.deref.result.now ≡ shards_of c.args.config.now.n c.args.epoch c.args.root.now c.args.heard.now =
-    c.deref.ensures.value ∙ c.in_ok-shards.ensures ∙ ap (λ (m : ℕ). shards_of m c.args.epoch c.args.root.now c.args.heard.now) n in
-    subst (λ (xs : List (ℕ × List ℕ)). AreShards c.args.config.now.n (take c.k-k.result xs)) (sym all)
-    (AreShards-take c.args.config.now.n c.k-k.result (shards_of c.args.config.now.n c.args.epoch c.args.root.now c.args.heard.now)
-    (omega (arith, ap length all, ap length c.deref.ensures.value, c.if-len-k.false, c.len.ensures))
-    (shards_of-shards c.args.config.now.n c.args.epoch c.args.root.now c.args.heard.now))
+    let n = c.args.lane.now.config.n in
+    let all = shards_of n c.args.epoch c.args.root.now c.args.heard.now in
+    let found : c.in_ok-shards.shards.items ≡ all = c.in_ok-shards.ensures ∙ ap (λ m. shards_of m c.args.epoch c.args.root.now c.args.heard.now) c.n.ensures.value in
+    subst (AreShards n) (sym (c.truncate.ensures.items ∙ ap (take c.k-k.result) found))
+    (AreShards-take n c.k-k.result all (omega (arith, ap length found, c.if-len-k.false, c.len.ensures)) (shards_of-shards n c.args.epoch c.args.root.now c.args.heard.now))
 
 pub value_through-requires-clause-short : goal.value_through-requires-clause-short
 value_through-requires-clause-short c =
-    let n : c.n.result ≡ c.args.config.now.n = c.n.ensures.value in
-    let all : c.deref.result.now ≡ shards_of c.args.config.now.n c.args.epoch c.args.root.now c.args.heard.now =
-    c.deref.ensures.value ∙ c.in_ok-shards.ensures ∙ ap (λ (m : ℕ). shards_of m c.args.epoch c.args.root.now c.args.heard.now) n in
-    subst (λ (xs : List (ℕ × List ℕ)). All (λ x. length x.1 < 2 ^ 32) (take c.k-k.result xs)) (sym all)
-    (All-take (λ (x : ℕ × List ℕ). length x.1 < 2 ^ 32) c.k-k.result (shards_of c.args.config.now.n c.args.epoch c.args.root.now c.args.heard.now)
-    (shards_short c.args.config.now c.args.epoch c.args.root.now c.args.heard.now c.requires.spelled))
+    let n = c.args.lane.now.config.n in
+    let all = shards_of n c.args.epoch c.args.root.now c.args.heard.now in
+    let found : c.in_ok-shards.shards.items ≡ all = c.in_ok-shards.ensures ∙ ap (λ m. shards_of m c.args.epoch c.args.root.now c.args.heard.now) c.n.ensures.value in
+    subst (λ (xs : List (ℕ × List ℕ)). All (λ x. length x.1 < 2 ^ 32) xs) (sym (c.truncate.ensures.items ∙ ap (take c.k-k.result) found))
+    (All-take (λ (x : ℕ × List ℕ). length x.1 < 2 ^ 32) c.k-k.result all (shards_short c.args.lane.now.config c.args.epoch c.args.root.now c.args.heard.now c.requires.spelled))

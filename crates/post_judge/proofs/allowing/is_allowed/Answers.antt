@@ -1,11 +1,10 @@
 use Rattle.std.proofs.Common.{◌≡◌, ℕ, inl, map, sym, ap, ◌∙◌, List}
 use Rattle.std.specs.List.{list_any}
 use Rattle.std.proofs.lemmas.Result.{IfOk-weaker}
-use Rattle.hb_wire.specs.declared.vote.Vote.{Vote}
 use Rattle.hb_rules.specs.Same.{same_vote}
 use Rattle.post_judge.specs.declared.told.Told.{Told}
 use Rattle.post_judge.specs.Places.{own_place}
-use Rattle.post_judge.specs.Tables.{told_at, own_votes}
+use Rattle.post_judge.specs.Tables.{told_at}
 use Rattle.post_judge.proofs.Judging.{correct_node, any_votes, cast_before, not_cast_before}
 use Rattle.post_judge.proofs.allowing.is_allowed.Goals as goal
 

@@ -1,4 +1,4 @@
--- Shares that are offered as they were heard.
+-- Shares that are added as they were heard.
 use Rattle.std.specs.Prelude.{ℕ, List, Option, None, Some}
 use Rattle.hb_base.specs.Numbers.{Numbers}
 use Rattle.coin_deal.specs.Deal.{coin_root}
@@ -12,8 +12,8 @@ with_some s None = s
 with_some s (Some a) = with_offered s a
 
 -- with the share that a hearing shows for the round
-abbrev pub offered : SharesView → ℕ → ℕ → Hearing → SharesView
-offered s e r h = with_some s (share_in e r h.from h.vote)
+abbrev pub with_shown : SharesView → ℕ → ℕ → Hearing → SharesView
+with_shown s e r h = with_some s (share_in e r h.from h.vote)
 
 -- the good shares of a round that were heard
 abbrev pub shares_at : Numbers → ℕ → ℕ → ℕ → List Hearing → SharesView
