@@ -2,8 +2,9 @@
 
 ghost use Rattle.std.specs.Prelude.{codes};
 
+use crate::FalseFrame;
 use crate::calls::{Answer, Host, Request, call, call_with, check_none, check_ran};
-use crate::texts::four;
+use crate::texts::{FOUR_COINS, four};
 use hb_base::LiarName;
 use hb_wire::{Post, To};
 use liar_cast::{Liar, LiarSeat, Lies};
@@ -66,11 +67,17 @@ impl Liar for Doubtful {
     fn hear(&mut self, _alloc: Global, _me: &LiarSeat, _post: &Post, _lies: &mut Lies) {}
 }
 
-// Asks who is accused among four nodes, of which node 3 says two votes of a kind.
-fn accuse(rt: &impl Host, alloc: Global, kind: u8) -> Result<Answer, AllocError> {
-    let scenario = four(alloc, r#","liars":[{"node":3,"name":"doubtful"}]"#)?;
+// Asks who is accused among four nodes, of which node 3 is this liar.
+fn accuse(
+    rt: &impl Host,
+    alloc: Global,
+    name: &str,
+    liar: Box<dyn Liar>,
+) -> Result<Answer, AllocError> {
+    let keys = format!(in alloc; ",\"liars\":[{{\"node\":3,\"name\":\"{name}\"}}]")?;
+    let scenario = four(alloc, keys.as_str())?;
     let mut liars: Vec<Box<dyn Liar>> = Vec::new(alloc);
-    liars.push(Box::new(alloc, Doubtful { kind })?)?;
+    liars.push(liar)?;
     call_with(
         rt,
         alloc,
@@ -83,12 +90,49 @@ fn accuse(rt: &impl Host, alloc: Global, kind: u8) -> Result<Answer, AllocError>
 // may vote for one of them (kind 7).
 #[test]
 fn two_votes_of_a_liar(rt: HostRuntime) -> Result<(), Fail> {
+    assert!(rt; FOUR_COINS.have_both_bits(rt.alloc())?);
     for (kind, accused) in [(7, "accused 3 posts 3 4\n"), (6, "")] {
-        let answer = accuse(&rt, rt.alloc(), kind)?;
+        let liar = Box::new(rt.alloc(), Doubtful { kind })?;
+        let answer = accuse(&rt, rt.alloc(), "doubtful", liar)?;
         let text = format!(in rt.alloc();
             "accuse nodes 4 faulty 1 version 1 epochs 1\n{accused}end 0\n"
         )?;
         check_ran(&rt, &answer, 0, text.as_str(), accused);
+    }
+    Ok(())
+}
+
+// What is printed of four nodes where nobody is accused.
+const NOBODY: &str = "accuse nodes 4 faulty 1 version 1 epochs 1\nend 0\n";
+
+// All pieces of a false frame have one root, and each node is sent one.
+#[test]
+fn a_false_frame_is_no_contradiction(rt: HostRuntime) -> Result<(), Fail> {
+    assert!(rt; FOUR_COINS.have_both_bits(rt.alloc())?);
+    let liar = Box::new(rt.alloc(), FalseFrame)?;
+    let answer = accuse(&rt, rt.alloc(), "false_frame", liar)?;
+    check_ran(&rt, &answer, 0, NOBODY, "false_frame");
+    Ok(())
+}
+
+// Checks that nobody is accused where lane 1 of node 1 stops at a call of its disk: what it posts again it had posted before.
+fn check_stop(rt: &impl Host, alloc: Global, number: u32, leave: &str) -> Result<(), Fail> {
+    let keys = format!(in alloc;
+        ",\"stops\":[{{\"node\":1,\"actor\":1,\"call\":{number},\"leave\":\"{leave}\"}}]"
+    )?;
+    let scenario = four(alloc, keys.as_str())?;
+    let answer = call(rt, alloc, &Request::new(&["accuse"], scenario.as_str()))?;
+    check_ran(rt, &answer, 0, NOBODY, keys.as_str());
+    Ok(())
+}
+
+#[test]
+fn stops_are_no_contradictions(rt: HostRuntime) -> Result<(), Fail> {
+    assert!(rt; FOUR_COINS.have_both_bits(rt.alloc())?);
+    for number in 1..41u32 {
+        for leave in ["old", "new", "torn"] {
+            check_stop(&rt, rt.alloc(), number, leave)?;
+        }
     }
     Ok(())
 }

@@ -3,11 +3,20 @@
 //! folded by 9 before the next: so the lane's disk is called 648 times, with folds at calls 263 to 271 and 524 to 532, and the desk's
 //! 66 times.
 
-use crate::calls::{Host, check_ran, run};
+use crate::calls::{Coins, Host, check_ran, run};
 use crate::disks::has_posted_all_again;
 use hb_rules::{Fate, Report};
 use std::alloc::{AllocError, Global};
 use std::test::Fail;
+
+// Its coins.
+const COINS: Coins = Coins {
+    nodes: 1,
+    faulty: 0,
+    epochs: 14,
+    rounds: 12,
+    seed: 58,
+};
 
 // The scenario of the node, with these keys besides.
 fn alone(alloc: Global, keys: &str) -> Result<String, AllocError> {
@@ -41,6 +50,7 @@ fn count_posts(report: &Report, actor: u8) -> usize {
 #[test]
 fn votes_of_lane_and_desk(rt: HostRuntime) -> Result<(), Fail> {
     let alloc = rt.alloc();
+    assert!(rt; COINS.have_both_bits(alloc)?);
     let answer = run(&rt, alloc, alone(alloc, "")?.as_str())?;
     check_ran(&rt, &answer, 0, whole(alloc)?.as_str(), "alone");
     assert_eq!(rt; count_posts(&answer.report, 0), 260);
@@ -118,6 +128,7 @@ fn check_stops(rt: &impl Host, alloc: Global, actor: u8, call: u32) -> Result<()
 
 #[test]
 fn stops_at_each_call(rt: HostRuntime) -> Result<(), Fail> {
+    assert!(rt; COINS.have_both_bits(rt.alloc())?);
     for call in 1..61u32 {
         check_stops(&rt, rt.alloc(), 0, call)?;
         check_stops(&rt, rt.alloc(), 1, call)?;
@@ -128,6 +139,7 @@ fn stops_at_each_call(rt: HostRuntime) -> Result<(), Fail> {
 // Around the two folds, and at each of their calls.
 #[test]
 fn stops_in_folds(rt: HostRuntime) -> Result<(), Fail> {
+    assert!(rt; COINS.have_both_bits(rt.alloc())?);
     for call in 260..275u32 {
         check_stops(&rt, rt.alloc(), 0, call)?;
     }

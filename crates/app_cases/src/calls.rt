@@ -1,13 +1,15 @@
-//! Calls of the program over memory, and what they leave.
+//! Calls of the program over memory, what they leave, and the coins that a run is dealt.
 
+use coin_deal::deal;
 use hb_app::hb_main;
-use hb_base::{Bytes, MemorySink, MemorySource, OpenGate};
+use hb_base::{Bytes, Config, MemorySink, MemorySource, NodeSet, OpenGate};
 use hb_rules::Report;
 use liar_cast::{Liar, cast};
 use quiet_check::is_quiet;
 use std::alloc::{AllocError, Global};
 use std::process::Abort;
 use std::sync::Wait;
+use std::test::Fail;
 use std::thread::Threads;
 
 // What a test has of the system: it may be ended by it, start threads and wait.
@@ -154,4 +156,87 @@ pub(crate) fn first_bytes(alloc: Global, report: &Report, node: u8) -> Result<Ve
         }
     }
     Ok(firsts)
+}
+
+// The numbers of a scenario by which its coins are dealt.
+#[derive(Clone, Copy)]
+pub(crate) struct Coins {
+    pub(crate) nodes: u8,
+    pub(crate) faulty: u8,
+    pub(crate) epochs: u8,
+    pub(crate) rounds: u8,
+    pub(crate) seed: u64,
+}
+
+impl Coins {
+    // Whether each lane has coins of both bits in each epoch, so that none waits for a bit that never comes.
+    pub(crate) fn have_both_bits(&self, alloc: Global) -> Result<bool, Fail> {
+        self.fall(alloc, true, true)
+    }
+
+    // Whether all coins are 0.
+    pub(crate) fn are_all_zero(&self, alloc: Global) -> Result<bool, Fail> {
+        self.fall(alloc, true, false)
+    }
+
+    // Whether the first coins of this lane in epoch 0 are these.
+    pub(crate) fn begin_with(
+        &self,
+        alloc: Global,
+        lane: u8,
+        wanted: &[bool],
+    ) -> Result<bool, Fail> {
+        let config = self.config()?;
+        let deal = deal(alloc, &config)?;
+        if lane >= config.n() || (config.rounds() as usize) < wanted.len() {
+            return Ok(false);
+        }
+        for round in 0..config.rounds() {
+            if let Some(coin) = wanted.get(round as usize) {
+                if deal.coin_of(0, lane, round) != *coin {
+                    return Ok(false);
+                }
+            }
+        }
+        Ok(true)
+    }
+
+    // The numbers of a run that has these coins.
+    fn config(&self) -> Result<Config, Fail> {
+        let config = Config::new(
+            self.nodes,
+            self.faulty,
+            self.epochs,
+            self.rounds,
+            64,
+            self.seed,
+            1,
+            NodeSet::new(),
+        )
+        .ok_or("no config")?;
+        Ok(config)
+    }
+
+    // Whether in each epoch each lane has a coin of 0 exactly where `zero` is true, and a coin of 1 exactly where `one` is.
+    fn fall(&self, alloc: Global, zero: bool, one: bool) -> Result<bool, Fail> {
+        let config = self.config()?;
+        let deal = deal(alloc, &config)?;
+        for epoch in 0..config.epochs() {
+            for lane in 0..config.n() {
+                let mut has_zero = false;
+                let mut has_one = false;
+                for round in 0..config.rounds() {
+                    if deal.coin_of(epoch, lane, round) {
+                        has_one = true;
+                    } else {
+                        has_zero = true;
+                    }
+                }
+                if has_zero != zero || has_one != one {
+                    return Ok(false);
+                }
+            }
+        }
+        Ok(true)
+    }
 }

@@ -1,10 +1,10 @@
 //! Runs in which a disk of node 1 loses its power once, or fails once.
 
 use crate::calls::{Host, check_ran, run};
-use crate::texts::{ALL, FOUR_FRONT, WITHOUT_1, four, text};
+use crate::texts::{ALL, FOUR_COINS, FOUR_FRONT, WITHOUT_1, four, text};
 use hb_rules::{Fate, Report};
 use hb_wire::Post;
-use std::alloc::Global;
+use std::alloc::{AllocError, Global};
 use std::test::Fail;
 
 fn stands_in(posts: &[Post], post: &Post) -> bool {
@@ -58,6 +58,7 @@ fn check_stop(
 }
 
 fn check_stops(rt: &impl Host, alloc: Global, actor: u8) -> Result<(), Fail> {
+    assert!(rt; FOUR_COINS.have_both_bits(alloc)?);
     for call in 1..41u32 {
         for leave in ["old", "new", "torn"] {
             check_stop(rt, alloc, actor, call, leave)?;
@@ -76,38 +77,62 @@ fn stops_of_a_desk(rt: HostRuntime) -> Result<(), Fail> {
     check_stops(&rt, rt.alloc(), 4)
 }
 
-// Whether lane 1 of node 1 ended by its journal, and nobody else.
-fn lane_1_ended(report: &Report) -> bool {
+// Whether lane 1 of node 1 has this fate, and all others run.
+fn lane_1_has(report: &Report, fate: Fate) -> bool {
     report.ends.iter().all(|end| {
         let is_lane_1 = end.node == 1 && end.actor == 1;
-        end.fate
-            == if is_lane_1 {
-                Fate::Journal
-            } else {
-                Fate::Running
-            }
+        end.fate == if is_lane_1 { fate } else { Fate::Running }
     })
 }
 
-// The journal of a lane is made by six calls of its disk, and its first entry, with the shards of its node's proposal, by four. If
-// one of these fails no shard is sent. After them three other nodes are enough to deliver the proposal. Node 1 closes nothing, since
-// its lane 1 has ended before it decided.
+// The journal of a lane is made by six calls of its disk, and each entry by four. Lane 1 of node 1 has nine: the shards of its node's
+// proposal; Echo; Ready; Delivered with what it begins round 0 with; Aux; Pick with its share; since the coins of rounds 0 and 1 are
+// both 1, Decided with what it begins round 1 with; its Aux; and its Pick with its share. These are the last calls for the first
+// entry, for the seventh, which has Decided, and for the ninth.
+const SHARDS: u32 = 10;
+
+const DECIDED: u32 = 34;
+
+const LAST: u32 = 42;
+
+// What is printed of node 1 if a call of this disk fails. It closes the epoch if the lane has decided by then.
+fn node_1(alloc: Global, call: u32) -> Result<String, AllocError> {
+    let mut ledger = String::new(alloc);
+    if call <= LAST {
+        ledger.push_str("actor 1 journal\n")?;
+    }
+    if call > DECIDED {
+        ledger.push_str(ALL)?;
+    }
+    Ok(ledger)
+}
+
+// If a call up to the first entry fails no shard is sent. After them three other nodes are enough to deliver the proposal. A call that
+// is never made can't fail.
 fn check_fault(rt: &impl Host, alloc: Global, call: u32) -> Result<(), Fail> {
     let keys = format!(in alloc; ",\"faults\":[{{\"node\":1,\"actor\":1,\"call\":{call}}}]")?;
     let scenario = four(alloc, keys.as_str())?;
     let answer = run(rt, alloc, scenario.as_str())?;
-    let other = ("running", if call > 10 { ALL } else { WITHOUT_1 });
-    let ended = ("ended", "actor 1 journal\n");
-    let want = text(alloc, FOUR_FRONT, &[other, ended, other, other], 0)?;
+    let other = ("running", if call > SHARDS { ALL } else { WITHOUT_1 });
+    let ledger = node_1(alloc, call)?;
+    let (stands, fate) = if call > LAST {
+        ("running", Fate::Running)
+    } else {
+        ("ended", Fate::Journal)
+    };
+    let first = (stands, ledger.as_str());
+    let want = text(alloc, FOUR_FRONT, &[other, first, other, other], 0)?;
     check_ran(rt, &answer, 0, want.as_str(), keys.as_str());
     assert_eq!(rt; answer.report.ends.len(), 20, "{keys}");
-    assert!(rt; lane_1_ended(&answer.report), "{keys}");
+    assert!(rt; lane_1_has(&answer.report, fate), "{keys}");
     Ok(())
 }
 
 #[test]
 fn faults_of_a_lane(rt: HostRuntime) -> Result<(), Fail> {
-    for call in 1..21u32 {
+    assert!(rt; FOUR_COINS.have_both_bits(rt.alloc())?);
+    assert!(rt; FOUR_COINS.begin_with(rt.alloc(), 1, &[true, true])?);
+    for call in 1..61u32 {
         check_fault(&rt, rt.alloc(), call)?;
     }
     Ok(())

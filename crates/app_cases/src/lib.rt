@@ -1,6 +1,7 @@
 //! Calls of the program over memory: what it answers, prints and tells for scenarios by hand, and what it leaves of its report.
 //!
-//! `callers` is as any user might write it, and what is proved of it stands on the contract of hb_app alone.
+//! `callers` is as any user might write it, and what is proved of it stands on the contract of hb_app alone. `false_frame` is a liar
+//! for tests of runs on threads, too.
 #![tactic(auto)]
 
 #[cfg(test)]
@@ -18,6 +19,7 @@ mod calls;
 mod commands;
 #[cfg(test)]
 mod disks;
+mod false_frame;
 #[cfg(test)]
 mod full;
 #[cfg(test)]
@@ -38,3 +40,4 @@ mod streams;
 mod texts;
 
 pub use callers::run_bytes;
+pub use false_frame::FalseFrame;

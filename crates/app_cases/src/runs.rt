@@ -1,21 +1,55 @@
 //! Runs without liars and without faults of disks, and their whole texts.
 
 use crate::callers::run_bytes;
-use crate::calls::{Host, cast_of, check_ran, first_bytes, run};
-use crate::texts::{ALL, FOUR_FRONT, Node, four, text};
+use crate::calls::{Coins, Host, cast_of, check_ran, first_bytes, run};
+use crate::texts::{ALL, FOUR_COINS, FOUR_FRONT, Node, four, text};
 use acs_world::{batches_ok, common_epochs, comparable};
 use hb_base::Bytes;
 use hb_rules::Report;
 use std::alloc::{AllocError, Global};
 use std::test::Fail;
 
-// A scenario, the first line of its run, what is printed of each node, and the status.
+// A scenario, the numbers of its coins, the first line of its run, what is printed of each node, and the status.
 struct Row {
     scenario: &'static str,
+    coins: Coins,
     front: &'static str,
     nodes: &'static [Node<'static>],
     status: u8,
 }
+
+// The coins of one node over two rounds and over three, of one node in two epochs, and of six nodes.
+const TWO_ROUNDS: Coins = Coins {
+    nodes: 1,
+    faulty: 0,
+    epochs: 1,
+    rounds: 2,
+    seed: 0,
+};
+
+const THREE_ROUNDS: Coins = Coins {
+    nodes: 1,
+    faulty: 0,
+    epochs: 1,
+    rounds: 3,
+    seed: 0,
+};
+
+const TWO_EPOCHS: Coins = Coins {
+    nodes: 1,
+    faulty: 0,
+    epochs: 2,
+    rounds: 32,
+    seed: 0,
+};
+
+const SIX_NODES: Coins = Coins {
+    nodes: 6,
+    faulty: 1,
+    epochs: 1,
+    rounds: 32,
+    seed: 0,
+};
 
 const SIX: &str = "epoch 0 batches 6
 batch 0 txs 1
@@ -45,13 +79,15 @@ const ROWS: [Row; 6] = [
     // one node, whose coins of rounds 0, 1 and 2 are 0, 0 and 1
     Row {
         scenario: r#"{"nodes":1,"faulty":0,"epochs":1,"rounds":3,"seed":0,"submit":[{"node":0,"tx":"6869"}]}"#,
+        coins: THREE_ROUNDS,
         front: "run nodes 1 faulty 0 version 1 epochs 1\n",
         nodes: &[("running", "epoch 0 batches 1\nbatch 0 txs 1\ntx 6869\n")],
         status: 0,
     },
-    // the same without the last round
+    // the same without the last round, so that no coin is 1
     Row {
         scenario: r#"{"nodes":1,"faulty":0,"epochs":1,"rounds":2,"seed":0,"submit":[{"node":0,"tx":"6869"}]}"#,
+        coins: TWO_ROUNDS,
         front: "run nodes 1 faulty 0 version 1 epochs 1\n",
         nodes: &[("running", "")],
         status: 5,
@@ -60,6 +96,7 @@ const ROWS: [Row; 6] = [
     Row {
         scenario: r#"{"nodes":6,"faulty":1,"epochs":1,"submit":[{"node":0,"tx":"61"},{"node":1,"tx":"62"},{"node":1,"tx":"6263"},
 {"node":2,"tx":"63"},{"node":3,"tx":"64"},{"node":4,"tx":"65"},{"node":5,"tx":"66"}]}"#,
+        coins: SIX_NODES,
         front: "run nodes 6 faulty 1 version 1 epochs 1\n",
         nodes: &[
             ("running", SIX),
@@ -74,6 +111,7 @@ const ROWS: [Row; 6] = [
     // one transaction at three nodes, and at one of them twice
     Row {
         scenario: r#"{"nodes":4,"faulty":1,"epochs":1,"submit":[{"node":0,"tx":"61"},{"node":1,"tx":"61"},{"node":2,"tx":"61"},{"node":2,"tx":"61"}]}"#,
+        coins: FOUR_COINS,
         front: "run nodes 4 faulty 1 version 1 epochs 1\n",
         nodes: &[
             ("running", ONCE),
@@ -86,6 +124,7 @@ const ROWS: [Row; 6] = [
     // two transactions in batches of one, the first of them twice
     Row {
         scenario: r#"{"nodes":1,"faulty":0,"epochs":2,"batch":1,"submit":[{"node":0,"tx":"61"},{"node":0,"tx":"62"},{"node":0,"tx":"61"}]}"#,
+        coins: TWO_EPOCHS,
         front: "run nodes 1 faulty 0 version 1 epochs 2\n",
         nodes: &[(
             "running",
@@ -96,6 +135,7 @@ const ROWS: [Row; 6] = [
     // nothing was submitted: in each of two epochs an empty batch
     Row {
         scenario: r#"{"nodes":1,"faulty":0,"epochs":2}"#,
+        coins: TWO_EPOCHS,
         front: "run nodes 1 faulty 0 version 1 epochs 2\n",
         nodes: &[(
             "running",
@@ -104,6 +144,16 @@ const ROWS: [Row; 6] = [
         status: 0,
     },
 ];
+
+// Checks that the coins fall as a row needs it: all 0 where it spends its rounds, else so that each lane can decide.
+fn check_coins(rt: &impl Host, alloc: Global, coins: &Coins, spends: bool) -> Result<(), Fail> {
+    if spends {
+        assert!(rt; coins.are_all_zero(alloc)?);
+    } else {
+        assert!(rt; coins.have_both_bits(alloc)?);
+    }
+    Ok(())
+}
 
 // Checks that the caller is answered the same, and prints the same.
 fn check_caller(
@@ -124,6 +174,7 @@ fn check_caller(
 #[test]
 fn whole_texts(rt: HostRuntime) -> Result<(), Fail> {
     for row in &ROWS {
+        check_coins(&rt, rt.alloc(), &row.coins, row.status == 5)?;
         let answer = run(&rt, rt.alloc(), row.scenario)?;
         let want = text(rt.alloc(), row.front, row.nodes, row.status)?;
         check_ran(&rt, &answer, row.status, want.as_str(), row.scenario);
@@ -135,6 +186,7 @@ fn whole_texts(rt: HostRuntime) -> Result<(), Fail> {
 #[test]
 fn four_nodes(rt: HostRuntime) -> Result<(), Fail> {
     let alloc = rt.alloc();
+    assert!(rt; FOUR_COINS.have_both_bits(alloc)?);
     let whole = ("running", ALL);
     for (keys, third, status) in [
         ("", whole, 0),
@@ -186,6 +238,7 @@ fn histories_of_one_node(rt: HostRuntime) -> Result<(), Fail> {
     let three =
         b"\x10\x01\x02\x03\x04\x05\x06\x07\x08\x09\x05\x06\x07\x08\x09\x05\x06\x07\x08\x09\x0a\x11\x12";
     let two = b"\x10\x01\x02\x03\x04\x05\x06\x07\x08\x09\x05\x06\x07\x08\x09";
+    assert!(rt; TWO_ROUNDS.are_all_zero(alloc)? && THREE_ROUNDS.have_both_bits(alloc)?);
     for (rounds, votes) in [(3, three.as_slice()), (2, two.as_slice())] {
         let scenario = format!(in alloc;
             "{{\"nodes\":1,\"faulty\":0,\"epochs\":1,\"rounds\":{rounds},\"seed\":0,\"submit\":[{{\"node\":0,\"tx\":\"6869\"}}]}}"

@@ -1,5 +1,6 @@
 //! Scenarios of four nodes that submit a transaction each, and the texts of runs.
 
+use crate::calls::Coins;
 use std::alloc::{AllocError, Global};
 
 // Four nodes, of which one may be faulty, with a transaction each, up to what else the scenario has.
@@ -14,6 +15,15 @@ pub(crate) fn four(alloc: Global, keys: &str) -> Result<String, AllocError> {
     }
     Ok(scenario)
 }
+
+// Their coins, where the scenario names no other seed.
+pub(crate) const FOUR_COINS: Coins = Coins {
+    nodes: 4,
+    faulty: 1,
+    epochs: 1,
+    rounds: 32,
+    seed: 0,
+};
 
 // The first line of a run of the four nodes.
 pub(crate) const FOUR_FRONT: &str = "run nodes 4 faulty 1 version 1 epochs 1\n";

@@ -1,7 +1,10 @@
 //! Runs that one thread makes too, with one worker and with four.
 
-use crate::calls::{Answer, Host, check_any, check_text, run};
+use crate::calls::{Answer, Host, check_any, check_text, run, run_with};
 use crate::texts::{FOUR, text_without, with_workers};
+use app_cases::FalseFrame;
+use hb_base::OpenGate;
+use liar_cast::Liar;
 use std::alloc::{AllocError, Global};
 use std::test::Fail;
 
@@ -300,5 +303,61 @@ fn sixteen_nodes(rt: HostRuntime) -> Result<(), Fail> {
     let answer = run(&rt, alloc, scenario.as_str())?;
     check_any(&rt, alloc, &answer, &[0, 5], "sixteen nodes")?;
     assert_eq!(rt; answer.report.ends.len(), 272);
+    Ok(())
+}
+
+// A frame that is false stands for no bytes, in every schedule: where the liar's lane is accepted its batch is empty.
+#[test]
+fn false_frames(rt: HostRuntime) -> Result<(), Fail> {
+    let alloc = rt.alloc();
+    let keys = r#","liars":[{"node":3,"name":"false_frame"}]"#;
+    for workers in [1, 4] {
+        let scenario = with_workers(alloc, FOUR, keys, workers)?;
+        let mut liars: Vec<Box<dyn Liar>> = Vec::new(alloc);
+        liars.push(Box::new(alloc, FalseFrame)?)?;
+        let answer = run_with(&rt, alloc, scenario.as_str(), liars, &OpenGate)?;
+        check_any(&rt, alloc, &answer, &[0, 5], scenario.as_str())?;
+        assert!(rt; has_lines(answer.out.held(), "node 3 liar\n"));
+        assert!(rt; !has_lines(answer.out.held(), "tx 6133\n"));
+        let is_accepted = has_lines(answer.out.held(), "batch 3 ");
+        assert_eq!(rt;
+            has_lines(answer.out.held(), "batch 3 txs 0\n"),
+            is_accepted
+        );
+    }
+    Ok(())
+}
+
+// Sixteen nodes with 64 transactions of 256 bytes each, up to what else the scenario has.
+fn full_batches(alloc: Global) -> Result<String, AllocError> {
+    let mut rest = String::new(alloc);
+    for _byte in 0..254u8 {
+        rest.push_str("ab")?;
+    }
+    let mut scenario = String::from_str(
+        alloc,
+        r#"{"nodes":16,"faulty":5,"epochs":1,"batch":64,"submit":["#,
+    )?;
+    for number in 0..1_024u32 {
+        let comma = if number == 0 { "" } else { "," };
+        let node = number / 64;
+        let entry = format!(in alloc; "{comma}{{\"node\":{node},\"tx\":\"{number:04x}{rest}\"}}")?;
+        scenario.push_str(entry.as_str())?;
+    }
+    scenario.push_str("]")?;
+    Ok(scenario)
+}
+
+#[test]
+fn the_longest_batches(rt: HostRuntime) -> Result<(), Fail> {
+    let alloc = rt.alloc();
+    let front = full_batches(alloc)?;
+    for workers in [1, 4] {
+        let scenario = with_workers(alloc, front.as_str(), "", workers)?;
+        let answer = run(&rt, alloc, scenario.as_str())?;
+        check_any(&rt, alloc, &answer, &[0, 5], "the longest batches")?;
+        let is_whole = has_lines(answer.out.held(), " txs 64\ntx ");
+        assert!(rt; is_whole || answer.status == 5);
+    }
     Ok(())
 }
