@@ -12,6 +12,7 @@ use Rattle.hb_rules.specs.Coins.{coin_in}
 use Rattle.hb_rules.specs.Marks.{Mark, delivery, est, any_est, bval, any_aux, any_conf, pick, any_pick, any_coin, decision, any_decision, bears}
 use Rattle.hb_rules.specs.Parts.{in_agreement, read_in_agreement}
 use Rattle.hb_rules.specs.Slots.{IsIdle}
+use Rattle.hb_rules.specs.Owing.{Place}
 use Rattle.hb_rules.proofs.Lists.{any_within}
 use Rattle.hb_rules.proofs.Starting.{choice_none}
 use Rattle.aba_core.specs.declared.marks.Marks.{Marks}
@@ -19,7 +20,7 @@ use Rattle.aba_core.specs.declared.round.Round.{Round}
 use Rattle.aba_core.specs.Bits.{no_bits}
 use Rattle.aba_core.specs.Marks.{no_marks, is_marked}
 use Rattle.aba_core.specs.Rounds.{IsNew, blank}
-use Rattle.aba_core.specs.State.{Place, AbaView, place_of, mark_round, claim_round, mark_at, IsAba, AreNew}
+use Rattle.aba_core.specs.State.{AbaView, place_of, mark_round, claim_round, mark_at, IsAba, AreNew}
 use Rattle.aba_core.specs.Standing.{slots_at, Shows, Stands}
 use Rattle.aba_core.specs.Passing.{Casts}
 use Rattle.aba_core.proofs.Names.{all_resting_idle}

@@ -6,8 +6,9 @@ use Rattle.hb_wire.specs.declared.vote.Vote.{Vote}
 use Rattle.hb_rules.specs.Hearing.{Hearing}
 use Rattle.hb_rules.specs.Room.{DueView}
 use Rattle.hb_rules.specs.Slots.{pass, IsIdle, IsOwed}
+use Rattle.hb_rules.specs.Owing.{Place}
 use Rattle.hb_rules.proofs.Passing.{IsOwed-nil, IsOwed-unique}
-use Rattle.aba_core.specs.State.{Place, AbaView, place_of, IsAba}
+use Rattle.aba_core.specs.State.{AbaView, place_of, IsAba}
 use Rattle.aba_core.specs.Standing.{slots_at, Shows, Stands, Hears}
 use Rattle.aba_core.specs.Rows.{RestsBelow}
 use Rattle.aba_core.specs.Passing.{Notes, Settled}

@@ -12,8 +12,9 @@ use Rattle.hb_rules.specs.Hearing.{Hearing, hearing}
 use Rattle.hb_rules.specs.Marks.{Mark, delivery, est, any_est, bval, any_aux, any_conf, pick, any_pick, any_coin, decision, any_decision, bears, has, Claim, bvals, auxes, any_auxes, confs, any_confs, confs_with, makes}
 use Rattle.hb_rules.specs.Room.{DueView}
 use Rattle.hb_rules.specs.Slots.{IsIdle, IsOwed}
+use Rattle.hb_rules.specs.Owing.{Place}
 use Rattle.hb_rules.proofs.Passing.{IsOwed-nil}
-use Rattle.aba_core.specs.State.{Place, AbaView, place_of, mark_round, mark_at, IsAba}
+use Rattle.aba_core.specs.State.{AbaView, place_of, mark_round, mark_at, IsAba}
 use Rattle.aba_core.specs.Standing.{slots_at, Shows, Stands, Takes}
 use Rattle.aba_core.specs.Rows.{RestsBelow}
 use Rattle.aba_core.specs.Passing.{Settled, Notes}

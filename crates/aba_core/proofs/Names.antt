@@ -12,11 +12,12 @@ use Rattle.hb_rules.specs.Agreement.{confirms}
 use Rattle.hb_rules.specs.AgreementRows.{agreement_slot, agreement_names, confirm_names}
 use Rattle.hb_rules.specs.Hearing.{Hearing}
 use Rattle.hb_rules.specs.Slots.{Slot, each, of_epoch, IsIdle}
+use Rattle.hb_rules.specs.Owing.{Place}
 use Rattle.hb_rules.proofs.Lists.{AllByRecursion-append, AllByRecursion-each, AllByRecursion-contains, AllByRecursion-weaker, Contains-first, Contains-later}
 use Rattle.hb_rules.proofs.Passing.{IsSettledAt, pass_settled, settled_idle}
 use Rattle.aba_core.specs.declared.passing.Row.{Row}
 use Rattle.aba_core.specs.declared.passing.Row.TheVariants.{Support, Accept, ConfirmOne, ConfirmBoth, PickOne, PickBoth, ShowShare, GoOn, Decide}
-use Rattle.aba_core.specs.State.{Place, AbaView, place_of}
+use Rattle.aba_core.specs.State.{AbaView, place_of}
 use Rattle.aba_core.specs.Standing.{slots_at, Shows}
 use Rattle.aba_core.specs.Rows.{row_at, row_of, needs_confirm, confirm_slots, begin_slots, names_of, IsKnown, slots_for, Rests, RestsBelow}
 use Rattle.aba_core.proofs.Resting.{rests_settled, settled_rests}

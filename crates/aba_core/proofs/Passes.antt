@@ -17,6 +17,7 @@ use Rattle.hb_rules.specs.Hearing.{Hearing, heard_by}
 use Rattle.hb_rules.specs.Marks.{single, Mark, delivery, any_est, any_aux, any_conf, pick, bears, has, bvals, auxes, confs, makes}
 use Rattle.hb_rules.specs.Room.{DueView}
 use Rattle.hb_rules.specs.Slots.{Slot, each, owes, pass, passes, IsIdle, when}
+use Rattle.hb_rules.specs.Owing.{Place}
 use Rattle.hb_rules.proofs.Lists.{AllByRecursion-each, AllByRecursion-weaker, AllByRecursion-both}
 use Rattle.hb_rules.proofs.Passing.{pass-append}
 use Rattle.aba_core.specs.declared.marks.Marks.{Marks}
@@ -26,7 +27,7 @@ use Rattle.aba_core.specs.declared.round.Round.{Round}
 use Rattle.aba_core.specs.Marks.{no_marks, any_pick_in}
 use Rattle.aba_core.specs.Tables.{voters_in, count_in}
 use Rattle.aba_core.specs.Levels.{levels_of}
-use Rattle.aba_core.specs.State.{Place, AbaView, place_of, round_in, mark_round, claim_round, mark_at, view_at, choice_at, slot_round, IsAba}
+use Rattle.aba_core.specs.State.{AbaView, place_of, round_in, mark_round, claim_round, mark_at, view_at, choice_at, slot_round, IsAba}
 use Rattle.aba_core.specs.Standing.{slots_at, Shows}
 use Rattle.aba_core.specs.Rows.{row_at, row_of, needs_confirm, names_of, IsKnown, slots_for, Rests, RestsBelow, limits_of, room_of}
 use Rattle.aba_core.specs.Passing.{Casts, Adds, Passed, PassedTimes, Settled}

@@ -11,10 +11,11 @@ use Rattle.hb_rules.specs.AgreementRows.{View, view_of, choice_of, limit_of, agr
 use Rattle.hb_rules.specs.Hearing.{Hearing, heard_by}
 use Rattle.hb_rules.specs.Marks.{Mark, delivery, any_est, decision, Claim, bvals, auxes, any_auxes, confs, any_confs, confs_with, makes, support}
 use Rattle.hb_rules.specs.Slots.{Slot, when}
+use Rattle.hb_rules.specs.Owing.{Place}
 use Rattle.hb_rules.proofs.Counts.{count_nodes-same, count_nodes-above}
 use Rattle.hb_rules.proofs.Passing.{IsSettledAt, settled_if_cast, settled_if_none, settled_parts}
 use Rattle.aba_core.specs.Tables.{count_in}
-use Rattle.aba_core.specs.State.{Place, AbaView, place_of, round_in, mark_round, claim_round, mark_at, voters_at, view_at, choice_at, slot_round}
+use Rattle.aba_core.specs.State.{AbaView, place_of, round_in, mark_round, claim_round, mark_at, voters_at, view_at, choice_at, slot_round}
 use Rattle.aba_core.specs.Standing.{Shows}
 use Rattle.aba_core.specs.Rows.{IsKnown, Rests, RestsBelow}
 use Rattle.aba_core.proofs.Alike.{StartAlike, AreAlike, is_next, is_begin, choice_alike, next_choice_alike, next_rests}

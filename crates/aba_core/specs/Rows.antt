@@ -9,9 +9,10 @@ use Rattle.hb_rules.specs.AgreementRows.{limit_of, agreement_slot}
 use Rattle.hb_rules.specs.Hearing.{Hearing}
 use Rattle.hb_rules.specs.Marks.{Mark, any_est, bval, any_aux, any_conf, any_pick, any_coin, any_decision}
 use Rattle.hb_rules.specs.Slots.{Slot, each}
+use Rattle.hb_rules.specs.Owing.{Place}
 use Rattle.aba_core.specs.declared.passing.Row.{Row}
 use Rattle.aba_core.specs.declared.passing.Row.TheVariants.{Support, Accept, ConfirmOne, ConfirmBoth, PickOne, PickBoth, ShowShare, GoOn, Decide}
-use Rattle.aba_core.specs.State.{Place, AbaView, mark_round, mark_at, choice_at, slot_round}
+use Rattle.aba_core.specs.State.{AbaView, mark_round, mark_at, choice_at, slot_round}
 
 -- the slots of a row in one round; the last round has none after it
 abbrev pub row_at : Numbers → Row → ℕ → List AgreementSlot

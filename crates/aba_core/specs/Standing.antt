@@ -9,8 +9,8 @@ use Rattle.hb_rules.specs.Hearing.{Hearing, heard_by}
 use Rattle.hb_rules.specs.Marks.{Mark, any_est, has, Claim, makes}
 use Rattle.hb_rules.specs.Coins.{shares_in, coin_in}
 use Rattle.hb_rules.specs.Slots.{Slot, IsIdle, IsOwed}
-use Rattle.hb_rules.specs.Owing.{agreement_slots}
-use Rattle.aba_core.specs.State.{Place, AbaView, place_of, round_in, mark_round, claim_round, mark_at, voters_at}
+use Rattle.hb_rules.specs.Owing.{Place, agreement_slots}
+use Rattle.aba_core.specs.State.{AbaView, place_of, round_in, mark_round, claim_round, mark_at, voters_at}
 
 -- what its lane owes
 abbrev pub slots_at : Place → List (Slot Vote Hearing)

@@ -6,19 +6,13 @@ use Rattle.hb_rules.specs.declared.agreement_slot.AgreementSlot.{AgreementSlot}
 use Rattle.hb_rules.specs.declared.agreement_slot.AgreementSlot.TheVariants.{Begin, Support, Accept, ConfirmOne, ConfirmBoth, PickOne, PickBoth, ShowShare, GoOn, Decide}
 use Rattle.hb_rules.specs.Marks.{Mark, delivery, est, any_est, bval, any_aux, any_conf, pick, any_pick, any_coin, decision, any_decision, Claim, bvals, auxes, any_auxes, confs, any_confs, confs_with}
 use Rattle.hb_rules.specs.AgreementRows.{View, choice_of}
+use Rattle.hb_rules.specs.Owing.{Place}
 use Rattle.aba_core.specs.declared.bits.Bits.{Bits}
 use Rattle.aba_core.specs.declared.round.Round.{Round}
 use Rattle.aba_core.specs.Bits.{holds}
 use Rattle.aba_core.specs.Marks.{no_marks, is_marked}
 use Rattle.aba_core.specs.Rounds.{IsRound, IsNew, blank}
 use Rattle.aba_core.specs.Tables.{voters_in, count_in}
-
--- which agreement at which node
-pub record Place : Type 0 where
-  pub config : Numbers
-  pub node : ℕ
-  pub lane : ℕ
-  pub epoch : ℕ
 
 pub record AbaView : Type 0 where
   pub config : Numbers

@@ -20,7 +20,7 @@ use Rattle.hb_rules.proofs.Lists.{some_if, first_within}
 use Rattle.hb_rules.proofs.Passing.{pass-rests, IsOwed-pass}
 use Rattle.acs_core.specs.declared.shown.Shown.{Shown}
 use Rattle.acs_core.specs.Shown.{nothing, shown_at, with_decision, with_value}
-use Rattle.acs_core.specs.Subset.{AcsView, place_of, fresh, slots_at, heard_in_subset, Stands, Hears, Notes, is_no_more_due}
+use Rattle.acs_core.specs.Subset.{AcsView, node_epoch_of, fresh, slots_at, heard_in_subset, Stands, Hears, Notes, is_no_more_due}
 use Rattle.acs_core.proofs.Firsts.{option_or-none, first_of-push, count_nodes-below}
 use Rattle.acs_core.proofs.Noting.{claims_nothing, notes_nothing, Sets, sets_one, notes_decision, notes_delivery}
 
@@ -92,10 +92,10 @@ after a lanes cast = record a { lanes = lanes; is_no_more_cast = a.is_no_more_ca
 Hears-pass : (a : AcsView) (lanes : List Shown) (cast : Bool) (h : Hearing) (before now : List Vote) → Notes a.epoch a.config.n a.lanes lanes h
     → now ≡ before ++ option_to_list (when cast (NoMore a.epoch))
     → ((own : List Vote) (heard : List Hearing) → Stands a own heard
-    → pass (slots_at (place_of a)) own (heard ++ h ∷ []) ≡ option_to_list (when cast (NoMore a.epoch)))
+    → pass (slots_at (node_epoch_of a)) own (heard ++ h ∷ []) ≡ option_to_list (when cast (NoMore a.epoch)))
     → Hears a (after a lanes cast) h before now
 Hears-pass a lanes cast h before now notes is gives = record {
-  place = refl;
+  node_epoch = refl;
   is_due = cast;
   due = is;
   owed = λ own heard stands.
@@ -113,10 +113,10 @@ Hears-pass a lanes cast h before now notes is gives = record {
 }
   where
     slots : List (Slot Vote Hearing)
-    slots = slots_at (place_of a)
+    slots = slots_at (node_epoch_of a)
 
-    rests : (own : List Vote) (heard : List Hearing) → IsIdle (slots_at (place_of a)) (own ++ pass (slots_at (place_of a)) own heard) heard
-    rests own heard = pass-rests (slots_at (place_of a)) (no_more_plain a.config a.epoch, tt) own heard
+    rests : (own : List Vote) (heard : List Hearing) → IsIdle (slots_at (node_epoch_of a)) (own ++ pass (slots_at (node_epoch_of a)) own heard) heard
+    rests own heard = pass-rests (slots_at (node_epoch_of a)) (no_more_plain a.config a.epoch, tt) own heard
 
 -- a lane may have decided: NoMore is due where enough have decided 1 then
 pub Hears-decision : (a : AcsView) (lanes : List Shown) (h : Hearing) (before now : List Vote) → Notes a.epoch a.config.n a.lanes lanes h

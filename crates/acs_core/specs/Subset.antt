@@ -15,7 +15,7 @@ use Rattle.acs_core.specs.declared.shown.Shown.{Shown}
 use Rattle.acs_core.specs.Shown.{nothing, shown_at}
 
 -- which epoch at which node
-pub record Place : Type 0 where
+pub record NodeEpoch : Type 0 where
   pub config : Numbers
   pub node : ℕ
   pub epoch : ℕ
@@ -29,15 +29,15 @@ pub record AcsView : Type 0 where
   pub lanes : List Shown
 
 -- the epoch that a state is of
-abbrev pub place_of : AcsView → Place
-place_of a = record { config = a.config; node = a.node; epoch = a.epoch }
+abbrev pub node_epoch_of : AcsView → NodeEpoch
+node_epoch_of a = record { config = a.config; node = a.node; epoch = a.epoch }
 
 -- the state that has heard nothing
 abbrev pub fresh : Numbers → ℕ → ℕ → Bool → AcsView
 fresh c i e cast = record { config = c; node = i; epoch = e; is_no_more_cast = cast; lanes = replicate c.n nothing }
 
 -- what its desk owes before the epoch is closed
-abbrev pub slots_at : Place → List (Slot Vote Hearing)
+abbrev pub slots_at : NodeEpoch → List (Slot Vote Hearing)
 slots_at p = no_more_slot p.config p.epoch ∷ []
 
 -- hearings that it looks at
@@ -47,7 +47,7 @@ heard_in_subset e h = epoch_of h.vote == e
 -- The state stands for what was cast and heard: nothing is owed, its mark is of what was cast, and what it has of each lane
 -- is the first decision and the first delivery that were heard of it.
 pub record Stands (a : AcsView) (own : List Vote) (heard : List Hearing) : Type 0 where
-  pub idle : IsIdle (slots_at (place_of a)) own heard
+  pub idle : IsIdle (slots_at (node_epoch_of a)) own heard
   pub cast : a.is_no_more_cast ≡ list_any (is_no_more a.epoch) own
   pub decisions : (j : ℕ) → j < a.config.n → (shown_at a.lanes j).decision ≡ decision_of a.epoch heard j
   pub values : (j : ℕ) → j < a.config.n → (shown_at a.lanes j).value ≡ delivery_of a.epoch heard j
@@ -55,11 +55,11 @@ pub record Stands (a : AcsView) (own : List Vote) (heard : List Hearing) : Type 
 -- The state hears one vote more. NoMore alone may become due. Whatever the state stood for, NoMore becomes due exactly
 -- where it is owed then, and the state stands for all of these.
 pub record Hears (old new : AcsView) (h : Hearing) (before after : List Vote) : Type 0 where
-  pub place : place_of new ≡ place_of old
+  pub node_epoch : node_epoch_of new ≡ node_epoch_of old
   pub is_due : Bool
   pub due : after ≡ before ++ option_to_list (when is_due (NoMore old.epoch))
   pub owed : (own : List Vote) (heard : List Hearing) → Stands old own heard
-      → IsOwed (slots_at (place_of old)) own (heard ++ h ∷ []) (option_to_list (when is_due (NoMore old.epoch)))
+      → IsOwed (slots_at (node_epoch_of old)) own (heard ++ h ∷ []) (option_to_list (when is_due (NoMore old.epoch)))
   pub stands : (own : List Vote) (heard : List Hearing) → Stands old own heard
       → Stands new (own ++ option_to_list (when is_due (NoMore old.epoch))) (heard ++ h ∷ [])
 

@@ -1,5 +1,5 @@
-ghost use Rattle.std.specs.Prelude.{◌≡◌, ◌-◌, ◌<◌, ◌≤◌, ◌&&◌, ◌||◌, true, false, List, [], ◌++◌, length, replicate};
-ghost use Rattle.std.specs.Prelude.{IfOk, OnOk, OnErr, IsOk, None, Some};
+ghost use Rattle.std.specs.Prelude.{◌≡◌, ◌<◌, ◌≤◌, ◌||◌, false, List, [], ◌++◌, length, replicate};
+ghost use Rattle.std.specs.Prelude.{IfOk, OnOk, OnErr, IsOk};
 ghost use Rattle.std.specs.Option.{option_map, option_to_list};
 ghost use Rattle.std.specs.List.{list_any, filter};
 ghost use Rattle.hb_wire.specs.declared.vote.Vote.{Vote};
@@ -9,7 +9,7 @@ ghost use Rattle.hb_rules.specs.DeskRows.{accepted_below};
 ghost use Rattle.hb_rules.specs.Hearing.{Hearing, hearing};
 ghost use Rattle.hb_rules.specs.Slots.{when};
 ghost use Rattle.acs_core.specs.Shown.{accepted_of, nothing};
-ghost use Rattle.acs_core.specs.Subset.{AcsView, place_of, fresh, Stands, Hears, is_no_more_due, heard_in_subset};
+ghost use Rattle.acs_core.specs.Subset.{AcsView, node_epoch_of, fresh, Stands, Hears, is_no_more_due, heard_in_subset};
 
 use crate::shown::{Shown, accepted, count_accepted, note_decision, note_value};
 use hb_base::{Bytes, Config};
@@ -74,11 +74,11 @@ impl Acs {
     /// lane the first decision and the first delivery count. It does not heed a vote of another epoch or kind. Want of
     /// memory changes nothing; with room for one vote only a delivery can want any.
     pub fn hear(&mut self, lane: u8, vote: &Vote, due: &mut Due) -> Result<(), AllocError>
-        requires { lane < (place_of self.old).config.n }
+        requires { lane < (node_epoch_of self.old).config.n }
         ensures ok { OnOk result (Hears self.old self.new (hearing lane vote.now) due.old.votes due.new.votes) }
         ensures err { OnErr result (self.new ≡ self.old) }
         ensures due { OnErr result (due.new.votes ≡ due.old.votes) }
-        ensures enough { 1 ≤ due.old.spare → is_any_delivery (place_of self.old).epoch vote.now ≡ false → IsOk result }
+        ensures enough { 1 ≤ due.old.spare → is_any_delivery (node_epoch_of self.old).epoch vote.now ≡ false → IsOk result }
     {
         match vote {
             Vote::Decided { epoch, bit } => {
@@ -105,7 +105,7 @@ impl Acs {
     pub fn closed(&self) -> Result<Option<Vote>, AllocError>
         ensures exact { IfOk result (λ vote. vote ≡ option_map (Closed self.now.epoch) (accepted_of self.now.lanes self.now.config.n)) }
         ensures heard { IfOk result (λ vote. (own : List Vote) (heard : List Hearing) → Stands self.now own heard
-            → vote ≡ option_map (Closed (place_of self.now).epoch) (accepted_below (place_of self.now).epoch heard (place_of self.now).config.n)) }
+            → vote ≡ option_map (Closed (node_epoch_of self.now).epoch) (accepted_below (node_epoch_of self.now).epoch heard (node_epoch_of self.now).config.n)) }
     {
         let n = self.config.n();
         prove!(n <= 16);
@@ -120,7 +120,7 @@ impl Acs {
 
     // A lane decides.
     fn hear_decision(&mut self, lane: u8, bit: bool, due: &mut Due) -> Result<(), AllocError>
-        requires { lane < (place_of self.old).config.n }
+        requires { lane < (node_epoch_of self.old).config.n }
         ensures ok { OnOk result (Hears self.old self.new (hearing lane (Decided self.old.epoch bit)) due.old.votes due.new.votes) }
         ensures err { OnErr result (self.new ≡ self.old) }
         ensures due { OnErr result (due.new.votes ≡ due.old.votes) }
@@ -134,7 +134,7 @@ impl Acs {
 
     // A lane delivers.
     fn hear_delivery(&mut self, lane: u8, value: &Bytes) -> Result<(), AllocError>
-        requires { lane < (place_of self.old).config.n }
+        requires { lane < (node_epoch_of self.old).config.n }
         ensures ok { OnOk result ((due : List Vote) → Hears self.old self.new (hearing lane (Delivered self.old.epoch value.now)) due due) }
         ensures err { OnErr result (self.new ≡ self.old) }
     {
@@ -163,8 +163,8 @@ impl Acs {
 /// epoch is among them, and for other hearings with the same ones of the epoch.
 pub fn subset_laws()
     ensures part { (a : AcsView) (own other : List Vote) (heard now : List Hearing)
-        → list_any (is_no_more (place_of a).epoch) own ≡ list_any (is_no_more (place_of a).epoch) other
-        → filter (heard_in_subset (place_of a).epoch) heard ≡ filter (heard_in_subset (place_of a).epoch) now
+        → list_any (is_no_more (node_epoch_of a).epoch) own ≡ list_any (is_no_more (node_epoch_of a).epoch) other
+        → filter (heard_in_subset (node_epoch_of a).epoch) heard ≡ filter (heard_in_subset (node_epoch_of a).epoch) now
         → Stands a own heard → Stands a other now }
 {}
 

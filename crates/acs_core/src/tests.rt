@@ -1,7 +1,7 @@
 //! What no clause says: that calls find memory, and what whole epochs come to. The rows were worked out by a separate
 //! program in Python.
 ghost use Rattle.std.specs.Prelude.{◌≡◌, OnOk};
-ghost use Rattle.acs_core.specs.Subset.{place_of};
+ghost use Rattle.acs_core.specs.Subset.{node_epoch_of};
 
 use crate::Acs;
 use hb_base::{Bytes, Config, NodeSet};
@@ -64,8 +64,8 @@ fn said(alloc: Global, epoch: u8, letter: u8, value: u8) -> Result<(u8, Vote), A
 
 // Hears what a lane says. Whether NoMore of epoch 3 becomes due: None where something else does.
 fn hear(alloc: Global, acs: &mut Acs, n: u8, lane: u8, vote: &Vote) -> Result<Option<bool>, Fail>
-    requires { (place_of acs.old).config.n ≡ n }
-    ensures { OnOk result ((place_of acs.new).config.n ≡ n) }
+    requires { (node_epoch_of acs.old).config.n ≡ n }
+    ensures { OnOk result ((node_epoch_of acs.new).config.n ≡ n) }
 {
     if lane >= n {
         return Err("no lane".into());
@@ -81,8 +81,8 @@ fn hear(alloc: Global, acs: &mut Acs, n: u8, lane: u8, vote: &Vote) -> Result<Op
 
 // What comes of what a lane says in epoch 3, after it has said the like in epochs 2 and 4.
 fn outcome(alloc: Global, acs: &mut Acs, n: u8, letter: u8, value: u8) -> Result<u8, Fail>
-    requires { (place_of acs.old).config.n ≡ n }
-    ensures { OnOk result ((place_of acs.new).config.n ≡ n) }
+    requires { (node_epoch_of acs.old).config.n ≡ n }
+    ensures { OnOk result ((node_epoch_of acs.new).config.n ≡ n) }
 {
     let other = Vote::Decided {
         epoch: 2,

@@ -17,7 +17,7 @@ use Rattle.step_driver.specs.Places.{PlayerView}
 use Rattle.step_driver.specs.Delivering.{HasFate}
 use Rattle.step_driver.specs.Playing.{IsRefused, Explains, fate_of, may_restart}
 use Rattle.step_driver.proofs.Playing.{HasFate-fault}
-use Rattle.actor_cell.specs.Turning.{IsSameSeat, IsShown, Keeps, Recovers, Starts, Hears}
+use Rattle.actor_cell.specs.Turning.{IsSameSeat, IsShown, KeepsTerms, Recovers, Starts, Hears}
 
 pub Contains-none : {A : Type 0} (xs : List A) (x : A) → xs ≡ [] → Contains xs x → ⊥
 Contains-none xs x none stands = omega (arith, stands.1, ap length none)
@@ -37,14 +37,14 @@ IsSameSeat-refl p = record { config = refl; node = refl; actor = refl }
 pub IsSameSeat-then : (p q r : PlayerView) → IsSameSeat p q → IsSameSeat q r → IsSameSeat p r
 IsSameSeat-then p q r one two = record { config = two.config ∙ one.config; node = two.node ∙ one.node; actor = two.actor ∙ one.actor }
 
-pub Keeps-refl : (v : ActorView) → Keeps v v
-Keeps-refl v = record { terms = refl; planned = refl; budget = omega arith }
+pub KeepsTerms-refl : (v : ActorView) → KeepsTerms v v
+KeepsTerms-refl v = record { terms = refl; planned = refl; budget = omega arith }
 
-pub Keeps-then : (u v w : ActorView) → Keeps u v → Keeps v w → Keeps u w
-Keeps-then u v w one two = record { terms = two.terms ∙ one.terms; planned = two.planned ∙ one.planned; budget = omega (arith, one.budget, two.budget) }
+pub KeepsTerms-then : (u v w : ActorView) → KeepsTerms u v → KeepsTerms v w → KeepsTerms u w
+KeepsTerms-then u v w one two = record { terms = two.terms ∙ one.terms; planned = two.planned ∙ one.planned; budget = omega (arith, one.budget, two.budget) }
 
-pub Keeps-goes : (u v : ActorView) → Goes u v → Keeps u v
-Keeps-goes u v goes = record { terms = goes.terms; planned = goes.planned; budget = goes.budget }
+pub KeepsTerms-goes : (u v : ActorView) → Goes u v → KeepsTerms u v
+KeepsTerms-goes u v goes = record { terms = goes.terms; planned = goes.planned; budget = goes.budget }
 
 -- what an actor tells of its seat
 abbrev pub IsItsSeat : PlayerView → Type 0
@@ -69,7 +69,7 @@ IsShown-of old new is same watched view =
 pub record IsRecovering (old now : PlayerView) (first fault : ActorFault) (before out : List ℕ) : Type 0 where
   pub seat : IsSameSeat old now
   pub seen : IsPrefix old.seat.seen now.seat.seen
-  pub keeps : Keeps old.view now.view
+  pub keeps : KeepsTerms old.view now.view
   pub got : (k : ℕ) → Contains now.view.got k → Contains old.view.got k
   pub refused : IsRefused fault now
   pub restarts : old.view.restarts ≤ now.view.restarts
@@ -80,7 +80,7 @@ pub IsRecovering-start : (p : PlayerView) (fault : ActorFault) (out : List ℕ) 
 IsRecovering-start p fault out refused = record {
   seat = IsSameSeat-refl p;
   seen = IsPrefix-refl p.seat.seen;
-  keeps = Keeps-refl p.view;
+  keeps = KeepsTerms-refl p.view;
   got = λ k stands. stands;
   refused = refused;
   restarts = omega arith;
@@ -115,7 +115,7 @@ pub IsRecovering-on : (old p q : PlayerView) (first fault next : ActorFault) (be
 IsRecovering-on old p q first fault next before out out' was is seat seen goes either refused told = record {
   seat = IsSameSeat-then old p q was.seat seat;
   seen = IsPrefix-then old.seat.seen p.seat.seen q.seat.seen was.seen seen;
-  keeps = Keeps-then old.view p.view q.view was.keeps (Keeps-goes p.view q.view goes);
+  keeps = KeepsTerms-then old.view p.view q.view was.keeps (KeepsTerms-goes p.view q.view goes);
   got = λ k stands. was.got k (got_after p.view q.view either k stands);
   refused = refused;
   restarts = omega (arith, was.restarts, goes.restarts);
@@ -132,7 +132,7 @@ pub Recovers-again : (old p q : PlayerView) (first fault : ActorFault) (before o
 Recovers-again old p q first fault before out out' was is seat seen goes again live running told = record {
   seat = IsSameSeat-then old p q was.seat seat;
   seen = IsPrefix-then old.seat.seen p.seat.seen q.seat.seen was.seen seen;
-  keeps = Keeps-then old.view p.view q.view was.keeps (Keeps-goes p.view q.view goes);
+  keeps = KeepsTerms-then old.view p.view q.view was.keeps (KeepsTerms-goes p.view q.view goes);
   fate = subst (λ (f : Fate). HasFate true f q.seat q.view) (sym running) live;
   got = λ k stands. absurd (Contains-none q.view.got k again.got stands);
   again = λ _. (again.got, omega (arith, again.restarts, was.restarts));
@@ -181,7 +181,7 @@ pub Starts-begun : (old new : PlayerView) (before after : List ℕ) → IsSameSe
 Starts-begun old new before after seat seen goes live running got told = record {
   seat = seat;
   seen = seen;
-  keeps = Keeps-goes old.view new.view goes;
+  keeps = KeepsTerms-goes old.view new.view goes;
   fate = subst (λ (f : Fate). HasFate true f new.seat new.view) (sym running) live;
   none = λ k. Contains-none new.view.got k got;
   told = λ _. told;
@@ -194,7 +194,7 @@ pub Starts-recovers : (old p new : PlayerView) (fault : ActorFault) (before out 
 Starts-recovers old p new fault before out after seat seen goes got told recovers journal = record {
   seat = IsSameSeat-then old p new seat recovers.seat;
   seen = IsPrefix-then old.seat.seen p.seat.seen new.seat.seen seen recovers.seen;
-  keeps = Keeps-then old.view p.view new.view (Keeps-goes old.view p.view goes) recovers.keeps;
+  keeps = KeepsTerms-then old.view p.view new.view (KeepsTerms-goes old.view p.view goes) recovers.keeps;
   fate = recovers.fate;
   none = λ k stands. Contains-none p.view.got k got (recovers.got k stands);
   told = λ running. told_by_both old p new fault before out after goes told recovers journal running;
@@ -216,7 +216,7 @@ pub Hears-step : (k : ℕ) (old new : PlayerView) (before after : List ℕ) → 
 Hears-step k old new before after seat seen goes live running got restarts told = record {
   seat = seat;
   seen = seen;
-  keeps = Keeps-goes old.view new.view goes;
+  keeps = KeepsTerms-goes old.view new.view goes;
   fate = subst (λ (f : Fate). HasFate true f new.seat new.view) (sym running) live;
   got = got_more old.view new.view k (inr got);
   received = λ _. inl (got, restarts);
@@ -230,7 +230,7 @@ pub Hears-recovers : (k : ℕ) (old p new : PlayerView) (fault : ActorFault) (be
 Hears-recovers k old p new fault before out after seat seen goes kept told recovers journal = record {
   seat = IsSameSeat-then old p new seat recovers.seat;
   seen = IsPrefix-then old.seat.seen p.seat.seen new.seat.seen seen recovers.seen;
-  keeps = Keeps-then old.view p.view new.view (Keeps-goes old.view p.view goes) recovers.keeps;
+  keeps = KeepsTerms-then old.view p.view new.view (KeepsTerms-goes old.view p.view goes) recovers.keeps;
   fate = recovers.fate;
   got = λ j stands. got_more old.view p.view k kept j (recovers.got j stands);
   received = λ running. inr ((recovers.again running).0, omega (arith, (recovers.again running).1, goes.restarts));

@@ -26,7 +26,7 @@ use Rattle.actor_cell.specs.declared.served.Served.TheVariants as answers
 use Rattle.actor_cell.specs.Boxes.{BoxesView, place_of}
 use Rattle.actor_cell.specs.Mail.{MailView, Sent, sent_of, ArePut, IsSameTaker, deliveries}
 use Rattle.actor_cell.specs.Held.{IsHeld, WasShown}
-use Rattle.actor_cell.specs.Turning.{IsSameSeat, IsShown, Keeps, Starts, Begins, HasSent, Hears, HasReceived, IsHeard, Fares, Turning, TookOnly, HoldsBack, IsDelivered, Delivers, IsServed, ServesBack, ServesNew, TakesOne, TakesNone, Turned, arrival, arrival_found, by_lateness, arrives, is_late}
+use Rattle.actor_cell.specs.Turning.{IsSameSeat, IsShown, KeepsTerms, Starts, Begins, HasSent, Hears, HasReceived, IsHeard, Fares, Turning, TookOnly, HoldsBack, IsDelivered, Delivers, IsServed, ServesBack, ServesNew, TakesOne, TakesNone, Turned, arrival, arrival_found, by_lateness, arrives, is_late}
 use Rattle.actor_cell.proofs.Hearings.{shown_longer, moved_by, IsPrefix-refl, IsSameSeat-then, IsPrefix-then, IsShown-refl, IsShown-then, Contains-none}
 
 -- ---- what holds under the lock
@@ -189,7 +189,7 @@ IsHeard-sent s k o m q out front rest before after comes hears running shown par
       comes = rw (same.node, same.actor) (IsReceived-on s.config s o.seat.seen q.seat.seen o.seat.node o.seat.actor k more comes);
       seat = same;
       seen = more;
-      keeps = subst (λ (v : ActorView). Keeps o.view v) (sym shown.view) hears.keeps;
+      keeps = subst (λ (v : ActorView). KeepsTerms o.view v) (sym shown.view) hears.keeps;
       received = λ _. received_shown k o.view m.view q.view shown.view (hears.received running);
       sent = HasSent-of s o m q out front rest before after (hears.told running) hears.keeps.terms shown parts all put;
     }
@@ -200,7 +200,7 @@ IsHeard-shown s k o m q before after shown heard = record {
   comes = heard.comes;
   seat = IsSameSeat-then o m q shown.seat heard.seat;
   seen = IsPrefix-then o.seat.seen m.seat.seen q.seat.seen (shown_longer o m shown) heard.seen;
-  keeps = subst (λ (v : ActorView). Keeps v q.view) shown.view heard.keeps;
+  keeps = subst (λ (v : ActorView). KeepsTerms v q.view) shown.view heard.keeps;
   received = λ works. subst (λ (v : ActorView). HasReceived k v q.view) shown.view (heard.received works);
   sent = record {
     numbers = heard.sent.numbers;
@@ -244,7 +244,7 @@ pub Begins-sent : (s : Script) (o m q : PlayerView) (out front rest : List ℕ) 
 Begins-sent s o m q out front rest before after starts running shown parts all put = record {
   seat = IsSameSeat-then o m q starts.seat shown.seat;
   seen = IsPrefix-then o.seat.seen m.seat.seen q.seat.seen starts.seen (shown_longer m q shown);
-  keeps = subst (λ (v : ActorView). Keeps o.view v) (sym shown.view) starts.keeps;
+  keeps = subst (λ (v : ActorView). KeepsTerms o.view v) (sym shown.view) starts.keeps;
   none = λ k stands. starts.none k (subst (λ (v : ActorView). Contains v.got k) shown.view stands);
   sent = HasSent-of s o m q out front rest before after (starts.told running) starts.keeps.terms shown parts all put;
 }

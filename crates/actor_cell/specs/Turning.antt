@@ -65,7 +65,7 @@ pub record IsShown (old new : PlayerView) : Type 0 where
   pub others : Told old.view.terms old.seat.seen new.seat.seen [] []
 
 -- what no call of an actor changes, or makes more
-pub record Keeps (old new : ActorView) : Type 0 where
+pub record KeepsTerms (old new : ActorView) : Type 0 where
   pub terms : new.terms ≡ old.terms
   pub planned : new.supply.planned ≡ old.supply.planned
   pub budget : budget new.restarts new.supply ≤ budget old.restarts old.supply
@@ -74,7 +74,7 @@ pub record Keeps (old new : ActorView) : Type 0 where
 pub record Recovers (old new : PlayerView) (before after : List ℕ) : Type 0 where
   pub seat : IsSameSeat old new
   pub seen : IsPrefix old.seat.seen new.seat.seen
-  pub keeps : Keeps old.view new.view
+  pub keeps : KeepsTerms old.view new.view
   pub fate : HasFate true new.fate new.seat new.view
   pub got : (k : ℕ) → Contains new.view.got k → Contains old.view.got k
   pub again : new.fate ≡ Running → (new.view.got ≡ []) × (old.view.restarts < new.view.restarts)
@@ -89,7 +89,7 @@ HasReceived k old new =
 pub record Hears (k : ℕ) (old new : PlayerView) (before after : List ℕ) : Type 0 where
   pub seat : IsSameSeat old new
   pub seen : IsPrefix old.seat.seen new.seat.seen
-  pub keeps : Keeps old.view new.view
+  pub keeps : KeepsTerms old.view new.view
   pub fate : HasFate true new.fate new.seat new.view
   pub got : (j : ℕ) → Contains new.view.got j → Contains old.view.got j ⊎ (j ≡ k)
   pub received : new.fate ≡ Running → HasReceived k old.view new.view
@@ -107,7 +107,7 @@ pub record HasSent (s : Script) (old new : PlayerView) (before after : Sent) : T
 pub record Starts (old new : PlayerView) (before after : List ℕ) : Type 0 where
   pub seat : IsSameSeat old new
   pub seen : IsPrefix old.seat.seen new.seat.seen
-  pub keeps : Keeps old.view new.view
+  pub keeps : KeepsTerms old.view new.view
   pub fate : HasFate true new.fate new.seat new.view
   pub none : (k : ℕ) → ¬ Contains new.view.got k
   pub told : new.fate ≡ Running → Told old.view.terms old.seat.seen new.seat.seen before after
@@ -116,7 +116,7 @@ pub record Starts (old new : PlayerView) (before after : List ℕ) : Type 0 wher
 pub record Begins (s : Script) (old new : PlayerView) (before after : Sent) : Type 0 where
   pub seat : IsSameSeat old new
   pub seen : IsPrefix old.seat.seen new.seat.seen
-  pub keeps : Keeps old.view new.view
+  pub keeps : KeepsTerms old.view new.view
   pub none : (k : ℕ) → ¬ Contains new.view.got k
   pub sent : HasSent s old new before after
 
@@ -140,7 +140,7 @@ pub record IsHeard (s : Script) (k : ℕ) (old new : PlayerView) (before after :
   pub comes : IsReceived s.config s new.seat.seen new.seat.node new.seat.actor k
   pub seat : IsSameSeat old new
   pub seen : IsPrefix old.seat.seen new.seat.seen
-  pub keeps : Keeps old.view new.view
+  pub keeps : KeepsTerms old.view new.view
   pub received : new.fate ≡ Running → HasReceived k old.view new.view
   pub sent : HasSent s old new before after
 

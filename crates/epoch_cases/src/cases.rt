@@ -24,7 +24,7 @@ pub(crate) struct Case {
     pub(crate) wanted: &'static str,
 }
 
-pub(crate) const CASES: [Case; 12] = [
+pub(crate) const CASES: [Case; 13] = [
     // the epochs one after the other
     Case {
         nodes: 4,
@@ -144,5 +144,15 @@ pub(crate) const CASES: [Case; 12] = [
         own: "P0ab+N0+C00?+P1ab",
         script: "+01 =01ba",
         wanted: ". N1 C10ba+P2",
+    },
+    // wants no more and closes at once, two epochs the second time
+    Case {
+        nodes: 4,
+        faulty: 1,
+        batch: 2,
+        submitted: "abcdef",
+        own: "",
+        script: "-30 =00a +00 =10c +10 =20 +20 -12 +02 =02f =22 +22 =32 +32 =01bd +01 -21 =11 +11 =31e +31",
+        wanted: "P0ab . . . . . . N0+C00a1c2+P1bd . . . . . . N2 . . . . . . N1+C10bd13e+C20f23+P2f",
     },
 ];

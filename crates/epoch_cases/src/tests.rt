@@ -94,22 +94,39 @@ fn runs(rt: HostRuntime) -> Result<(), Fail> {
     Ok(())
 }
 
+// An answer in two: NoMore where a closing follows it, and the rest. A desk that has cast the first alone and has heard
+// nothing owes nothing. No other front of an answer is so: behind a closing there is the proposal that it makes due.
+fn cut(answer: &str) -> (&str, &str) {
+    match answer.split_once('+') {
+        Some((front, rest)) if front.starts_with('N') => (front, rest),
+        _ => ("", answer),
+    }
+}
+
 // The votes that a desk has cast after so many answers, and what it casts if it hears all again: nothing so many times, and
-// then what it cast before.
-fn again(alloc: Global, case: &Case, answers: usize) -> Result<(Vec<Vote>, Vec<u8>), Fail> {
+// then what it cast before. Where the next answer is cut, its front is among the votes, and only its rest is cast.
+fn again(
+    alloc: Global,
+    case: &Case,
+    answers: usize,
+    is_cut: bool,
+) -> Result<(Vec<Vote>, Vec<u8>), Fail> {
     let mut votes = votes_of(alloc, case.own)?;
     let mut text = Vec::new(alloc);
     let mut count = 0usize;
     for answer in case.wanted.split(' ') {
+        let (cast, left) = if count < answers {
+            (answer, ".")
+        } else if count == answers && is_cut {
+            cut(answer)
+        } else {
+            ("", answer)
+        };
         if count > 0 {
             text.push(b' ')?;
         }
-        if count < answers {
-            votes.append(&mut votes_of(alloc, answer)?)?;
-            text.push(b'.')?;
-        } else {
-            text.extend_from_slice(answer.as_bytes())?;
-        }
+        votes.append(&mut votes_of(alloc, cast)?)?;
+        text.extend_from_slice(left.as_bytes())?;
         count = count.saturating_add(1);
     }
     Ok((votes, text))
@@ -120,7 +137,7 @@ fn rebuilt_after_each_call(rt: HostRuntime) -> Result<(), Fail> {
     let alloc = rt.alloc();
     for case in CASES {
         for answers in 0..case.wanted.split(' ').count() {
-            let (own, wanted) = again(alloc, &case, answers.saturating_add(1))?;
+            let (own, wanted) = again(alloc, &case, answers.saturating_add(1), false)?;
             let text = outcome(alloc, &case, &own)?;
             assert!(rt;
                 text.as_slice() == wanted.as_slice(),
@@ -129,5 +146,28 @@ fn rebuilt_after_each_call(rt: HostRuntime) -> Result<(), Fail> {
             );
         }
     }
+    Ok(())
+}
+
+#[test]
+fn rebuilt_before_a_closing(rt: HostRuntime) -> Result<(), Fail> {
+    let alloc = rt.alloc();
+    let mut places = 0u32;
+    for case in CASES {
+        for (answers, answer) in case.wanted.split(' ').enumerate() {
+            let (front, _) = cut(answer);
+            if !front.is_empty() {
+                let (own, wanted) = again(alloc, &case, answers, true)?;
+                let text = outcome(alloc, &case, &own)?;
+                assert!(rt;
+                    text.as_slice() == wanted.as_slice(),
+                    "{} after {answers} answers and {front}",
+                    case.script
+                );
+                places = places.saturating_add(1);
+            }
+        }
+    }
+    assert_eq!(rt; places, 4);
     Ok(())
 }

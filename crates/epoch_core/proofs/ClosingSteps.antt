@@ -8,7 +8,7 @@ use Rattle.hb_wire.specs.declared.vote.Vote.TheVariants.{Closed}
 use Rattle.tx_pool.specs.Pool.{without}
 use Rattle.hb_rules.specs.Pool.{transactions_in}
 use Rattle.epoch_core.specs.declared.table.Table.{Table}
-use Rattle.acs_core.specs.Subset.{Place, place_of}
+use Rattle.acs_core.specs.Subset.{NodeEpoch, node_epoch_of}
 use Rattle.epoch_core.specs.declared.table.Table.TheVariants.{Unheard}
 use Rattle.epoch_core.specs.Tables.{acs_of, list_of, list_at, ArePlaced}
 use Rattle.epoch_core.proofs.Tabled.{table_read}
@@ -96,16 +96,16 @@ closed_all c i tables from old new le are = record {
 -- what is done by the table that is read is done by the tables
 at_read : (c : Numbers) (i : ℕ) (tables : List Table) (e : ℕ) (table : Table) (old new : Kept) (b : Bool) → e < length tables
     → table ≡ get_or tables e table → ArePlaced c i tables
-    → ((i : ℕ) → place_of (acs_of c i e table) ≡ record { config = c; node = i; epoch = e } → MayClose c e (list_of c i e table) old new b)
+    → ((i : ℕ) → node_epoch_of (acs_of c i e table) ≡ record { config = c; node = i; epoch = e } → MayClose c e (list_of c i e table) old new b)
     → MayClose c e (list_at c i tables e) old new b
 at_read c i tables e table old new b below is placed may =
     let read : table ≡ get_or tables e (Unheard false) = table_read tables e table below is in
     subst (λ (t : Table). MayClose c e (list_of c i e t) old new b) read
-    (may i (subst (λ (t : Table). let p : Place = record { config = c; node = i; epoch = e } in place_of (acs_of c i e t) ≡ p) (sym read) (placed e)))
+    (may i (subst (λ (t : Table). let p : NodeEpoch = record { config = c; node = i; epoch = e } in node_epoch_of (acs_of c i e t) ≡ p) (sym read) (placed e)))
 
 pub step_more : (c : Numbers) (i : ℕ) (tables : List Table) (from m : ℕ) (table : Table) (old mid new : Kept) (b : Bool) → from ≤ m → m < length tables
     → table ≡ get_or tables m table → ArePlaced c i tables → b ≡ true → AreClosed c i tables from (m - from) old mid
-    → ((i : ℕ) → place_of (acs_of c i m table) ≡ record { config = c; node = i; epoch = m } → MayClose c m (list_of c i m table) mid new b)
+    → ((i : ℕ) → node_epoch_of (acs_of c i m table) ≡ record { config = c; node = i; epoch = m } → MayClose c m (list_of c i m table) mid new b)
     → AreClosed c i tables from (m + 1 - from) old new
 step_more c i tables from m table old mid new b le below is placed closes are may =
     closed_more c i tables from m old mid new le are
@@ -113,7 +113,7 @@ step_more c i tables from m table old mid new b le below is placed closes are ma
 
 pub step_stops : (c : Numbers) (i : ℕ) (tables : List Table) (from m : ℕ) (table : Table) (old mid new : Kept) (b : Bool) → from ≤ m → m < length tables
     → m < c.epochs → table ≡ get_or tables m table → ArePlaced c i tables → b ≡ false → AreClosed c i tables from (m - from) old mid
-    → ((i : ℕ) → place_of (acs_of c i m table) ≡ record { config = c; node = i; epoch = m } → MayClose c m (list_of c i m table) mid new b)
+    → ((i : ℕ) → node_epoch_of (acs_of c i m table) ≡ record { config = c; node = i; epoch = m } → MayClose c m (list_of c i m table) mid new b)
     → ClosesAll c i tables from m old new
 step_stops c i tables from m table old mid new b le below within is placed waits are may =
     closed_stops c i tables from m old mid new le within are

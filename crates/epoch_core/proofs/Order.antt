@@ -1,4 +1,4 @@
--- Votes that a desk may have cast, and after which it owes nothing, are in order.
+-- Votes that a desk may have cast, and after which it owes nothing, or nothing but the first proposal, are in order.
 use Rattle.std.proofs.Common.{◌≡◌, ℕ, zero, suc, ◌<◌, Bool, true, false, ◌&&◌, ◌||◌, ◌==◌, List, [], ◌∷◌, ◌++◌, None, Some, if◌then◌else◌, refl, sym, ◌∙◌, subst, append_assoc, append-nil, arith}
 use Rattle.std.specs.List.{list_any}
 use Rattle.std.specs.Option.{is_some}
@@ -113,11 +113,29 @@ in_turn c heard own (v ∷ votes) some within are turns =
     subst (AreOpen c) (append_assoc own (v ∷ []) votes)
     (in_turn c heard (own ++ v ∷ []) votes some within (AreOpen-push c own v are (may_be c own heard v some within turns.0)) turns.1)
 
--- ---- and after which nothing is owed
+-- ---- and after which nothing is owed, or nothing but the first proposal
 
-pub in_order : (c : Numbers) (submitted : List (List ℕ)) (heard : List Hearing) (own : List Vote) → 0 < c.n → AreWithin c heard
-    → InTurn (λ own v. MayAtDesk c own heard v) [] own → IsIdle (desk_slots c submitted) own [] → AreInOrder c own
-in_order c submitted heard own some within turns idle =
+-- where nothing is owed, each open epoch of the run has a proposal
+open_proposed : (c : Numbers) (submitted : List (List ℕ)) (own : List Vote) (e : ℕ) → IsIdle (desk_slots c submitted) own [] → e < c.epochs
+    → is_open e own ≡ true → list_any (is_any_proposal e) own ≡ true
+open_proposed c submitted own e idle below opened =
+    proposal_owed c submitted e own []
+    (settled_idle (proposal_slot c submitted e ∷ []) own [] ((idle-rows c.epochs (desk_rows c submitted) own [] idle e below).0)).0
+    opened
+
+-- a proposal for the first epoch is one for no later epoch
+proposed_before : (own : List Vote) (value : List ℕ) (e : ℕ) → 0 < e → list_any (is_any_proposal e) (own ++ Propose 0 value ∷ []) ≡ true
+    → list_any (is_any_proposal e) own ≡ true
+proposed_before own value e above passes =
+    any_last (is_any_proposal e) own (Propose 0 value) passes (list_any (is_any_proposal e) own ≡ true)
+    (λ before. before)
+    (λ last. let at : 0 ≡ e = some_at 0 e value last in absurd (omega (arith, above, at)))
+
+in_order_where : (c : Numbers) (heard : List Hearing) (own : List Vote) → 0 < c.n → AreWithin c heard
+    → InTurn (λ own v. MayAtDesk c own heard v) [] own
+    → ((e : ℕ) → 0 < e → e < c.epochs → is_open e own ≡ true → list_any (is_any_proposal e) own ≡ true)
+    → AreInOrder c own
+in_order_where c heard own some within turns proposed =
     let are : AreOpen c own =
     in_turn c heard [] own some within
     (record { within = λ e passes. absurd (cc (passes)); closings = λ e passes. absurd (cc (passes)); proposals = λ e passes. absurd (cc (passes)) }) turns in
@@ -125,8 +143,19 @@ in_order c submitted heard own some within turns idle =
       within = are.within;
       closings = are.closings;
       proposals = are.proposals;
-      proposed = λ e above below opened.
-          proposal_owed c submitted e own []
-          (settled_idle (proposal_slot c submitted e ∷ []) own [] ((idle-rows c.epochs (desk_rows c submitted) own [] idle e below).0)).0
-          opened;
+      proposed = proposed;
     }
+
+pub in_order : (c : Numbers) (submitted : List (List ℕ)) (heard : List Hearing) (own : List Vote) → 0 < c.n → AreWithin c heard
+    → InTurn (λ own v. MayAtDesk c own heard v) [] own → IsIdle (desk_slots c submitted) own [] → AreInOrder c own
+in_order c submitted heard own some within turns idle =
+    in_order_where c heard own some within turns (λ e above below opened. open_proposed c submitted own e idle below opened)
+
+pub in_order_unproposed : (c : Numbers) (submitted : List (List ℕ)) (heard : List Hearing) (own : List Vote) (value : List ℕ) → 0 < c.n
+    → AreWithin c heard → InTurn (λ own v. MayAtDesk c own heard v) [] own
+    → IsIdle (desk_slots c submitted) (own ++ Propose 0 value ∷ []) [] → AreInOrder c own
+in_order_unproposed c submitted heard own value some within turns idle =
+    in_order_where c heard own some within turns
+    (λ e above below opened.
+    proposed_before own value e above
+    (open_proposed c submitted (own ++ Propose 0 value ∷ []) e idle below (open_more e own (Propose 0 value ∷ []) opened)))

@@ -18,7 +18,7 @@ use Rattle.hb_rules.proofs.Lists.{AllByRecursion-each}
 use Rattle.hb_rules.proofs.Passing.{plain-rests, pass-rests, IsOwed-pass, IsOwed-unique, settled_idle}
 use Rattle.hb_rules.proofs.Rows.{pass-each, not_heard}
 use Rattle.acs_core.specs.Shown.{accepted_of}
-use Rattle.acs_core.specs.Subset.{AcsView, Place, place_of, fresh, slots_at, heard_in_subset, Stands, Hears}
+use Rattle.acs_core.specs.Subset.{AcsView, NodeEpoch, node_epoch_of, fresh, slots_at, heard_in_subset, Stands, Hears}
 use Rattle.acs_core.proofs.Standing.{no_more_plain, pass_is, deciders, Stands-part, Stands-fresh}
 use Rattle.acs_core.proofs.Accepting.{accepted_heard, get_or_any}
 use Rattle.epoch_core.specs.declared.table.Table.{Table}
@@ -33,16 +33,16 @@ no_more_row c n = row_of (no_more_slot c) n
 
 -- ---- what one table stands for, at its place
 
-pub idle_at : (c : Numbers) (i e : ℕ) (a : AcsView) (own : List Vote) (heard : List Hearing) → place_of a ≡ record { config = c; node = i; epoch = e }
+pub idle_at : (c : Numbers) (i e : ℕ) (a : AcsView) (own : List Vote) (heard : List Hearing) → node_epoch_of a ≡ record { config = c; node = i; epoch = e }
     → Stands a own heard → IsIdle (no_more_slot c e ∷ []) own heard
-idle_at c i e a own heard place stands = subst (λ (p : Place). IsIdle (slots_at p) own heard) place stands.idle
+idle_at c i e a own heard place stands = subst (λ (p : NodeEpoch). IsIdle (slots_at p) own heard) place stands.idle
 
 -- votes without NoMore of its epoch, and a hearing of another epoch, leave it
 pub stands_apart : (c : Numbers) (i e : ℕ) (a : AcsView) (own more : List Vote) (heard : List Hearing) (h : Hearing)
-    → place_of a ≡ record { config = c; node = i; epoch = e } → list_any (is_no_more e) more ≡ false → (epoch_of h.vote ≡ e → ⊥)
+    → node_epoch_of a ≡ record { config = c; node = i; epoch = e } → list_any (is_no_more e) more ≡ false → (epoch_of h.vote ≡ e → ⊥)
     → Stands a own heard → Stands a (own ++ more) (heard ++ h ∷ [])
 stands_apart c i e a own more heard h place none apart stands =
-    let epoch : e ≡ a.epoch = ap (λ (p : Place). p.epoch) (sym place) in
+    let epoch : e ≡ a.epoch = ap (λ (p : NodeEpoch). p.epoch) (sym place) in
     Stands-part a own (own ++ more) heard (heard ++ h ∷ [])
     (sym (any_same (is_no_more a.epoch) own more (subst (λ (e : ℕ). list_any (is_no_more e) more ≡ false) epoch none)))
     (sym (not_heard (heard_in_subset a.epoch) heard h
@@ -51,20 +51,20 @@ stands_apart c i e a own more heard h place none apart stands =
 
 -- so do votes without it, with nothing heard more
 pub stands_more : (c : Numbers) (i e : ℕ) (a : AcsView) (own more : List Vote) (heard : List Hearing)
-    → place_of a ≡ record { config = c; node = i; epoch = e } → list_any (is_no_more e) more ≡ false
+    → node_epoch_of a ≡ record { config = c; node = i; epoch = e } → list_any (is_no_more e) more ≡ false
     → Stands a own heard → Stands a (own ++ more) heard
 stands_more c i e a own more heard place none stands =
-    let epoch : e ≡ a.epoch = ap (λ (p : Place). p.epoch) (sym place) in
+    let epoch : e ≡ a.epoch = ap (λ (p : NodeEpoch). p.epoch) (sym place) in
     Stands-part a own (own ++ more) heard heard
     (sym (any_same (is_no_more a.epoch) own more (subst (λ (e : ℕ). list_any (is_no_more e) more ≡ false) epoch none)))
     refl stands
 
 -- its list is that of what was heard
-pub list_heard : (c : Numbers) (i e : ℕ) (a : AcsView) (own : List Vote) (heard : List Hearing) → place_of a ≡ record { config = c; node = i; epoch = e }
+pub list_heard : (c : Numbers) (i e : ℕ) (a : AcsView) (own : List Vote) (heard : List Hearing) → node_epoch_of a ≡ record { config = c; node = i; epoch = e }
     → Stands a own heard → accepted_of a.lanes c.n ≡ accepted_below e heard c.n
 list_heard c i e a own heard place stands =
-    ap (λ (p : Place). accepted_of a.lanes p.config.n) (sym place) ∙ accepted_heard a own heard stands a.config.n (omega arith)
-    ∙ ap (λ (p : Place). accepted_below p.epoch heard p.config.n) place
+    ap (λ (p : NodeEpoch). accepted_of a.lanes p.config.n) (sym place) ∙ accepted_heard a own heard stands a.config.n (omega arith)
+    ∙ ap (λ (p : NodeEpoch). accepted_below p.epoch heard p.config.n) place
 
 -- ---- all tables
 
@@ -99,8 +99,8 @@ HaveHeard-fresh c i tables own enough unheard = record {
 
 pub ArePlaced-fresh : (c : Numbers) (i : ℕ) (tables : List Table) (own : List Vote) → AreUnheard own c.epochs tables → ArePlaced c i tables
 ArePlaced-fresh c i tables own unheard e = elim (cases_lt e c.epochs) [
-  | inl below ↦ ap (λ (t : Table). place_of (acs_of c i e t)) (unheard.each e below)
-  | inr above ↦ ap (λ (t : Table). place_of (acs_of c i e t)) (get_or_past tables e (Unheard false) (omega (arith, unheard.count)))
+  | inl below ↦ ap (λ (t : Table). node_epoch_of (acs_of c i e t)) (unheard.each e below)
+  | inr above ↦ ap (λ (t : Table). node_epoch_of (acs_of c i e t)) (get_or_past tables e (Unheard false) (omega (arith, unheard.count)))
 ]
 
 -- ---- a hearing
@@ -147,14 +147,14 @@ pub HearsAll-inside : (c : Numbers) (i : ℕ) (old new : List Table) (h : Hearin
     → epoch_of h.vote < c.epochs → SetsTable c i old new (epoch_of h.vote) a → HearsOne (acs_at c i old (epoch_of h.vote)) a h is_due
     → HearsAll c i old new h is_due
 HearsAll-inside c i old new h a is_due placed inside sets hears =
-    let epoch : (acs_at c i old (epoch_of h.vote)).epoch ≡ epoch_of h.vote = ap (λ (p : Place). p.epoch) (placed (epoch_of h.vote)) in
+    let epoch : (acs_at c i old (epoch_of h.vote)).epoch ≡ epoch_of h.vote = ap (λ (p : NodeEpoch). p.epoch) (placed (epoch_of h.vote)) in
     record {
       count = sets.count;
       placed = λ k. elim (cases_eq (epoch_of h.vote) k) [
         | inl same ↦
-            ap (λ (k : ℕ). place_of (acs_at c i new k)) (sym same) ∙ ap place_of sets.here ∙ hears.place ∙ placed (epoch_of h.vote)
+            ap (λ (k : ℕ). node_epoch_of (acs_at c i new k)) (sym same) ∙ ap node_epoch_of sets.here ∙ hears.node_epoch ∙ placed (epoch_of h.vote)
             ∙ ap (λ (k : ℕ). record { config = c; node = i; epoch = k }) same
-        | inr apart ↦ ap place_of (sets.others k apart) ∙ placed k
+        | inr apart ↦ ap node_epoch_of (sets.others k apart) ∙ placed k
       ];
       row = λ own heard have.
           pass-each (is_no_more (epoch_of h.vote)) c.epochs (epoch_of h.vote) own (heard ++ h ∷ []) (λ k. no_more_slot c k ∷ []) inside
@@ -171,7 +171,7 @@ HearsAll-inside c i old new h a is_due placed inside sets hears =
           ∙ IsOwed-unique (no_more_slot c (epoch_of h.vote) ∷ []) own (heard ++ h ∷ []) (pass (no_more_slot c (epoch_of h.vote) ∷ []) own (heard ++ h ∷ [])) (no_more_if is_due (epoch_of h.vote))
           (IsOwed-pass (no_more_slot c (epoch_of h.vote) ∷ []) own (heard ++ h ∷ [])
           (pass-rests (no_more_slot c (epoch_of h.vote) ∷ []) (no_more_plain c (epoch_of h.vote), tt) own (heard ++ h ∷ [])))
-          (subst (λ (p : Place). IsOwed (slots_at p) own (heard ++ h ∷ []) (no_more_if is_due p.epoch)) (placed (epoch_of h.vote))
+          (subst (λ (p : NodeEpoch). IsOwed (slots_at p) own (heard ++ h ∷ []) (no_more_if is_due p.epoch)) (placed (epoch_of h.vote))
           (hears.owed own heard (have.each (epoch_of h.vote) inside)));
       stands = λ own heard have. record {
         each = λ k below. elim (cases_eq (epoch_of h.vote) k) [
@@ -194,9 +194,9 @@ pub HearsOne-from : (old new : AcsView) (h : Hearing) (due : List Vote) (b : Boo
 HearsOne-from old new h due b hears is =
     let same : hears.is_due ≡ not b = twice hears.is_due ∙ ap not is in
     record {
-      place = hears.place;
+      node_epoch = hears.node_epoch;
       owed = λ own heard stands.
-          subst (λ (d : Bool). IsOwed (slots_at (place_of old)) own (heard ++ h ∷ []) (no_more_if d old.epoch)) same (hears.owed own heard stands);
+          subst (λ (d : Bool). IsOwed (slots_at (node_epoch_of old)) own (heard ++ h ∷ []) (no_more_if d old.epoch)) same (hears.owed own heard stands);
       stands = λ own heard stands.
           subst (λ (d : Bool). Stands new (own ++ no_more_if d old.epoch) (heard ++ h ∷ [])) same (hears.stands own heard stands);
     }

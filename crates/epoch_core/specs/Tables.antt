@@ -13,7 +13,7 @@ use Rattle.hb_rules.specs.DeskRows.{no_more_slot}
 use Rattle.hb_rules.specs.Hearing.{Hearing}
 use Rattle.hb_rules.specs.Slots.{pass, each, when, IsOwed}
 use Rattle.acs_core.specs.Shown.{accepted_of}
-use Rattle.acs_core.specs.Subset.{AcsView, place_of, fresh, slots_at, Stands}
+use Rattle.acs_core.specs.Subset.{AcsView, node_epoch_of, fresh, slots_at, Stands}
 use Rattle.epoch_core.specs.declared.table.Table.{Table}
 use Rattle.epoch_core.specs.declared.table.Table.TheVariants.{Unheard, Heard}
 
@@ -35,7 +35,7 @@ list_at c i tables e = accepted_of (acs_at c i tables e).lanes c.n
 
 -- each table is of its epoch
 abbrev pub ArePlaced : Numbers → ℕ → List Table → Type 0
-ArePlaced c i tables = (e : ℕ) → place_of (acs_at c i tables e) ≡ record { config = c; node = i; epoch = e }
+ArePlaced c i tables = (e : ℕ) → node_epoch_of (acs_at c i tables e) ≡ record { config = c; node = i; epoch = e }
 
 -- the run has epochs, and fewer faulty nodes than nodes; there is a table for each epoch, and no more epochs are closed
 pub record IsSound (c : Numbers) (i closed : ℕ) (tables : List Table) : Type 0 where
@@ -61,9 +61,9 @@ no_more_if is_due e = option_to_list (when is_due (NoMore e))
 
 -- one common subset hears a vote, which makes NoMore due, or not
 pub record HearsOne (old new : AcsView) (h : Hearing) (is_due : Bool) : Type 0 where
-  pub place : place_of new ≡ place_of old
+  pub node_epoch : node_epoch_of new ≡ node_epoch_of old
   pub owed : (own : List Vote) (heard : List Hearing) → Stands old own heard
-      → IsOwed (slots_at (place_of old)) own (heard ++ h ∷ []) (no_more_if is_due old.epoch)
+      → IsOwed (slots_at (node_epoch_of old)) own (heard ++ h ∷ []) (no_more_if is_due old.epoch)
   pub stands : (own : List Vote) (heard : List Hearing) → Stands old own heard
       → Stands new (own ++ no_more_if is_due old.epoch) (heard ++ h ∷ [])
 

@@ -3,7 +3,7 @@ ghost use Rattle.hb_base.specs.Limits.{most_batch};
 ghost use Rattle.hb_wire.specs.Batches.{batch_bytes};
 ghost use Rattle.tx_pool.specs.Pool.{without};
 ghost use Rattle.hb_rules.specs.Pool.{transactions_in};
-ghost use Rattle.acs_core.specs.Subset.{place_of};
+ghost use Rattle.acs_core.specs.Subset.{node_epoch_of};
 ghost use Rattle.epoch_core.specs.Tables.{acs_of, list_of, ArePlaced};
 ghost use Rattle.epoch_core.specs.Closing.{kept, proposals_after, closed_transactions, MayClose, ClosesAll};
 
@@ -107,7 +107,7 @@ fn close(
     pending: &mut Pending,
 ) -> Result<bool, AllocError>
     requires epoch { epoch < config.now.epochs }
-    ensures { IfOk result (λ is_closed. (i : ℕ) → place_of (acs_of config.now i epoch table.now) ≡ record { config = config.now; node = i; epoch = epoch }
+    ensures { IfOk result (λ is_closed. (i : ℕ) → node_epoch_of (acs_of config.now i epoch table.now) ≡ record { config = config.now; node = i; epoch = epoch }
         → MayClose config.now epoch (list_of config.now i epoch table.now) (kept pool.old pending.old) (kept pool.new pending.new) is_closed) }
 {
     let n = config.n();

@@ -1,6 +1,7 @@
-ghost use Rattle.std.specs.Prelude.{◌≡◌, ℕ, ◌<◌, ◌≤◌, List, [], length, IfOk, OnOk, OnErr, IsOk};
+ghost use Rattle.std.specs.Prelude.{◌≡◌, ℕ, ◌<◌, ◌≤◌, List, [], ◌∷◌, ◌++◌, length, IfOk, OnOk, OnErr, IsOk};
 ghost use Rattle.hb_base.specs.Numbers.{Numbers};
 ghost use Rattle.hb_wire.specs.declared.vote.Vote.{Vote};
+ghost use Rattle.hb_wire.specs.declared.vote.Vote.TheVariants.{Propose};
 ghost use Rattle.tx_pool.specs.Calls.{first_places};
 ghost use Rattle.hb_rules.specs.Hearing.{Hearing, hearing};
 ghost use Rattle.hb_rules.specs.Desk.{MayAtDesk};
@@ -159,9 +160,13 @@ fn hear_in(
 }
 
 /// Votes that a desk may have cast one after another, by hearings of epochs that the run has, and after which it owes
-/// nothing, are in order. So are no votes.
+/// nothing, are in order. So are those after which it owes nothing once it has made its first proposal, with any value;
+/// and so are no votes.
 pub fn order_laws()
     ensures kept { (c : Numbers) (submitted : List (List ℕ)) (heard : List Hearing) (own : List Vote) → 0 < c.n → AreWithin c heard
         → InTurn (λ own vote. MayAtDesk c own heard vote) [] own → IsIdle (desk_slots c submitted) own [] → AreInOrder c own }
+    ensures unproposed { (c : Numbers) (submitted : List (List ℕ)) (heard : List Hearing) (own : List Vote) (value : List ℕ) → 0 < c.n
+        → AreWithin c heard → InTurn (λ own vote. MayAtDesk c own heard vote) [] own
+        → IsIdle (desk_slots c submitted) (own ++ Propose 0 value ∷ []) [] → AreInOrder c own }
     ensures none { (c : Numbers) → AreInOrder c [] }
 {}

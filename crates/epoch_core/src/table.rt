@@ -4,7 +4,7 @@ ghost use Rattle.hb_base.specs.Numbers.{Numbers};
 ghost use Rattle.hb_wire.specs.declared.vote.Vote.TheVariants.{Closed};
 ghost use Rattle.hb_rules.specs.Hearing.{hearing};
 ghost use Rattle.acs_core.specs.Shown.{accepted_of};
-ghost use Rattle.acs_core.specs.Subset.{place_of, fresh};
+ghost use Rattle.acs_core.specs.Subset.{node_epoch_of, fresh};
 ghost use Rattle.epoch_core.specs.Tables.{acs_of, HearsOne};
 
 use acs_core::Acs;
@@ -32,7 +32,7 @@ impl Table {
         lane: u8,
         vote: &Vote,
     ) -> Result<bool, AllocError>
-        requires place { place_of (acs_of config.now node epoch self.old) ≡ record { config = config.now; node = node; epoch = epoch } }
+        requires node_epoch { node_epoch_of (acs_of config.now node epoch self.old) ≡ record { config = config.now; node = node; epoch = epoch } }
         requires lane { lane < config.now.n }
         ensures ok { IfOk result (λ is_due.
             HearsOne (acs_of config.now node epoch self.old) (acs_of config.now node epoch self.new) (hearing lane vote.now) is_due) }
@@ -52,7 +52,7 @@ impl Table {
     // The vote that closes the epoch, once its common subset is complete.
     pub(crate) fn closed(&self) -> Result<Option<Vote>, AllocError>
         ensures { IfOk result (λ vote. (c : Numbers) (i e : ℕ) → 1 ≤ c.n
-            → place_of (acs_of c i e self.now) ≡ record { config = c; node = i; epoch = e }
+            → node_epoch_of (acs_of c i e self.now) ≡ record { config = c; node = i; epoch = e }
             → vote ≡ option_map (Closed e) (accepted_of (acs_of c i e self.now).lanes c.n)) }
     {
         match self {
@@ -64,7 +64,7 @@ impl Table {
 
 // Hears a vote of a lane in its epoch. Whether NoMore becomes due.
 fn hear_at(alloc: Global, acs: &mut Acs, lane: u8, vote: &Vote) -> Result<bool, AllocError>
-    requires { lane < (place_of acs.old).config.n }
+    requires { lane < (node_epoch_of acs.old).config.n }
     ensures ok { IfOk result (λ is_due. HearsOne acs.old acs.new (hearing lane vote.now) is_due) }
     ensures err { OnErr result (acs.new ≡ acs.old) }
 {

@@ -1,3 +1,5 @@
+//! What no clause says: that products and values are those worked out by hand.
+
 use super::*;
 use std::test::Fail;
 

@@ -3,10 +3,17 @@ use Rattle.std.specs.Prelude.{ℕ, ◌==◌, nat_lt, List, [], ◌++◌, if◌th
 use Rattle.hb_base.specs.Numbers.{Numbers}
 use Rattle.hb_wire.specs.declared.vote.Vote.{Vote}
 use Rattle.hb_rules.specs.Hearing.{Hearing}
-use Rattle.hb_rules.specs.Slots.{Slot, by_rows, of_epoch, IsOwed}
+use Rattle.hb_rules.specs.Slots.{Slot, by_rows, of_epoch}
 use Rattle.hb_rules.specs.BroadcastRows.{broadcast_rows}
 use Rattle.hb_rules.specs.AgreementRows.{agreement_rows}
 use Rattle.hb_rules.specs.DeskRows.{desk_rows}
+
+-- which epoch of which lane at which node, in a run with this config
+pub record Place : Type 0 where
+  pub config : Numbers
+  pub node : ℕ
+  pub lane : ℕ
+  pub epoch : ℕ
 
 -- the slots of one epoch in the broadcast, and in the agreement, of lane j of node i
 abbrev pub broadcast_slots : Numbers → ℕ → ℕ → ℕ → List (Slot Vote Hearing)
@@ -26,7 +33,3 @@ desk_slots c submitted = by_rows c.epochs (desk_rows c submitted)
 -- the slots of actor x of node i
 abbrev pub slots_of : Numbers → List (List ℕ) → ℕ → ℕ → List (Slot Vote Hearing)
 slots_of c submitted i x = if nat_lt x c.n then lane_slots c i x else (if x == c.n then desk_slots c submitted else [])
-
--- the votes that actor x of node i has to cast now
-abbrev pub AreDue : Numbers → List (List ℕ) → ℕ → ℕ → List Vote → List Hearing → List Vote → Type 0
-AreDue c submitted i x own heard votes = IsOwed (slots_of c submitted i x) own heard votes

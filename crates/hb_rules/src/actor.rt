@@ -1,4 +1,5 @@
-ghost use Rattle.std.specs.Prelude.{◌≡◌, ℕ, ◌+◌, ◌≤◌, ◌⊎◌, true, false, List, [], ◌∷◌, ◌++◌, length, IfOk, IfErr, IsOk, OnOk, OnErr, IsErrOf, slice_get};
+//! The contract of an actor, over any kind of book, and why an actor ends.
+ghost use Rattle.std.specs.Prelude.{◌≡◌, ◌+◌, ◌≤◌, ◌⊎◌, true, false, [], ◌∷◌, ◌++◌, length, IfOk, IfErr, IsOk, OnOk, OnErr, IsErrOf, slice_get};
 ghost use Rattle.hb_base.specs.Outside.{Rose};
 ghost use Rattle.disk_model.specs.Supply.{IsNamed};
 ghost use Rattle.hb_base.specs.Limits.{most_posts, most_stops};

@@ -1,3 +1,5 @@
+//! The names of a lane's slots in an agreement.
+
 /// A place for one vote of a lane in the binary agreement of an epoch (after PODC 2014, figure 2). Rounds count from 0.
 #[derive(Clone, Copy, Debug, PartialEq, Eq)]
 pub enum AgreementSlot {

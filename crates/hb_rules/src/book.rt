@@ -1,3 +1,4 @@
+//! The contract of a book and of its seats, and why a book takes no post.
 ghost use Rattle.std.specs.Prelude.{◌≡◌, ℕ, ◌<◌, ◌≤◌, ◌⊎◌, true, List, length, IfOk, IfSome, IsOk, OnErr, slice_get};
 ghost use Rattle.hb_base.specs.Numbers.{Numbers};
 ghost use Rattle.hb_base.specs.NodeSet.{is_in};

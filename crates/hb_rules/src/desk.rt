@@ -1,3 +1,4 @@
+//! What the votes of a desk say of an epoch.
 ghost use Rattle.std.specs.Prelude.{◌≡◌};
 ghost use Rattle.std.specs.List.{list_any};
 ghost use Rattle.hb_rules.specs.Claims.{is_any_proposal, is_no_more, is_any_closing};

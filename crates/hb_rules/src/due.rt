@@ -1,3 +1,4 @@
+//! The votes that an actor has to cast.
 ghost use Rattle.std.specs.Prelude.{◌≡◌, ◌+◌, ◌-◌, ◌^◌, ◌≤◌, min, [], ◌∷◌, ◌++◌, length, OnOk, OnErr, IsOk};
 
 use hb_wire::Vote;

@@ -1,3 +1,4 @@
+//! Posts of lanes of correct nodes.
 ghost use Rattle.std.specs.Prelude.{◌≡◌, ◌<◌, IfSome};
 ghost use Rattle.hb_rules.specs.Lanes.{is_correct, posting_lane};
 

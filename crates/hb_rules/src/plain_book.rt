@@ -1,3 +1,4 @@
+//! A book for one thread.
 ghost use Rattle.std.specs.Prelude.{◌≡◌, ℕ, ◌<◌, true, List, [], ◌∷◌, ◌++◌, length};
 ghost use Rattle.hb_base.specs.NodeSet.{is_in};
 ghost use Rattle.hb_rules.specs.History.{IsLegal};

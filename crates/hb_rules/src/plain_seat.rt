@@ -1,3 +1,4 @@
+//! A seat of the book for one thread.
 ghost use Rattle.std.specs.Prelude.{◌≡◌, ◌⊎◌, length};
 ghost use Rattle.hb_rules.specs.Ledger.{IsPrefix};
 

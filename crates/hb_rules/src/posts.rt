@@ -1,7 +1,7 @@
+//! A list of posts to which only what is legal is added, and the bytes of votes.
 ghost use Rattle.std.specs.Prelude.{◌≡◌, ◌<◌, ◌≤◌, true, false, Err, [], ◌∷◌, ◌++◌, length, IsOk, IsOkAnd, IfOk, IfSome, OnOk, OnErr, slice_get};
 ghost use Rattle.hb_base.specs.Limits.{most_posts};
 ghost use Rattle.hb_base.specs.NodeSet.{is_in};
-ghost use Rattle.hb_wire.specs.declared.post.Post.{Post};
 ghost use Rattle.hb_wire.specs.Votes.{Spells};
 ghost use Rattle.hb_rules.specs.History.{HasSpelling, IsAllowed, MayFollow, IsLegal};
 ghost use Rattle.hb_rules.specs.Book.{post_of, lie_of, AreKept};

@@ -1,4 +1,5 @@
-ghost use Rattle.std.specs.Prelude.{◌≡◌, ◌+◌, ◌<◌, []};
+//! The report of a run, and how the run ended for each actor.
+ghost use Rattle.std.specs.Prelude.{◌≡◌, ◌+◌, ◌<◌};
 ghost use Rattle.std.specs.List.{list_all, range_with_len};
 ghost use Rattle.hb_rules.specs.Report.{IsEmptyReport, is_running, works, none_ended};
 

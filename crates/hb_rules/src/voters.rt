@@ -1,3 +1,4 @@
+//! A set of nodes that knows its size.
 ghost use Rattle.std.specs.Prelude.{◌≡◌, ℕ, ◌<◌, ◌==◌, ◌||◌, true, false, replicate, slice_set};
 ghost use Rattle.hb_base.specs.NodeSet.{is_in};
 ghost use Rattle.hb_base.specs.Counting.{count_nodes};

@@ -9,7 +9,7 @@ use Rattle.hb_rules.specs.Claims.{is_any_delivery}
 use Rattle.hb_rules.specs.Hearing.{Hearing}
 use Rattle.hb_rules.specs.Parts.{in_broadcast, heard_in_broadcast, in_agreement, read_in_agreement, heard_in_agreement}
 use Rattle.hb_rules.specs.Slots.{pass, IsIdle, IsOwed}
-use Rattle.hb_rules.specs.Owing.{broadcast_slots, agreement_slots}
+use Rattle.hb_rules.specs.Owing.{Place, broadcast_slots, agreement_slots}
 use Rattle.hb_rules.proofs.Passing.{IsOwed-nil}
 use Rattle.hb_rules.proofs.Rows.{not_heard}
 use Rattle.hb_rules.proofs.Within.{pass-made, IsOwed-made}
@@ -25,10 +25,10 @@ use Rattle.lane_core.proofs.Parts.{all_deliveries, some_delivery, no_delivery, o
 pub StayAt-by : (old new : Cores) → broadcast.place_of new.rbc ≡ broadcast.place_of old.rbc → agreement.place_of new.aba ≡ agreement.place_of old.aba → StayAt old new
 StayAt-by old new one two = λ c i j e at. record { rbc = one ∙ at.rbc; aba = two ∙ at.aba }
 
-pub kept_place : (old new : broadcast.RbcView) → broadcast.Keeps old new → broadcast.place_of new ≡ broadcast.place_of old
+pub kept_place : (old new : broadcast.RbcView) → broadcast.KeepsStanding old new → broadcast.place_of new ≡ broadcast.place_of old
 kept_place old new keeps =
     ap broadcast.place_of keeps.marks
-    ∙ ap (λ (c : Numbers). let p : broadcast.Place = record { config = c; node = old.node; lane = old.lane; epoch = old.epoch } in p) keeps.roots.config
+    ∙ ap (λ (c : Numbers). let p : Place = record { config = c; node = old.node; lane = old.lane; epoch = old.epoch } in p) keeps.roots.config
 
 -- ---- what each part owes, at its place
 
@@ -37,7 +37,7 @@ first_passes : (c : Numbers) (i j e : ℕ) (old : Cores) (h : Hearing) (votes : 
     → (own : List Vote) (heard : List Hearing) → StandFor e old own heard → pass (broadcast_slots c i j e) own (heard ++ h ∷ []) ≡ votes
 first_passes c i j e old h votes at kind gives own heard stands =
     broadcast_pass c i j e own (filter (heard_in_broadcast e) heard ++ h ∷ []) (heard ++ h ∷ []) (heard_now (heard_in_broadcast e) heard h kind)
-    ∙ subst (λ (p : broadcast.Place). pass (broadcast.slots_at p) (filter (in_broadcast e) own) (filter (heard_in_broadcast e) heard ++ h ∷ []) ≡ votes) at.rbc
+    ∙ subst (λ (p : Place). pass (broadcast.slots_at p) (filter (in_broadcast e) own) (filter (heard_in_broadcast e) heard ++ h ∷ []) ≡ votes) at.rbc
     (gives (filter (in_broadcast e) own) (filter (heard_in_broadcast e) heard) stands.rbc)
 
 first_made : (c : Numbers) (i j e : ℕ) (own : List Vote) (heard : List Hearing) (votes : List Vote) → pass (broadcast_slots c i j e) own heard ≡ votes
@@ -55,12 +55,12 @@ second_made c i j e own heard votes owed =
 first_idle : (c : Numbers) (i j e : ℕ) (old : Cores) (own : List Vote) (heard : List Hearing) → AreAt c i j e old → StandFor e old own heard
     → IsIdle (broadcast_slots c i j e) (filter (in_broadcast e) own) (filter (heard_in_broadcast e) heard)
 first_idle c i j e old own heard at stands =
-    subst (λ (p : broadcast.Place). IsIdle (broadcast.slots_at p) (filter (in_broadcast e) own) (filter (heard_in_broadcast e) heard)) at.rbc stands.rbc.idle
+    subst (λ (p : Place). IsIdle (broadcast.slots_at p) (filter (in_broadcast e) own) (filter (heard_in_broadcast e) heard)) at.rbc stands.rbc.idle
 
 second_idle : (c : Numbers) (i j e : ℕ) (old : Cores) (own : List Vote) (heard : List Hearing) → AreAt c i j e old → StandFor e old own heard
     → IsIdle (agreement_slots c i j e) (filter (read_in_agreement e) own) (filter (heard_in_agreement e) heard)
 second_idle c i j e old own heard at stands =
-    subst (λ (p : agreement.Place). IsIdle (standing.slots_at p) (filter (read_in_agreement e) own) (filter (heard_in_agreement e) heard)) at.aba stands.aba.idle
+    subst (λ (p : Place). IsIdle (standing.slots_at p) (filter (read_in_agreement e) own) (filter (heard_in_agreement e) heard)) at.aba stands.aba.idle
 
 -- the states stand for lists of which they look at the same
 StandFor-by : (e : ℕ) (cores : Cores) (own : List Vote) (heard : List Hearing) (own_rbc own_aba : List Vote) (heard_rbc heard_aba : List Hearing)
@@ -117,7 +117,7 @@ HearsOne-delivered c i j e old new h before mid after at kind other hears some t
     let second : List Vote = takes.votes in
     let more : List Vote = filter (read_in_agreement e) first in
     let passes = first_passes c i j e old h first at kind hears.gives in
-    let epoch : old.aba.epoch ≡ e = ap (λ (p : agreement.Place). p.epoch) at.aba in
+    let epoch : old.aba.epoch ≡ e = ap (λ (p : Place). p.epoch) at.aba in
     let made : (own : List Vote) (heard : List Hearing) → StandFor e old own heard → list_all (in_broadcast e) first ≡ true =
     λ own heard stands. first_made c i j e own (heard ++ h ∷ []) first (passes own heard stands) in
     let taken : (own : List Vote) (heard : List Hearing) → StandFor e old own heard
@@ -131,7 +131,7 @@ HearsOne-delivered c i j e old new h before mid after at kind other hears some t
     λ own heard stands.
     agreement_owed c i j e (own ++ first) (filter (read_in_agreement e) own ++ more) (filter (heard_in_agreement e) heard) (heard ++ h ∷ []) second
     (filter-append (read_in_agreement e) own first) (not_heard (heard_in_agreement e) heard h other)
-    (subst (λ (p : agreement.Place). IsOwed (standing.slots_at p) (filter (read_in_agreement e) own ++ more) (filter (heard_in_agreement e) heard) second) at.aba
+    (subst (λ (p : Place). IsOwed (standing.slots_at p) (filter (read_in_agreement e) own ++ more) (filter (heard_in_agreement e) heard) second) at.aba
     (taken own heard stands).0) in
     record {
       first = first;
@@ -161,7 +161,7 @@ HearsOne-agreed c i j e old new h before after at other kind same hears =
     λ own heard stands.
     agreement_owed c i j e (own ++ []) (filter (read_in_agreement e) own) (filter (heard_in_agreement e) heard ++ h ∷ []) (heard ++ h ∷ []) second
     (ap (filter (read_in_agreement e)) (append-nil own)) (heard_now (heard_in_agreement e) heard h kind)
-    (subst (λ (p : agreement.Place). IsOwed (standing.slots_at p) (filter (read_in_agreement e) own) (filter (heard_in_agreement e) heard ++ h ∷ []) second) at.aba
+    (subst (λ (p : Place). IsOwed (standing.slots_at p) (filter (read_in_agreement e) own) (filter (heard_in_agreement e) heard ++ h ∷ []) second) at.aba
     (hears.owed (filter (read_in_agreement e) own) (filter (heard_in_agreement e) heard) stands.aba)) in
     record {
       first = [];
@@ -213,7 +213,7 @@ drop_front (x ∷ xs) ys = drop_front xs ys
 
 -- ---- where memory is wanting
 
-pub broadcast_stands_on : (old new : Cores) → broadcast.Keeps old.rbc new.rbc → new.aba ≡ old.aba → StandOn old new
+pub broadcast_stands_on : (old new : Cores) → broadcast.KeepsStanding old.rbc new.rbc → new.aba ≡ old.aba → StandOn old new
 broadcast_stands_on old new keeps same = record {
   stand = λ e own heard stands. record {
     rbc = keeps.stands (filter (in_broadcast e) own) (filter (heard_in_broadcast e) heard) stands.rbc;

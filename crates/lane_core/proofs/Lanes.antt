@@ -12,7 +12,7 @@ use Rattle.hb_wire.specs.Votes.{epoch_of}
 use Rattle.hb_rules.specs.Hearing.{Hearing}
 use Rattle.hb_rules.specs.Parts.{in_broadcast, heard_in_broadcast, in_agreement, read_in_agreement, heard_in_agreement, in_epoch, heard_in_epoch}
 use Rattle.hb_rules.specs.Slots.{Slot, pass, IsIdle, IsOwed, IsPart}
-use Rattle.hb_rules.specs.Owing.{broadcast_slots, agreement_slots, lane_slots}
+use Rattle.hb_rules.specs.Owing.{Place, broadcast_slots, agreement_slots, lane_slots}
 use Rattle.hb_rules.specs.BroadcastRows.{broadcast_rows}
 use Rattle.hb_rules.specs.AgreementRows.{agreement_rows}
 use Rattle.hb_rules.proofs.Lists.{filter_within, filter_none, filter-twice, AllByRecursion-weaker}
@@ -191,17 +191,17 @@ stands_there l epochs e others on = λ own heard stands. record {
 pub open_for : (c : Numbers) (i j e : ℕ) (place : Option Cores) (from : ℕ) → AreAtEpoch c i j e place → is_some place ≡ true → from < c.n → IsOpenFor place from
 open_for c i j e None from at is below = absurd (cc (is))
 open_for c i j e (Some cores) from at is below = (
-  subst (λ (p : broadcast.Place). from < p.config.n) (sym at.rbc) below,
-  subst (λ (p : agreement.Place). from < p.config.n) (sym at.aba) below,
+  subst (λ (p : Place). from < p.config.n) (sym at.rbc) below,
+  subst (λ (p : Place). from < p.config.n) (sym at.aba) below,
 )
 
 pub has_room : (c : Numbers) (i j e : ℕ) (place : Option Cores) (vote : Vote) (spare : ℕ) → AreAtEpoch c i j e place → is_some place ≡ true
     → (if is_for_broadcast vote then 7 * c.rounds + 1 + c.n + 2 else 7 * c.rounds + 1) ≤ spare → HasRoom place vote spare
 has_room c i j e None vote spare at is room = absurd (cc (is))
 has_room c i j e (Some cores) vote spare at is room =
-    subst (λ (p : agreement.Place). (if is_for_broadcast vote then 7 * p.config.rounds + 1 + (broadcast.place_of cores.rbc).config.n + 2
+    subst (λ (p : Place). (if is_for_broadcast vote then 7 * p.config.rounds + 1 + (broadcast.place_of cores.rbc).config.n + 2
     else 7 * p.config.rounds + 1) ≤ spare) (sym at.aba)
-    (subst (λ (p : broadcast.Place). (if is_for_broadcast vote then 7 * c.rounds + 1 + p.config.n + 2 else 7 * c.rounds + 1) ≤ spare) (sym at.rbc) room)
+    (subst (λ (p : Place). (if is_for_broadcast vote then 7 * c.rounds + 1 + p.config.n + 2 else 7 * c.rounds + 1) ≤ spare) (sym at.rbc) room)
 
 -- ---- a hearing
 

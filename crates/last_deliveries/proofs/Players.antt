@@ -13,21 +13,21 @@ use Rattle.hb_rules.specs.Report.{IsReceived, is_running_fate}
 use Rattle.step_driver.specs.Places.{PlayerView}
 use Rattle.step_driver.specs.Delivering.{IsSound, HasFate, HasMetFault}
 use Rattle.step_driver.proofs.Playing.{IsSound-on}
-use Rattle.actor_cell.specs.Turning.{IsShown, Keeps, Hears}
-use Rattle.actor_cell.proofs.Hearings.{IsPrefix-refl, IsPrefix-then, IsSameSeat-refl, IsSameSeat-then, Keeps-refl, Keeps-then, shown_longer}
+use Rattle.actor_cell.specs.Turning.{IsShown, KeepsTerms, Hears}
+use Rattle.actor_cell.proofs.Hearings.{IsPrefix-refl, IsPrefix-then, IsSameSeat-refl, IsSameSeat-then, KeepsTerms-refl, KeepsTerms-then, shown_longer}
 use Rattle.actor_cell.proofs.Turnings.{IsPlayer-hears}
 use Rattle.last_deliveries.specs.Settling.{IsOfRun, HasGoneOn, HasWatched}
 
 -- ---- actors
 
 pub HasGoneOn-refl : (p : PlayerView) → HasGoneOn p p
-HasGoneOn-refl p = record { seat = IsSameSeat-refl p; seen = IsPrefix-refl p.seat.seen; keeps = Keeps-refl p.view; ended = λ _. (refl, refl) }
+HasGoneOn-refl p = record { seat = IsSameSeat-refl p; seen = IsPrefix-refl p.seat.seen; keeps = KeepsTerms-refl p.view; ended = λ _. (refl, refl) }
 
 pub HasGoneOn-then : (p q r : PlayerView) → HasGoneOn p q → HasGoneOn q r → HasGoneOn p r
 HasGoneOn-then p q r one two = record {
   seat = IsSameSeat-then p q r one.seat two.seat;
   seen = IsPrefix-then p.seat.seen q.seat.seen r.seat.seen one.seen two.seen;
-  keeps = Keeps-then p.view q.view r.view one.keeps two.keeps;
+  keeps = KeepsTerms-then p.view q.view r.view one.keeps two.keeps;
   ended = λ over.
       let first = one.ended over in
       let then = two.ended (ap is_running_fate first.1 ∙ over) in
@@ -39,7 +39,7 @@ pub HasGoneOn-shown : (p q : PlayerView) → IsShown p q → (is_running_fate p.
 HasGoneOn-shown p q shown fate = record {
   seat = shown.seat;
   seen = shown_longer p q shown;
-  keeps = subst (λ (v : ActorView). Keeps p.view v) (sym shown.view) (Keeps-refl p.view);
+  keeps = subst (λ (v : ActorView). KeepsTerms p.view v) (sym shown.view) (KeepsTerms-refl p.view);
   ended = λ over. (shown.view, fate over);
 }
 

@@ -12,7 +12,7 @@ use Rattle.step_driver.specs.declared.player.Player.{Player}
 use Rattle.step_driver.specs.Places.{PlayerView, seat_at}
 use Rattle.step_driver.specs.Delivering.{IsPlayer}
 use Rattle.actor_cell.specs.Held.{player_at}
-use Rattle.actor_cell.specs.Turning.{IsSameSeat, Keeps}
+use Rattle.actor_cell.specs.Turning.{IsSameSeat, KeepsTerms}
 
 -- ---- actors and seats over any kind of book
 
@@ -38,7 +38,7 @@ pub record IsOfRun (s : Script) (p : PlayerView) : Type 0 where
 pub record HasGoneOn (old new : PlayerView) : Type 0 where
   pub seat : IsSameSeat old new
   pub seen : IsPrefix old.seat.seen new.seat.seen
-  pub keeps : Keeps old.view new.view
+  pub keeps : KeepsTerms old.view new.view
   pub ended : is_running_fate old.fate ≡ false → (new.view ≡ old.view) × (new.fate ≡ old.fate)
 
 -- the same seat, which was shown more of the history, by posts of others

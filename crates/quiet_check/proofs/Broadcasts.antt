@@ -14,10 +14,10 @@ use Rattle.hb_rules.specs.Claims.{proposed, echoed, is_echo, is_ready}
 use Rattle.hb_rules.specs.Code.{data_count}
 use Rattle.hb_rules.specs.FirstShown.{firsts_shown}
 use Rattle.hb_rules.specs.Hearing.{Hearing}
-use Rattle.hb_rules.specs.Owing.{broadcast_slots}
+use Rattle.hb_rules.specs.Owing.{Place, broadcast_slots}
 use Rattle.hb_rules.specs.Slots.{pass, IsIdle, first_of, when}
 use Rattle.hb_rules.proofs.Lists.{first_within, filter_map_within}
-use Rattle.rbc_core.specs.Broadcast.{Place, RbcView, place_of, slots_at, Stands, Hears}
+use Rattle.rbc_core.specs.Broadcast.{RbcView, place_of, slots_at, Stands, Hears}
 use Rattle.quiet_check.specs.Inside.{is_inside}
 use Rattle.quiet_check.proofs.Outside.{count_inside}
 use Rattle.quiet_check.proofs.Carrying.{broadcast_carried, idle_early}

@@ -5,7 +5,8 @@ use Rattle.std.proofs.lemmas.List.Elements.{filter-append}
 use Rattle.hb_wire.specs.declared.vote.Vote.{Vote}
 use Rattle.hb_rules.specs.Hearing.{Hearing}
 use Rattle.hb_rules.specs.Slots.{IsIdle}
-use Rattle.aba_core.specs.State.{Place, AbaView, place_of}
+use Rattle.hb_rules.specs.Owing.{Place}
+use Rattle.aba_core.specs.State.{AbaView, place_of}
 use Rattle.aba_core.specs.Standing.{slots_at, Shows}
 use Rattle.quiet_check.specs.Inside.{is_inside}
 use Rattle.quiet_check.proofs.Outside.{agreement_inside}

@@ -14,10 +14,11 @@ use Rattle.hb_rules.specs.Hearing.{Hearing}
 use Rattle.hb_rules.specs.Slots.{Slot, owes, pass, each, first_of, IsIdle}
 use Rattle.hb_rules.specs.Turns.{IsPlain}
 use Rattle.hb_rules.specs.BroadcastRows.{proposal_in, val_of, val_slot, echo_in, echo_slot, named, ready_made, ready_slot, delivery_made, delivery_slot}
+use Rattle.hb_rules.specs.Owing.{Place}
 use Rattle.hb_rules.proofs.BroadcastParts.{echo_slot-plain, ready_slot-plain, delivery_slot-plain}
 use Rattle.hb_rules.proofs.Lists.{AllByRecursion-parts, AllByRecursion-each, AllByRecursion-both}
 use Rattle.hb_rules.proofs.Passing.{pass-append, IsSettledAt, settled_if_cast, settled_if_none, settled_parts, pass_settled, settled_idle, settled_more}
-use Rattle.rbc_core.specs.Broadcast.{Place, slots_at, names}
+use Rattle.rbc_core.specs.Broadcast.{slots_at, names}
 use Rattle.rbc_core.specs.Due.{unless}
 use Rattle.rbc_core.proofs.Firsts.{first_of-nothing, first_none, made_by, only_new, none_new}
 use Rattle.rbc_core.proofs.Hearings.{IsSilent, silent_if_none, silent_of_others, ready_made-silent, delivery_made-silent}

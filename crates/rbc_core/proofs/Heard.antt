@@ -13,7 +13,7 @@ use Rattle.hb_rules.specs.Claims.{delivered, is_any_ready, is_any_delivery}
 use Rattle.hb_rules.specs.Hearing.{Hearing}
 use Rattle.hb_rules.specs.Slots.{first_of, when}
 use Rattle.hb_rules.specs.BroadcastRows.{proposal_in, echo_in, named, ready_made, delivery_made}
-use Rattle.rbc_core.specs.Broadcast.{RbcView, place_of, ShowsHeard, Stands, Hears, Keeps}
+use Rattle.rbc_core.specs.Broadcast.{RbcView, place_of, ShowsHeard, Stands, Hears, KeepsStanding}
 use Rattle.rbc_core.specs.Due.{is_ready_by, unless}
 use Rattle.rbc_core.specs.RootViews.{RootView, unheard}
 use Rattle.rbc_core.specs.Roots.{RootsView, found, view_at, IsRootView, Finds, IsUnchanged}
@@ -46,8 +46,8 @@ Hears-unheeded r h due from unheeded =
     (record { gives = λ own heard stands. nothing_owed (place_of r) own heard h (AreSettled-idle (place_of r) own heard stands.idle) unheeded })
 
 -- where the roots show what they showed, the state stands for what it stood for
-pub Keeps-roots : (r : RbcView) (roots : RootsView) → IsUnchanged r.roots roots → Keeps r (record r { roots = roots })
-Keeps-roots r roots same = record {
+pub KeepsStanding-roots : (r : RbcView) (roots : RootsView) → IsUnchanged r.roots roots → KeepsStanding r (record r { roots = roots })
+KeepsStanding-roots r roots same = record {
   marks = refl;
   roots = same;
   stands = λ own heard stands. record {

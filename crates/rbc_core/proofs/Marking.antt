@@ -16,9 +16,10 @@ use Rattle.hb_rules.specs.Code.{data_count}
 use Rattle.hb_rules.specs.Parts.{in_broadcast}
 use Rattle.hb_rules.specs.Slots.{first_of, IsIdle}
 use Rattle.hb_rules.specs.BroadcastRows.{val_of, val_slot, echo_slot, ready_slot, delivery_slot}
+use Rattle.hb_rules.specs.Owing.{Place}
 use Rattle.hb_rules.proofs.Lists.{AllByRecursion-append, AllByRecursion-each, any_within, first_within}
 use Rattle.hb_rules.proofs.Passing.{IsSettledAt, settled_if_none, pass_settled}
-use Rattle.rbc_core.specs.Broadcast.{Place, RbcView, place_of, slots_at, Stands, Marks}
+use Rattle.rbc_core.specs.Broadcast.{RbcView, place_of, slots_at, Stands, Marks}
 use Rattle.rbc_core.specs.RootViews.{RootView, unheard}
 use Rattle.rbc_core.specs.Roots.{RootsView, found, view_at}
 use Rattle.rbc_core.proofs.Firsts.{first_of-append, option_or-none}

@@ -10,8 +10,9 @@ use Rattle.hb_wire.specs.declared.vote.Vote.TheVariants.{Ready, Delivered}
 use Rattle.hb_rules.specs.Claims.{delivered, is_val_to, is_any_echo, is_any_ready, is_any_delivery}
 use Rattle.hb_rules.specs.Hearing.{Hearing, heard_by}
 use Rattle.hb_rules.specs.Slots.{pass, first_of, when, IsIdle, IsOwed}
+use Rattle.hb_rules.specs.Owing.{Place}
 use Rattle.hb_rules.proofs.BroadcastSlots.{broadcast-rests, broadcast-owed}
-use Rattle.rbc_core.specs.Broadcast.{Place, RbcView, place_of, slots_at, IsHeard, Stands, Hears}
+use Rattle.rbc_core.specs.Broadcast.{RbcView, place_of, slots_at, IsHeard, Stands, Hears}
 use Rattle.rbc_core.specs.Roots.{RootsView}
 use Rattle.rbc_core.proofs.Firsts.{first_of-append}
 use Rattle.rbc_core.proofs.Hearings.{heard_by-push}

@@ -17,10 +17,11 @@ use Rattle.hb_rules.specs.Code.{data_count}
 use Rattle.hb_rules.specs.Hearing.{Hearing, hearing}
 use Rattle.hb_rules.specs.Slots.{owes, pass, each, first_of}
 use Rattle.hb_rules.specs.BroadcastRows.{proposal_in, val_of, val_slot, echo_made, echo_in, echo_slot}
+use Rattle.hb_rules.specs.Owing.{Place}
 use Rattle.hb_rules.proofs.BroadcastParts.{val_slot-plain}
 use Rattle.hb_rules.proofs.Lists.{AllByRecursion-parts}
 use Rattle.hb_rules.proofs.Passing.{pass-append, IsSettledAt, settled_if_cast, settled_more}
-use Rattle.rbc_core.specs.Broadcast.{Place, RbcView, place_of, Stands, Hears}
+use Rattle.rbc_core.specs.Broadcast.{RbcView, place_of, Stands, Hears}
 use Rattle.rbc_core.specs.Due.{unless, missing_vals}
 use Rattle.rbc_core.proofs.Firsts.{first_of-append, first_of-new}
 use Rattle.rbc_core.proofs.Hearings.{silent_if_none}

@@ -13,17 +13,10 @@ use Rattle.hb_rules.specs.Hearing.{Hearing, heard_by}
 use Rattle.hb_rules.specs.Code.{data_count}
 use Rattle.hb_rules.specs.Slots.{Slot, pass, IsIdle, IsOwed, first_of}
 use Rattle.hb_rules.specs.BroadcastRows.{shards_of, value_through, named}
-use Rattle.hb_rules.specs.Owing.{broadcast_slots}
+use Rattle.hb_rules.specs.Owing.{Place, broadcast_slots}
 use Rattle.rbc_core.specs.Due.{is_delivery_by}
 use Rattle.rbc_core.specs.RootViews.{RootView}
 use Rattle.rbc_core.specs.Roots.{RootsView, found, view_at, IsUnchanged}
-
--- which broadcast at which node
-pub record Place : Type 0 where
-  pub config : Numbers
-  pub node : ℕ
-  pub lane : ℕ
-  pub epoch : ℕ
 
 -- which broadcast it is, which votes the lane has cast, and what was heard of each root
 pub record RbcView : Type 0 where
@@ -89,7 +82,7 @@ pub record Hears (old new : RbcView) (h : Hearing) (before after : List Vote) : 
   pub stands : (own : List Vote) (heard : List Hearing) → Stands old own heard → Stands new (own ++ votes) (heard ++ h ∷ [])
 
 -- the state stands for what it stood for, by the same marks and the same of each root
-pub record Keeps (old new : RbcView) : Type 0 where
+pub record KeepsStanding (old new : RbcView) : Type 0 where
   pub marks : new ≡ record old { roots = new.roots }
   pub roots : IsUnchanged old.roots new.roots
   pub stands : (own : List Vote) (heard : List Hearing) → Stands old own heard → Stands new own heard

@@ -1,3 +1,4 @@
+//! The answer of a check of shards.
 use hb_base::Bytes;
 
 /// What the shards of a codeword show.

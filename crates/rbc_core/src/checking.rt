@@ -1,6 +1,7 @@
-ghost use Rattle.std.specs.Prelude.{◌≡◌, ◌+◌, ◌-◌, ◌*◌, ◌^◌, ◌<◌, ◌≤◌, length, All, Option, IfOk};
+//! Whether the shards of a codeword have a root, and the value that they carry.
+ghost use Rattle.std.specs.Prelude.{◌≡◌, ◌^◌, ◌<◌, ◌≤◌, length, All, IfOk};
 ghost use Rattle.hb_base.specs.Limits.{most_nodes};
-ghost use Rattle.merkle_branch.specs.Digests.{leaf_digests, root_of, tree_root};
+ghost use Rattle.merkle_branch.specs.Digests.{leaf_digests};
 ghost use Rattle.rs_shards.specs.Rebuilding.{AreShards};
 ghost use Rattle.hb_rules.specs.Code.{data_count};
 ghost use Rattle.hb_rules.specs.BroadcastRows.{value_through};

@@ -4,6 +4,8 @@
 
 mod answer;
 mod checking;
+#[cfg(test)]
+mod hearing_tests;
 mod rbc;
 mod root_state;
 mod roots;

@@ -1,24 +1,22 @@
-ghost use Rattle.std.specs.Prelude.{◌≡◌, ℕ, ◌+◌, ◌-◌, ◌*◌, ◌^◌, ◌<◌, ◌≤◌, Bool, true, false, not, ◌&&◌, ◌||◌, nat_lt, [], ◌∷◌, ◌++◌, List, length, Option, None, Some, is_some, is_none, IsOk, IfOk, OnOk, OnErr, if◌then◌else◌};
+//! The state of a broadcast, and which votes become due as it hears votes.
+ghost use Rattle.std.specs.Prelude.{◌≡◌, ℕ, ◌+◌, ◌^◌, ◌<◌, ◌≤◌, true, false, not, ◌&&◌, ◌||◌, nat_lt, [], ◌++◌, List, length, None, Some, is_some, IsOk, IfOk, OnOk, OnErr, if◌then◌else◌};
 ghost use Rattle.std.specs.List.{filter};
-ghost use Rattle.std.specs.Option.{option_copied, option_map, option_or, option_to_list};
-ghost use Rattle.hb_base.specs.Counting.{count_nodes};
+ghost use Rattle.std.specs.Option.{option_copied, option_map, option_to_list};
 ghost use Rattle.hb_base.specs.Limits.{most_nodes, longest_value};
 ghost use Rattle.hb_base.specs.NodeSet.{is_in};
 ghost use Rattle.hb_wire.specs.declared.vote.Vote.{Vote};
 ghost use Rattle.hb_wire.specs.declared.vote.Vote.TheVariants.{Propose, Val, Echo, Ready, Delivered};
 ghost use Rattle.merkle_branch.specs.Branches.{branch_of, is_branch};
 ghost use Rattle.merkle_branch.specs.Digests.{leaf_digests, root_of};
-ghost use Rattle.rs_shards.specs.Completing.{encoded};
 ghost use Rattle.hb_rules.specs.Claims.{delivered};
-ghost use Rattle.hb_rules.specs.Code.{data_count};
 ghost use Rattle.hb_rules.specs.Hearing.{Hearing, hearing};
 ghost use Rattle.hb_rules.specs.History.{HasSpelling};
 ghost use Rattle.hb_rules.specs.Parts.{in_broadcast};
 ghost use Rattle.hb_rules.specs.Slots.{first_of};
 ghost use Rattle.hb_rules.specs.Terms.{AreSpelled};
-ghost use Rattle.rbc_core.specs.Broadcast.{place_of, IsShort, Stands, Hears, Keeps, Marks, MakesNoDelivery, IsFurtherReady};
+ghost use Rattle.rbc_core.specs.Broadcast.{place_of, IsShort, Stands, Hears, KeepsStanding, Marks, MakesNoDelivery, IsFurtherReady};
 ghost use Rattle.rbc_core.specs.Due.{is_ready_by, is_delivery_by, unless, missing_vals};
-ghost use Rattle.rbc_core.specs.Roots.{found, view_at};
+ghost use Rattle.rbc_core.specs.Roots.{found};
 ghost use Rattle.rbc_core.specs.RootVotes.{votes_in, after_votes};
 
 use crate::checking::tree_over;
@@ -124,7 +122,7 @@ impl Rbc {
         requires from { from < (place_of self.old).config.n }
         requires short { IsShort vote.now }
         ensures ok { OnOk result (Hears self.old self.new (hearing from vote.now) due.old.votes due.new.votes) }
-        ensures err { OnErr result (Keeps self.old self.new) }
+        ensures err { OnErr result (KeepsStanding self.old self.new) }
         ensures due { OnErr result (due.new.votes ≡ due.old.votes) }
         ensures enough { IsFurtherReady self.old from vote.now → 1 ≤ due.old.spare → IsOk result }
         ensures room { due.old.spare ≤ due.new.spare + (place_of self.old).config.n + 2 }
@@ -203,7 +201,7 @@ impl Rbc {
         requires from { from < (place_of self.old).config.n }
         requires short { length value.now ≤ longest_value }
         ensures ok { OnOk result (Hears self.old self.new (hearing from (Propose self.old.epoch value.now)) due.old.votes due.new.votes) }
-        ensures err { OnErr result (Keeps self.old self.new) }
+        ensures err { OnErr result (KeepsStanding self.old self.new) }
         ensures due { OnErr result (due.new.votes ≡ due.old.votes) }
         ensures room { due.old.spare ≤ due.new.spare + (place_of self.old).config.n }
     {
@@ -233,7 +231,7 @@ impl Rbc {
         requires { from < (place_of self.old).config.n }
         ensures ok { OnOk result (Hears self.old self.new
             (hearing from (Val self.old.epoch target root.now shard.now branch.now)) due.old.votes due.new.votes) }
-        ensures err { OnErr result (Keeps self.old self.new) }
+        ensures err { OnErr result (KeepsStanding self.old self.new) }
         ensures due { OnErr result (due.new.votes ≡ due.old.votes) }
         ensures room { due.old.spare ≤ due.new.spare + 1 }
     {
@@ -270,7 +268,7 @@ impl Rbc {
         requires short { length shard.now < 2 ^ 32 }
         ensures ok { OnOk result (Hears self.old self.new
             (hearing from (Echo self.old.epoch root.now shard.now branch.now)) due.old.votes due.new.votes) }
-        ensures err { OnErr result (Keeps self.old self.new) }
+        ensures err { OnErr result (KeepsStanding self.old self.new) }
         ensures due { OnErr result (due.new.votes ≡ due.old.votes) }
         ensures room { due.old.spare ≤ due.new.spare + 2 }
     {
@@ -305,7 +303,7 @@ impl Rbc {
         requires { from < (place_of self.old).config.n }
         ensures ok { OnOk result (Hears self.old self.new
             (hearing from (Ready self.old.epoch root.now)) due.old.votes due.new.votes) }
-        ensures err { OnErr result (Keeps self.old self.new) }
+        ensures err { OnErr result (KeepsStanding self.old self.new) }
         ensures due { OnErr result (due.new.votes ≡ due.old.votes) }
         ensures room { due.old.spare ≤ due.new.spare + 2 }
         ensures enough { is_some (found self.old.roots root.now) ≡ true → MakesNoDelivery self.old from root.now → 1 ≤ due.old.spare → IsOk result }

@@ -1,3 +1,4 @@
+//! What was heard of one root.
 ghost use Rattle.std.specs.Prelude.{◌≡◌, ◌<◌, ◌≤◌, length, false, OnOk, OnErr};
 ghost use Rattle.hb_base.specs.Counting.{count_nodes};
 ghost use Rattle.hb_base.specs.Limits.{most_nodes};

@@ -17,7 +17,7 @@ use std::process::Abort;
 use std::test::Fail;
 
 // The largest f of so many nodes, and lengths of values.
-const SIZES: [(u8, u8); 4] = [(1, 0), (4, 1), (7, 2), (16, 5)];
+pub(crate) const SIZES: [(u8, u8); 6] = [(1, 0), (2, 0), (4, 1), (6, 1), (7, 2), (16, 5)];
 
 const LENGTHS: [u16; 4] = [0, 1, 255, 16_514];
 
@@ -32,6 +32,14 @@ fn root_of(n: u8, len: u16) -> &'static [u8; 32] {
             b"\xc4\xda\xf4\x25\x9d\x13\xc8\xb0\x4c\xe6\x40\xed\x6c\x3c\xe3\x3d\x62\xbb\x79\x5f\xf0\x91\xf1\x80\xc1\x82\x6c\xe2\x05\x9a\x43\xb3",
         (1, 16514) =>
             b"\x96\xd8\x76\x3b\x33\x03\xdf\x34\xe8\x26\x54\x78\x7f\xe0\x48\xd9\x31\xe7\x40\x48\x16\xed\xd5\x31\x94\x1d\x3c\x35\xd6\xf6\x94\xac",
+        (2, 0) =>
+            b"\xc5\xeb\x78\x22\x02\x40\xcc\x4d\x27\x4d\x55\x6e\xc4\x27\xbe\x1d\x0b\xa2\x41\xdb\xb9\xd2\x39\x0c\x24\xfa\xa4\x18\xac\xbd\x68\x2b",
+        (2, 1) =>
+            b"\x45\x2a\xb1\x67\x93\x26\xa5\x18\xb0\x2a\x2e\x63\x68\xb2\xd0\x93\xed\x86\x3b\x92\x30\x09\x48\x75\x93\x90\x67\xca\x70\x81\xb6\xa3",
+        (2, 255) =>
+            b"\xe6\xa3\xb5\x27\x7b\x5b\x80\x37\xbd\x13\x07\x8f\x7b\x1d\xa5\x0a\x1e\x09\xf4\x2c\x3b\x63\x50\xd9\xca\x49\x0a\x8c\x9a\x1f\x2f\x79",
+        (2, 16514) =>
+            b"\x42\x41\xac\x3e\xdc\xd0\xe3\x81\xbb\x99\xb5\xb9\xbf\x1b\x31\xe1\x52\x8a\xfd\xbc\x6a\xd5\x9b\x3f\xa5\x54\x25\x87\xcd\xd9\x80\x7c",
         (4, 0) =>
             b"\xf8\x37\xbc\xda\x91\x9e\x62\xcc\xdf\x0b\x6c\x08\x14\xc2\xf9\x77\x83\x36\xdb\x77\xde\x00\x94\x4d\xa9\x34\x7a\xf1\xd3\x60\xb8\x73",
         (4, 1) =>
@@ -40,6 +48,14 @@ fn root_of(n: u8, len: u16) -> &'static [u8; 32] {
             b"\x9e\x33\x82\xed\x50\xd2\xb9\x85\x7f\x6d\xa3\x27\x07\x97\xe6\xe8\x1b\x1e\xff\xe4\xcc\x61\x0c\x87\xe1\x6c\xbd\xde\x60\x5f\x42\xbe",
         (4, 16514) =>
             b"\x0d\xfc\x10\xdd\xc0\xb5\xfc\x61\x89\x4c\xdd\x10\x33\x0a\x20\x8b\xe1\xd7\x14\xba\xf1\x52\xe8\xec\x4f\xfe\x09\x7f\x59\xd4\xbb\x23",
+        (6, 0) =>
+            b"\xf2\x0e\xae\x4c\x27\xa9\xd5\x8b\x25\xe4\x48\x2f\x9e\xe9\x8d\x11\x94\x2d\xbf\xa1\x12\xec\x72\x35\xf0\x91\x2a\x8d\xa2\x36\x6c\x60",
+        (6, 1) =>
+            b"\xb8\x56\x9e\x05\xe9\x95\x75\x44\xeb\x0c\xdb\x58\x4a\x06\xb1\x91\x6d\x36\xac\xc2\x74\x90\xae\x94\x7e\x18\x72\x0c\x86\x69\x04\x43",
+        (6, 255) =>
+            b"\xb4\xcd\xa9\x9c\xfb\xc5\x54\xb7\xba\xb3\x9e\x08\x82\x6b\xf3\xae\x7f\xba\x80\x8b\xb0\x48\x97\x15\x9b\x67\x8a\x62\xa6\xe1\x69\x4b",
+        (6, 16514) =>
+            b"\x19\x3c\xcd\xc4\x76\xa1\x4a\xa6\x0e\x2f\xac\xdb\x16\xbf\x27\x85\xdc\x24\x0e\x7a\x1e\xf2\x4f\x9f\x16\xe7\x84\x19\x6c\xee\x69\xb7",
         (7, 0) =>
             b"\x47\x88\x14\xd8\xed\xe1\xd8\x3a\x9f\xdc\xca\xf4\x6e\x8e\xe2\x92\x71\x5c\xef\x00\x36\x7d\xb1\x06\xab\xab\x3a\x6c\xe5\x38\x7e\x4d",
         (7, 1) =>
@@ -61,7 +77,7 @@ fn root_of(n: u8, len: u16) -> &'static [u8; 32] {
 }
 
 // A value: byte i is 7 i and the length, as a byte.
-fn value_of(alloc: Global, len: u16) -> Result<Bytes, Fail>
+pub(crate) fn value_of(alloc: Global, len: u16) -> Result<Bytes, Fail>
     ensures { IfOk result (λ value. length value ≤ longest_value) }
 {
     let mut bytes = Vec::with_capacity(alloc, len as usize)?;
@@ -75,13 +91,13 @@ fn value_of(alloc: Global, len: u16) -> Result<Bytes, Fail>
     Ok(value)
 }
 
-fn config_of(n: u8, f: u8) -> Result<Config, Fail> {
+pub(crate) fn config_of(n: u8, f: u8) -> Result<Config, Fail> {
     let config = Config::new(n, f, 1, 1, 1, 0, 1, NodeSet::new()).ok_or("no config")?;
     Ok(config)
 }
 
 // What node 0 casts in its own broadcast when its desk proposes this.
-fn vals_of(alloc: Global, config: &Config, value: Bytes) -> Result<Due, Fail>
+pub(crate) fn vals_of(alloc: Global, config: &Config, value: Bytes) -> Result<Due, Fail>
     requires { length value ≤ longest_value }
 {
     let n = config.n();
@@ -140,7 +156,7 @@ fn a_sender_sends_each_node_its_shard(rt: HostRuntime) -> Result<(), Fail> {
 }
 
 // Hears from node `from` an Echo of shard m of these, with its branch.
-fn hear_echo(
+pub(crate) fn hear_echo(
     alloc: Global,
     rbc: &mut Rbc,
     from: u8,
@@ -202,7 +218,7 @@ fn due_after(
 }
 
 // Whether these votes are a Ready, if one is wanted, and the delivery of a value, if one is wanted.
-fn are(votes: &[Vote], is_ready: bool, value: Option<&[u8]>) -> bool {
+pub(crate) fn are(votes: &[Vote], is_ready: bool, value: Option<&[u8]>) -> bool {
     match (votes, is_ready, value) {
         ([], false, None) => true,
         ([Vote::Ready { epoch: 0, .. }], true, None) => true,

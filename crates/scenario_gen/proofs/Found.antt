@@ -5,7 +5,7 @@ use Rattle.std.proofs.lemmas.List.{get_or-replicate, get_or-set_other}
 use Rattle.hb_base.specs.Numbers.{numbers, AreSound}
 use Rattle.hb_base.specs.Counting.{count_nodes}
 use Rattle.hb_base.specs.NodeSet.{is_in}
-use Rattle.hb_base.specs.Limits.{most_nodes}
+use Rattle.hb_base.specs.Limits.{most_nodes, most_epochs, most_rounds, most_batch}
 use Rattle.scenario_gen.specs.Generated.{faulty, first_liar, nodes_from, liar_marks}
 
 -- at most f of up to ten nodes lie
@@ -31,8 +31,8 @@ below first (suc count) node known marked =
     by_cases (inr other) earlier = let before : node < first + count = earlier other in omega (arith, before)
 
 -- the numbers of a generated run are within their limits
-pub found : (number n epochs batch : ℕ) → 4 ≤ n → n ≤ 10 → (1 ≤ epochs) × (epochs ≤ 32) → (1 ≤ batch) × (batch ≤ 64)
-    → AreSound (numbers n (faulty n) epochs 32 batch number 1 (liar_marks n))
+pub found : (number n epochs batch : ℕ) → 4 ≤ n → n ≤ 10 → (1 ≤ epochs) × (epochs ≤ most_epochs) → (1 ≤ batch) × (batch ≤ most_batch)
+    → AreSound (numbers n (faulty n) epochs most_rounds batch number 1 (liar_marks n))
 found number n epochs batch least most some_epochs some_batch = record {
   nodes = (omega (arith, least), omega (arith, most));
   faulty = (omega arith, omega (arith, most));

@@ -4,7 +4,7 @@ use Rattle.std.specs.Prelude.{ℕ, zero, suc, ◌+◌, ◌-◌, ◌*◌, ◌/◌
 use Rattle.std.specs.Int.{w32, to_le_bytes}
 use Rattle.std.specs.List.{range_with_len}
 use Rattle.hb_base.specs.Numbers.{Numbers, numbers}
-use Rattle.hb_base.specs.Limits.{most_nodes, most_posts}
+use Rattle.hb_base.specs.Limits.{most_nodes, most_rounds, most_posts}
 use Rattle.disk_model.specs.declared.plan.Leave.{Leave}
 use Rattle.disk_model.specs.declared.plan.Leave.TheVariants.{Old, New, Torn}
 use Rattle.net_script.specs.declared.script.Order.TheVariants.{Fifo}
@@ -37,7 +37,7 @@ liar_marks n = nodes_from (first_liar n) (faulty n)
 
 -- a run with the number as its seed, by version 1
 abbrev pub config : ℕ → (ℕ → ℕ) → Numbers
-config number w = numbers (nodes w) (faulty (nodes w)) (2 + w 1 % 4) 32 (8 + w 2 % 16) number 1 (liar_marks (nodes w))
+config number w = numbers (nodes w) (faulty (nodes w)) (2 + w 1 % 4) most_rounds (8 + w 2 % 16) number 1 (liar_marks (nodes w))
 
 -- the eight bytes of the two words from a place on, each with its least byte first
 abbrev pub two_words : (ℕ → ℕ) → ℕ → List ℕ

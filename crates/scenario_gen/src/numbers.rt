@@ -1,9 +1,11 @@
 //! What the number of nodes decides: the numbers of the run, its liars, and the rules on its links.
 
 ghost use Rattle.std.specs.Prelude.{◌≡◌, ◌+◌, ◌-◌, ◌≤◌, IfOk};
+ghost use Rattle.hb_base.specs.Limits.{most_epochs, most_rounds, most_batch};
 ghost use Rattle.hb_base.specs.Numbers.{numbers};
 ghost use Rattle.scenario_gen.specs.Generated.{faulty, first_liar, liar_marks, links};
 
+use hb_base::limits::MOST_ROUNDS;
 use hb_base::{Config, NodeSet};
 use net_script::{Link, Shape};
 use std::alloc::{AllocError, Global};
@@ -20,11 +22,21 @@ pub(crate) fn faulty_of(n: u8) -> u8
 /// The numbers of the run, with this number as its seed.
 pub(crate) fn config_of(number: u64, n: u8, epochs: u8, batch: u8) -> Config
     requires nodes { (4 ≤ n) × (n ≤ 10) }
-    requires epochs { (1 ≤ epochs) × (epochs ≤ 32) }
-    requires batch { (1 ≤ batch) × (batch ≤ 64) }
-    ensures { result ≡ numbers n (faulty n) epochs 32 batch number 1 (liar_marks n) }
+    requires epochs { (1 ≤ epochs) × (epochs ≤ most_epochs) }
+    requires batch { (1 ≤ batch) × (batch ≤ most_batch) }
+    ensures { result ≡ numbers n (faulty n) epochs most_rounds batch number 1 (liar_marks n) }
 {
-    Config::new(n, faulty_of(n), epochs, 32, batch, number, 1, liars_of(n)).unwrap()
+    Config::new(
+        n,
+        faulty_of(n),
+        epochs,
+        MOST_ROUNDS,
+        batch,
+        number,
+        1,
+        liars_of(n),
+    )
+    .unwrap()
 }
 
 // The liars are the last nodes.

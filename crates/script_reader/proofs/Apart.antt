@@ -11,7 +11,7 @@ use Rattle.script_fault.specs.declared.fault.ScriptFault.TheVariants.{LiarTwice,
 use Rattle.script_fault.specs.declared.place.KeyName.TheVariants as keys
 use Rattle.script_reader.specs.Fault.{◌>>=◌, fine, check}
 use Rattle.script_reader.specs.Fields.{list_at}
-use Rattle.script_reader.specs.Entries.{entries_of, liar_at, liars_at, each_once, all_cast}
+use Rattle.script_reader.specs.Entries.{read_entries, liar_at, liars_at, each_once, all_cast}
 use Rattle.net_script.specs.Sound.{AreApart}
 use Rattle.script_reader.proofs.Steps.{then_ok, check_ok}
 
@@ -43,8 +43,8 @@ apart_liars n f cast d liars is =
     let cast_for : List LiarAt → Result (List LiarAt) ScriptFault = λ read. all_cast cast [] read >>= λ boxes. Ok read in
     let once_for : List LiarAt → Result (List LiarAt) ScriptFault = λ read. each_once [] read >>= λ once. cast_for read in
     let few_for : List LiarAt → Result (List LiarAt) ScriptFault = λ read. check (nat_le (length read) f) (TooManyLiars (length read) f) >>= λ few. once_for read in
-    let items = then_ok (list_at keys.Liars d) (λ items. entries_of (liar_at n) items >>= few_for) liars is in
-    let read = then_ok (entries_of (liar_at n) items.0) few_for liars items.2 in
+    let items = then_ok (list_at keys.Liars d) (λ items. read_entries (liar_at n) items >>= few_for) liars is in
+    let read = then_ok (read_entries (liar_at n) items.0) few_for liars items.2 in
     let few = check_ok (nat_le (length read.0) f) (TooManyLiars (length read.0) f) (once_for read.0) liars read.2 in
     let once = then_ok (each_once [] read.0) (λ once. cast_for read.0) liars few.1 in
     let boxes = then_ok (all_cast cast [] read.0) (λ boxes. Ok read.0) liars once.2 in

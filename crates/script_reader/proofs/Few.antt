@@ -14,7 +14,7 @@ use Rattle.script_reader.specs.declared.stops.CallAt.{CallAt}
 use Rattle.script_reader.specs.Fault.{◌>>=◌, check}
 use Rattle.script_fault.specs.Place.{place, top}
 use Rattle.script_reader.specs.Fields.{entry_at, leave_at, list_at}
-use Rattle.script_reader.specs.Entries.{next_index, entries_from, entries_of, count_items, link_at, links_at}
+use Rattle.script_reader.specs.Entries.{next_index, entries_from, read_entries, count_items, link_at, links_at}
 use Rattle.script_reader.specs.Entries.{is_call_of, is_stop_of, call_at, room_for, stop_at, fault_at, stops_at, faults_at}
 use Rattle.script_reader.specs.Bounds.{AreFewStops, AreFewFaults}
 use Rattle.script_reader.proofs.Steps.{then_ok, check_ok, holds_of_all}
@@ -74,7 +74,7 @@ stop_room n earlier index d stop is =
 pub few_stops : (n : ℕ) (d : Data) (stops : List StopAt) → stops_at n d ≡ Ok stops → AreFewStops stops
 unfolding stops_at
 few_stops n d stops is =
-    let items = then_ok (list_at keys.Stops d) (λ items. entries_of (stop_at n) items) stops is in
+    let items = then_ok (list_at keys.Stops d) (λ items. read_entries (stop_at n) items) stops is in
     holds_of_all AreFewStops (stop_at n) (λ earlier index d stop few is. few_push (λ (s : StopAt). s.at) most_stops earlier stop few (stop_room n earlier index d stop is))
     [] 0 items.0 stops (λ node actor. omega arith) items.2
 
@@ -96,7 +96,7 @@ fault_room n earlier index d fault is =
 pub few_faults : (n : ℕ) (d : Data) (faults : List CallAt) → faults_at n d ≡ Ok faults → AreFewFaults faults
 unfolding faults_at
 few_faults n d faults is =
-    let items = then_ok (list_at keys.Faults d) (λ items. entries_of (fault_at n) items) faults is in
+    let items = then_ok (list_at keys.Faults d) (λ items. read_entries (fault_at n) items) faults is in
     holds_of_all AreFewFaults (fault_at n) (λ earlier index d fault few is. few_push (λ (a : CallAt). a) most_faults earlier fault few (fault_room n earlier index d fault is))
     [] 0 items.0 faults (λ node actor. omega arith) items.2
 
@@ -119,7 +119,7 @@ pub few_links : (n : ℕ) (d : Data) (links : List Link) → links_at n d ≡ Ok
 unfolding links_at
 few_links n d links is =
     let few_for : Items → Result (List Link) ScriptFault =
-    λ items. check (nat_le (count_items items) most_links) (OutOfRange (top keys.Links) (count_items items)) >>= λ few. entries_of (link_at n) items in
+    λ items. check (nat_le (count_items items) most_links) (OutOfRange (top keys.Links) (count_items items)) >>= λ few. read_entries (link_at n) items in
     let items = then_ok (list_at keys.Links d) few_for links is in
-    let few = check_ok (nat_le (count_items items.0) most_links) (OutOfRange (top keys.Links) (count_items items.0)) (entries_of (link_at n) items.0) links items.2 in
+    let few = check_ok (nat_le (count_items items.0) most_links) (OutOfRange (top keys.Links) (count_items items.0)) (read_entries (link_at n) items.0) links items.2 in
     omega (arith, leb-true (count_items items.0) most_links few.0, length_read (link_at n) [] 0 items.0 links few.1)

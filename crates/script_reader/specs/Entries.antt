@@ -32,8 +32,8 @@ entries_from entry earlier index (item d ds) = do
   x ← entry earlier index d
   entries_from entry (earlier ++ x ∷ []) (next_index index) ds
 
-abbrev pub entries_of : {X : Type 0} → (List X → ℕ → Data → Result X ScriptFault) → Items → Result (List X) ScriptFault
-entries_of entry ds = entries_from entry [] 0 ds
+abbrev pub read_entries : {X : Type 0} → (List X → ℕ → Data → Result X ScriptFault) → Items → Result (List X) ScriptFault
+read_entries entry ds = entries_from entry [] 0 ds
 
 -- ---- submissions
 
@@ -48,7 +48,7 @@ submit_at n earlier index d = do
 unfoldable pub submits_at : ℕ → Data → Result (List Submit) ScriptFault
 submits_at n d = do
   items ← list_at keys.Submit d
-  entries_of (submit_at n) items
+  read_entries (submit_at n) items
 
 -- ---- liars
 
@@ -79,7 +79,7 @@ all_cast cast earlier (liar ∷ liars) =
 unfoldable pub liars_at : ℕ → ℕ → List (List ℕ) → Data → Result (List LiarAt) ScriptFault
 liars_at n f cast d = do
   items ← list_at keys.Liars d
-  liars ← entries_of (liar_at n) items
+  liars ← read_entries (liar_at n) items
   few ← check (nat_le (length liars) f) (TooManyLiars (length liars) f)
   once ← each_once [] liars
   boxes ← all_cast cast [] liars
@@ -107,7 +107,7 @@ unfoldable pub links_at : ℕ → Data → Result (List Link) ScriptFault
 links_at n d = do
   items ← list_at keys.Links d
   few ← check (nat_le (count_items items) most_links) (OutOfRange (top keys.Links) (count_items items))
-  entries_of (link_at n) items
+  read_entries (link_at n) items
 
 -- ---- stops and faults
 
@@ -154,9 +154,9 @@ fault_at n earlier index d = do
 unfoldable pub stops_at : ℕ → Data → Result (List StopAt) ScriptFault
 stops_at n d = do
   items ← list_at keys.Stops d
-  entries_of (stop_at n) items
+  read_entries (stop_at n) items
 
 unfoldable pub faults_at : ℕ → Data → Result (List CallAt) ScriptFault
 faults_at n d = do
   items ← list_at keys.Faults d
-  entries_of (fault_at n) items
+  read_entries (fault_at n) items

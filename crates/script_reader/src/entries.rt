@@ -6,7 +6,7 @@ ghost use Rattle.serde_json.specs.View.{view, items_view};
 ghost use Rattle.script_fault.specs.declared.fault.ScriptFault.{ScriptFault};
 ghost use Rattle.script_reader.specs.Fault.{Gives};
 ghost use Rattle.script_reader.specs.Fields.{list_at};
-ghost use Rattle.script_reader.specs.Entries.{entries_of};
+ghost use Rattle.script_reader.specs.Entries.{read_entries};
 
 use crate::fields::found;
 use script_fault::{KeyName, ScriptFault, Spot};
@@ -34,13 +34,13 @@ pub(crate) trait Entry: Sized + Drop {
 }
 
 #[tactic(auto, unfolding(crate::specs::Entries::entries_from))]
-pub(crate) fn entries_of<E: Entry>(
+pub(crate) fn read_entries<E: Entry>(
     alloc: Global,
     n: u8,
     values: &[Value],
 ) -> Result<Vec<E>, ScriptFault>
     requires { 1 ≤ n }
-    ensures gives { Gives (λ entries. entries.items) result (entries_of (E.reads n) (items_view values.now)) }
+    ensures gives { Gives (λ entries. entries.items) result (read_entries (E.reads n) (items_view values.now)) }
     ensures sound { IfOk result (λ entries. All (E.is_sound n) entries.items) }
 {
     let mut entries = Vec::new(alloc);

@@ -6,7 +6,7 @@ ghost use Rattle.script_reader.specs.Fault.{Gives};
 ghost use Rattle.net_script.specs.Sound.{IsLiar};
 ghost use Rattle.script_reader.specs.Entries.{liar_at, liars_at, each_once, all_cast};
 
-use crate::entries::{Entry, entries_of, list_at};
+use crate::entries::{Entry, list_at, read_entries};
 use crate::fields::{check_entry, node_at, number_or};
 use crate::words::name_at;
 use hb_base::LiarName;
@@ -31,7 +31,7 @@ pub(crate) fn liars_at(
     ensures few { IfOk result (λ liars. length liars.items ≤ f) }
 {
     let values = list_at(value, KeyName::Liars)?;
-    let liars = entries_of::<LiarAt>(alloc, n, values)?;
+    let liars = read_entries::<LiarAt>(alloc, n, values)?;
     if liars.len() > f as usize {
         return Err(ScriptFault::TooManyLiars {
             named: liars.len() as u64,

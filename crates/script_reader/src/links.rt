@@ -6,7 +6,7 @@ ghost use Rattle.script_reader.specs.Fault.{Gives};
 ghost use Rattle.net_script.specs.Sound.{IsLink};
 ghost use Rattle.script_reader.specs.Entries.{link_at, links_at};
 
-use crate::entries::{Entry, entries_of, list_at};
+use crate::entries::{Entry, list_at, read_entries};
 use crate::fields::{check_entry, node_or_any, number_at};
 use crate::words::shape_at;
 use hb_base::limits::MOST_LINKS;
@@ -29,7 +29,7 @@ pub(crate) fn links_at(alloc: Global, value: &Value, n: u8) -> Result<Vec<Link>,
             value: values.len() as u64,
         });
     }
-    entries_of(alloc, n, values)
+    read_entries(alloc, n, values)
 }
 
 impl Entry for Link {

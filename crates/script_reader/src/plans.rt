@@ -1,6 +1,7 @@
 //! What happens to the disks of a run.
 ghost use Rattle.std.specs.Prelude.{◌≡◌, ◌≤◌, ◌<◌, ◌+◌, ◌++◌, ℕ, true, IfOk, OnOk, length, map};
 ghost use Rattle.std.specs.List.{All, flat_map, range_with_len};
+ghost use Rattle.hb_base.specs.Limits.{most_nodes};
 ghost use Rattle.hb_base.specs.NodeSet.{is_in};
 ghost use Rattle.net_script.specs.Scenario.{planned};
 ghost use Rattle.net_script.specs.Sound.{IsLiar};
@@ -18,7 +19,7 @@ use std::alloc::{AllocError, Global};
 // The nodes of the liars.
 #[tactic(auto, using(crate::proofs::Counts::none_marked, crate::proofs::Counts::one_more_marked))]
 pub(crate) fn nodes_of(n: u8, liars: &[LiarAt]) -> NodeSet
-    requires nodes { n ≤ 16 }
+    requires nodes { n ≤ most_nodes }
     requires known { All (IsLiar n) liars.now }
     ensures exact { result ≡ nodes_of liars.now }
     ensures known { (node : ℕ) → is_in result node ≡ true → node < n }
@@ -39,7 +40,7 @@ pub(crate) fn plans_of(
     liars: &NodeSet,
     lists: &Lists,
 ) -> Result<Vec<ActorPlan>, AllocError>
-    requires { n ≤ 16 }
+    requires { n ≤ most_nodes }
     ensures { IfOk result (λ plans. map planned plans.items ≡ plans_of n liars.now lists.now.stops.items lists.now.faults.items) }
 {
     let mut plans = Vec::new(alloc);
@@ -57,7 +58,7 @@ fn add_node(
     liars: &NodeSet,
     lists: &Lists,
 ) -> Result<(), AllocError>
-    requires { n ≤ 16 }
+    requires { n ≤ most_nodes }
     ensures { OnOk result (map planned plans.new.items
         ≡ map planned plans.old.items ++ node_plans n liars.now lists.now.stops.items lists.now.faults.items node) }
 {
@@ -68,7 +69,7 @@ fn add_node(
 }
 
 fn add_actors(plans: &mut Vec<ActorPlan>, n: u8, node: u8, lists: &Lists) -> Result<(), AllocError>
-    requires { n ≤ 16 }
+    requires { n ≤ most_nodes }
     ensures { OnOk result (map planned plans.new.items
         ≡ map planned plans.old.items
         ++ flat_map (actor_plan lists.now.stops.items lists.now.faults.items node) (range_with_len 0 (n + 1))) }

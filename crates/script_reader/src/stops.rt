@@ -6,7 +6,7 @@ ghost use Rattle.script_reader.specs.Fault.{Gives};
 ghost use Rattle.script_reader.specs.Bounds.{IsStop, IsCall};
 ghost use Rattle.script_reader.specs.Entries.{is_call_of, is_stop_of, stop_of, room_for, call_at, stop_at, stops_at, fault_at, faults_at};
 
-use crate::entries::{Entry, entries_of, list_at};
+use crate::entries::{Entry, list_at, read_entries};
 use crate::fields::{check_entry, node_at, number_at};
 use crate::words::leave_at;
 use disk_model::{Leave, Stop};
@@ -57,7 +57,7 @@ pub(crate) fn stops_at(alloc: Global, value: &Value, n: u8) -> Result<Vec<StopAt
     ensures sound { IfOk result (λ stops. All (IsStop n) stops.items) }
 {
     let values = list_at(value, KeyName::Stops)?;
-    entries_of(alloc, n, values)
+    read_entries(alloc, n, values)
 }
 
 #[tactic(auto, unfolding(crate::specs::Entries::faults_at))]
@@ -67,7 +67,7 @@ pub(crate) fn faults_at(alloc: Global, value: &Value, n: u8) -> Result<Vec<CallA
     ensures sound { IfOk result (λ faults. All (IsCall n) faults.items) }
 {
     let values = list_at(value, KeyName::Faults)?;
-    entries_of(alloc, n, values)
+    read_entries(alloc, n, values)
 }
 
 // No actor has more than four entries, so that the earlier ones are at most 1,088, however long the list is.

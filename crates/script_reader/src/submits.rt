@@ -6,7 +6,7 @@ ghost use Rattle.script_reader.specs.Fault.{Gives};
 ghost use Rattle.net_script.specs.Sound.{IsSubmit};
 ghost use Rattle.script_reader.specs.Entries.{submit_at, submits_at};
 
-use crate::entries::{Entry, entries_of, list_at};
+use crate::entries::{Entry, list_at, read_entries};
 use crate::fields::{check_entry, node_at};
 use crate::words::transaction_at;
 use net_script::Submit;
@@ -21,7 +21,7 @@ pub(crate) fn submits_at(alloc: Global, value: &Value, n: u8) -> Result<Vec<Subm
     ensures sound { IfOk result (λ submit. All (IsSubmit n) submit.items) }
 {
     let values = list_at(value, KeyName::Submit)?;
-    entries_of(alloc, n, values)
+    read_entries(alloc, n, values)
 }
 
 impl Entry for Submit {

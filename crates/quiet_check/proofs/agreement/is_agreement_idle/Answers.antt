@@ -1,11 +1,12 @@
 use Rattle.std.proofs.Common.{◌≡◌, ◌↔◌, ◌+◌, Bool, true, List, ◌∷◌, [], ◌++◌, take, sym, ap, ◌∙◌, subst, arith}
 use Rattle.std.proofs.lemmas.Bool.{lt-ltb, le-ltb}
 use Rattle.std.proofs.lemmas.List.{take_all, take_more}
-use Rattle.aba_core.specs.State.{Place, AbaView, place_of}
+use Rattle.aba_core.specs.State.{AbaView, place_of}
 use Rattle.aba_core.specs.Standing.{slots_at, Shows}
 use Rattle.hb_wire.specs.declared.vote.Vote.{Vote}
 use Rattle.hb_rules.specs.Slots.{IsIdle}
 use Rattle.hb_rules.specs.Hearing.{Hearing}
+use Rattle.hb_rules.specs.Owing.{Place}
 use Rattle.quiet_check.proofs.Noting.{HasNoted, noted_inside, noted_outside, noted_told, if_ok}
 use Rattle.quiet_check.proofs.agreement.is_agreement_idle.Goals.{then-said-n, else-said-n}
 use Rattle.quiet_check.proofs.agreement.is_agreement_idle.Goals as goal

@@ -3,7 +3,8 @@ use Rattle.std.proofs.lemmas.Bool.{lt-ltb, le-ltb}
 use Rattle.std.proofs.lemmas.List.{take_all, take_more, take-append-drop}
 use Rattle.hb_rules.specs.Hearing.{Hearing}
 use Rattle.hb_rules.specs.Slots.{IsIdle}
-use Rattle.rbc_core.specs.Broadcast.{Place, slots_at}
+use Rattle.hb_rules.specs.Owing.{Place}
+use Rattle.rbc_core.specs.Broadcast.{slots_at}
 use Rattle.quiet_check.proofs.Broadcasts.{HasHeard, heard_first, heard_outside, heard_inside, not_idle, idle_heard, no_votes}
 use Rattle.quiet_check.proofs.broadcast.is_broadcast_idle.Goals as goal
 

@@ -1,6 +1,6 @@
 use Rattle.std.proofs.Common.{◌≡◌, ap, arith}
 use Rattle.hb_rules.specs.Hearing.{hearing}
-use Rattle.aba_core.specs.State.{Place}
+use Rattle.hb_rules.specs.Owing.{Place}
 use Rattle.aba_core.proofs.Hears.{Hears-quiet, Hears-settled}
 use Rattle.aba_core.proofs.Rooms.{room-most}
 use Rattle.aba_core.proofs.aba.Aba.hear.Goals as goal

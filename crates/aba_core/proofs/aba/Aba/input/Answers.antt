@@ -1,6 +1,7 @@
 use Rattle.std.proofs.Common.{◌≡◌, sym, ap, ◌∙◌, arith}
 use Rattle.hb_rules.specs.Marks.{any_est}
-use Rattle.aba_core.specs.State.{AbaView, Place, place_of, mark_at}
+use Rattle.hb_rules.specs.Owing.{Place}
+use Rattle.aba_core.specs.State.{AbaView, place_of, mark_at}
 use Rattle.aba_core.proofs.Inputs.{Takes-begun, Takes-settled, input_first, input_place}
 use Rattle.aba_core.proofs.Rooms.{room-most}
 use Rattle.aba_core.proofs.aba.Aba.input.Goals as goal

@@ -1,5 +1,5 @@
 use Rattle.std.proofs.Common.{sym, ap, ◌∙◌, arith}
-use Rattle.aba_core.specs.State.{Place}
+use Rattle.hb_rules.specs.Owing.{Place}
 use Rattle.aba_core.proofs.Passes.{Passed-filled, Passed-empty, Passed-cast, room_some, room_after}
 use Rattle.aba_core.proofs.aba.Aba.offer.Goals as goal
 

@@ -1,7 +1,7 @@
 use Rattle.std.proofs.Common.{List, ◌∷◌, [], ◌++◌, take, sym, ap, ◌∙◌, subst, arith}
 use Rattle.std.proofs.lemmas.List.{take_all, take_more}
 use Rattle.hb_wire.specs.declared.vote.Vote.{Vote}
-use Rattle.aba_core.specs.State.{Place}
+use Rattle.hb_rules.specs.Owing.{Place}
 use Rattle.aba_core.specs.Standing.{Shows}
 use Rattle.aba_core.proofs.Building.{IsBuilt, IsBuilt-none, IsBuilt-more, new_sound, part_shown, Stands-idle, Stands-none}
 use Rattle.aba_core.proofs.aba.Aba.rebuild.Goals as goal

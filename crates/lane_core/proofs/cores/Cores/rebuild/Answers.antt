@@ -2,7 +2,7 @@ use Rattle.std.proofs.Common.{sym, subst, []}
 use Rattle.std.specs.List.{filter}
 use Rattle.hb_rules.specs.Parts.{read_in_agreement}
 use Rattle.hb_rules.specs.Slots.{IsIdle}
-use Rattle.aba_core.specs.State.{Place}
+use Rattle.hb_rules.specs.Owing.{Place}
 use Rattle.aba_core.specs.Standing.{slots_at}
 use Rattle.lane_core.proofs.cores.Cores.rebuild.Goals as goal
 

@@ -5,7 +5,7 @@ use Rattle.merkle_branch.specs.Branches.{is_branch}
 use Rattle.rbc_core.specs.Due.{is_ready_by, is_delivery_by}
 use Rattle.rbc_core.specs.Roots.{view_at, value_with}
 use Rattle.rbc_core.proofs.Adding.{any_err}
-use Rattle.rbc_core.proofs.Heard.{Keeps-roots}
+use Rattle.rbc_core.proofs.Heard.{KeepsStanding-roots}
 use Rattle.rbc_core.proofs.Unheeded.{unheeded_echo}
 use Rattle.rbc_core.proofs.Votes.{Hears-echo, Hears-echo_again, votes_behind, votes_fit}
 use Rattle.rbc_core.proofs.rbc.Rbc.hear_echo.Goals as goal
@@ -26,7 +26,7 @@ returns-then-counts-clause-ok c =
 
 pub returns-in_err-add_echo-clause-err : goal.returns-in_err-add_echo-clause-err
 returns-in_err-add_echo-clause-err c =
-    rw (← c.self.view_is) (any_err _ _ (Keeps-roots _ c.add_echo.new.self c.in_err-add_echo.ensures.err))
+    rw (← c.self.view_is) (any_err _ _ (KeepsStanding-roots _ c.add_echo.new.self c.in_err-add_echo.ensures.err))
 
 pub cast-requires : goal.cast-requires
 cast-requires c =

@@ -3,7 +3,7 @@ use Rattle.std.specs.Option.{option_copied}
 use Rattle.hb_base.specs.Numbers.{Numbers}
 use Rattle.rbc_core.specs.Due.{is_ready_by, is_delivery_by}
 use Rattle.rbc_core.proofs.Adding.{any_err}
-use Rattle.rbc_core.proofs.Heard.{Keeps-roots}
+use Rattle.rbc_core.proofs.Heard.{KeepsStanding-roots}
 use Rattle.rbc_core.proofs.Votes.{Hears-ready, Hears-ready_again, some_copied, votes_behind, votes_fit}
 use Rattle.rbc_core.proofs.rbc.Rbc.hear_ready.Goals as goal
 
@@ -16,7 +16,7 @@ returns-then-counts-clause-ok c =
 
 pub returns-in_err-add_ready-clause-err : goal.returns-in_err-add_ready-clause-err
 returns-in_err-add_ready-clause-err c =
-    rw (← c.self.view_is) (any_err _ _ (Keeps-roots _ c.add_ready.new.self c.in_err-add_ready.ensures.err))
+    rw (← c.self.view_is) (any_err _ _ (KeepsStanding-roots _ c.add_ready.new.self c.in_err-add_ready.ensures.err))
 
 pub cast-requires : goal.cast-requires
 cast-requires c =

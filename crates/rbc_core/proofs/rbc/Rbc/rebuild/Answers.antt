@@ -5,8 +5,8 @@ use Rattle.hb_base.specs.Numbers.{Numbers}
 use Rattle.hb_wire.specs.declared.vote.Vote.{Vote}
 use Rattle.hb_rules.specs.Code.{data_count}
 use Rattle.hb_rules.specs.History.{HasSpelling}
+use Rattle.hb_rules.specs.Owing.{Place}
 use Rattle.hb_rules.proofs.Lists.{AllByRecursion-contains}
-use Rattle.rbc_core.specs.Broadcast.{Place}
 use Rattle.rbc_core.proofs.Marking.{AreMarked, AreMarked-push, AreMarked-part, stands_marked, take_next}
 use Rattle.rbc_core.proofs.rbc.Rbc.rebuild.Goals as goal
 

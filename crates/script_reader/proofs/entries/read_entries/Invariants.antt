@@ -2,7 +2,7 @@ use Rattle.std.proofs.Common.{◌≡◌, [], drop}
 use Rattle.std.specs.List.{All}
 use Rattle.serde_json.specs.View.{items_view}
 use Rattle.script_reader.specs.Entries.{entries_from}
-use Rattle.script_reader.proofs.entries.entries_of.Given as goal
+use Rattle.script_reader.proofs.entries.read_entries.Given as goal
 
 -- what is left, behind what was read, reads as all does
 abbrev pub invariant-loop-value : goal.invariant-loop-value
