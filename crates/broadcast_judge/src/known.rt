@@ -1,4 +1,4 @@
-//! What was worked out before. The nodes of a broadcast look at one value and at the same shards, so each is worked out once.
+//! What was worked out last for each lane. The nodes of a broadcast look at one value and at the same shards, one after another.
 ghost use Rattle.std.specs.Prelude.{◌≡◌, ◌<◌, ◌≤◌, ◌^◌, true, All, length, IfOk};
 ghost use Rattle.hb_base.specs.Limits.{longest_value};
 ghost use Rattle.rs_shards.specs.Completing.{encoded};

@@ -12,7 +12,8 @@ use hb_base::Config;
 use hb_wire::{Post, Vote, WireFault, equality_laws, read_shared};
 use std::alloc::{AllocError, Global};
 
-// The posts of a run with this config, in order, and those that spell votes by their places. They share their bytes.
+// The posts of a run with this config, in order, and by their places those that may count. A vote has its shard or its value in common
+// with its post.
 #[derive(Drop)]
 pub(crate) struct Table {
     pub(crate) alloc: Global,
