@@ -13,10 +13,12 @@ pub trait Source {
     /// What is left, where the source tells it. One that tells goes on telling.
     ghost left: { Self → Option (List ℕ) };
 
-    /// How many calls have failed. The count never falls, and stays at 2^64 - 1 once there.
+    /// A count of failures. It never falls, stays at a call that succeeds, and rises at one that fails, unless it has reached
+    /// 2^64 - 1.
     ghost faults: { Self → ℕ };
 
-    /// Puts the next bytes at the front of `buf`, and answers how many: at least one, unless nothing is left.
+    /// Puts the next bytes at the front of `buf`, and answers how many. A source that tells what is left puts at least one, unless
+    /// nothing is left.
     fn take(&mut self, buf: &mut [u8]) -> Result<usize, Failed>
         requires { 0 < length buf.old }
         ensures bound { ReadsAtMost result buf.new }
@@ -29,7 +31,8 @@ pub trait Sink {
     /// What the sink holds, where it tells that. One that tells goes on telling.
     ghost held: { Self → Option (List ℕ) };
 
-    /// How many calls have failed. The count never falls, and stays at 2^64 - 1 once there.
+    /// A count of failures. It never falls, stays at a call that succeeds, and rises at one that fails, unless it has reached
+    /// 2^64 - 1.
     ghost faults: { Self → ℕ };
 
     /// Appends all the bytes, or fails after it has appended a front of them.

@@ -91,7 +91,7 @@ impl VoteView<'_> {
     }
 
     // The vote. Where the bytes are given that spell it, its shard or its value is a part of them. The batches of a Closed are
-    // copied: no actor hears of them.
+    // copied: no actor heeds one.
     pub(crate) fn to_vote_over(
         self,
         alloc: Global,

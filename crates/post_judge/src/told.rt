@@ -11,7 +11,7 @@ pub(crate) struct Told {
     pub(crate) vote: Vote,
 }
 
-// A post with its vote. No bytes are copied.
+// A post with its vote. No byte string is copied.
 pub(crate) fn keep(post: &Post, vote: &Vote) -> Result<Told, AllocError>
     ensures { IfOk result (λ t. t ≡ record { post = post.now; vote = vote.now }) }
 {

@@ -56,7 +56,7 @@ impl Line {
 
     /// Takes the next envelope, and None exactly where none waits. First in, first out it is the first of the prompt ones,
     /// or of all where only late ones are left, and takes constant time. In the mixed order a word is drawn, and it is the
-    /// one whose place among these is the word modulo their number; the time is then about the root of this number.
+    /// one whose place among these is the word modulo their number; the time is then about the root of the most that it has had.
     pub fn take(&mut self, order: Order, words: &mut ChaCha20Rng) -> Option<Envelope>
         requires words { words.old.word_pos + 1 < 2 ^ 68 }
         ensures taken { result ≡ next_of order words.old self.old }
