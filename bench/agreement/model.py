@@ -1,5 +1,5 @@
 #!/usr/bin/env python3
-"""Works out the tables of crates/agreement_cases by the definition of what a lane owes in the binary agreement.
+"""Works out the tables of agreements in crates/lane_cases by the definition of what a lane owes in the binary agreement.
 
 usage: model.py ORDERS   (how many orders are drawn for each split: the number that splits.rt names gives its table)
 

@@ -4,7 +4,5 @@
 
 mod acs;
 mod shown;
-#[cfg(test)]
-mod tests;
 
 pub use acs::{Acs, subset_laws};

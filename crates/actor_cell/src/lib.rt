@@ -12,8 +12,6 @@ mod passes;
 mod run_name;
 mod sending;
 mod served;
-#[cfg(test)]
-mod tests;
 
 pub use arrival::{Arrival, arrival_found, by_lateness};
 pub use boxes::Boxes;

@@ -7,8 +7,6 @@ mod coins;
 mod marks;
 mod place;
 mod rows;
-#[cfg(test)]
-mod tests;
 
 pub use agreement::may_agree;
 pub use place::Place;

@@ -4,7 +4,7 @@ ghost use Rattle.std.specs.Prelude.{codes};
 
 use crate::FalseFrame;
 use crate::calls::{Answer, Host, Request, call, call_with, check_none, check_ran};
-use crate::texts::{FOUR_COINS, four};
+use crate::texts::{FOUR_COINS, ONE_COINS, ONE_FALLS, four};
 use hb_base::LiarName;
 use hb_wire::{Post, To};
 use liar_cast::{Liar, LiarSeat, Lies};
@@ -28,6 +28,7 @@ end 23
 
 #[test]
 fn trace_of_one_node(rt: HostRuntime) -> Result<(), Fail> {
+    assert!(rt; ONE_COINS.begin_with(rt.alloc(), 0, &ONE_FALLS)?);
     let answer = call(&rt, rt.alloc(), &Request::new(&["trace"], ALONE))?;
     assert_eq!(rt; answer.status, 0);
     assert!(rt; answer.err.held().is_empty());
@@ -40,6 +41,7 @@ fn trace_of_one_node(rt: HostRuntime) -> Result<(), Fail> {
 
 #[test]
 fn nobody_is_accused(rt: HostRuntime) -> Result<(), Fail> {
+    assert!(rt; ONE_COINS.begin_with(rt.alloc(), 0, &ONE_FALLS)?);
     let answer = call(&rt, rt.alloc(), &Request::new(&["accuse"], ALONE))?;
     let text = "accuse nodes 1 faulty 0 version 1 epochs 1\nend 0\n";
     check_ran(&rt, &answer, 0, text, "one node");

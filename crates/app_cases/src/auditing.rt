@@ -2,7 +2,7 @@
 
 use crate::accusing::ALONE;
 use crate::calls::{Answer, Host, Request, Written, call, check_written};
-use crate::texts::four;
+use crate::texts::{ONE_COINS, ONE_FALLS, four};
 use std::alloc::{AllocError, Global};
 use std::test::Fail;
 
@@ -76,7 +76,7 @@ end 1
 
 #[test]
 fn texts_by_hand(rt: HostRuntime) -> Result<(), Fail> {
-    for (text, written) in ROWS {
+    for &(text, written) in &ROWS {
         let answer = call(&rt, rt.alloc(), &Request::new(&["audit"], text))?;
         check_written(&rt, &answer, written, text);
     }
@@ -93,7 +93,7 @@ const TAKES: [(u32, Written<'static>); 4] = [
 
 #[test]
 fn takes_that_fail(rt: HostRuntime) -> Result<(), Fail> {
-    for (take, written) in TAKES {
+    for &(take, written) in &TAKES {
         let given = Request {
             piece: 16,
             take,
@@ -117,7 +117,7 @@ const PUTS: [(&str, u32, u32, u32, Written<'static>); 7] = [
 
 #[test]
 fn puts_that_fail(rt: HostRuntime) -> Result<(), Fail> {
-    for (text, take, put, tell, written) in PUTS {
+    for &(text, take, put, tell, written) in &PUTS {
         let given = Request {
             take,
             put,
@@ -174,6 +174,7 @@ fn check_legal(rt: &impl Host, alloc: Global, scenario: &str) -> Result<(), Fail
 
 #[test]
 fn one_node(rt: HostRuntime) -> Result<(), Fail> {
+    assert!(rt; ONE_COINS.begin_with(rt.alloc(), 0, &ONE_FALLS)?);
     let (_trace, answer) = traced(&rt, rt.alloc(), ALONE)?;
     check_written(&rt, &answer, (0, "legal 23\n", ""), "one node");
     Ok(())

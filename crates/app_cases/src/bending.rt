@@ -3,6 +3,7 @@
 use crate::accusing::ALONE;
 use crate::auditing::traced;
 use crate::calls::{Request, call, check_written};
+use crate::texts::{ONE_COINS, ONE_FALLS};
 use std::alloc::{AllocError, Global};
 use std::test::Fail;
 
@@ -86,9 +87,10 @@ fn bent(alloc: Global, text: &str, number: usize, line: &str) -> Result<Vec<u8>,
 
 #[test]
 fn one_post_of_a_history(rt: HostRuntime) -> Result<(), Fail> {
+    assert!(rt; ONE_COINS.begin_with(rt.alloc(), 0, &ONE_FALLS)?);
     let (trace, _answer) = traced(&rt, rt.alloc(), ALONE)?;
     let text = str::from_utf8(trace.out.held())?;
-    for (number, line, wanted) in BENDS {
+    for &(number, line, wanted) in &BENDS {
         let bent = bent(rt.alloc(), text, number, line)?;
         let given = Request {
             input: bent.as_slice(),

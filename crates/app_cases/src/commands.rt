@@ -37,7 +37,7 @@ const NO_COMMANDS: [&[&str]; 22] = [
 #[test]
 fn no_commands(rt: HostRuntime) -> Result<(), Fail> {
     let scenario = r#"{"nodes":1,"faulty":0,"epochs":1}"#;
-    for words in NO_COMMANDS {
+    for &words in &NO_COMMANDS {
         for (tell, status, told) in [(0, 2, USAGE), (1, 7, "")] {
             let given = Request {
                 tell,
@@ -78,7 +78,7 @@ fn check_soak(
 // No take fails, since a generated run takes nothing of the input.
 #[test]
 fn soaks(rt: HostRuntime) -> Result<(), Fail> {
-    for (number, front) in SOAKS {
+    for &(number, front) in &SOAKS {
         let words = ["soak", number];
         let given = Request {
             take: 1,

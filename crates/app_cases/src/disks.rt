@@ -37,8 +37,18 @@ pub(crate) fn has_posted_all_again(report: &Report, node: u8, actor: u8) -> bool
     true
 }
 
+// Whether an actor posts a vote twice.
+fn posts_twice(report: &Report, node: u8, actor: u8) -> bool {
+    let history = report.history.as_slice();
+    history.iter().enumerate().any(|(place, post)| {
+        let (before, _after) = history.split_at(place.min(history.len()));
+        is_of(post, node, actor) && stands_in(before, post)
+    })
+}
+
 // Runs the four nodes with one stop. However early or late it comes, and whatever the crash leaves, the actor begins again at once,
-// and all nodes close all four batches.
+// and all nodes close all four batches. What it had posted it posts again, which is its first entry at least where the stop comes after
+// the calls that make the journal and that entry, and not after the last call of its disk.
 fn check_stop(
     rt: &impl Host,
     alloc: Global,
@@ -46,6 +56,7 @@ fn check_stop(
     call: u32,
     leave: &str,
 ) -> Result<(), Fail> {
+    let last = if actor == 4 { DESK_LAST } else { LAST };
     let keys = format!(in alloc;
         ",\"stops\":[{{\"node\":1,\"actor\":{actor},\"call\":{call},\"leave\":\"{leave}\"}}]"
     )?;
@@ -54,6 +65,12 @@ fn check_stop(
     let want = text(alloc, FOUR_FRONT, &[("running", ALL); 4], 0)?;
     check_ran(rt, &answer, 0, want.as_str(), keys.as_str());
     assert!(rt; has_posted_all_again(&answer.report, 1, actor), "{keys}");
+    let begins_again = call > FIRST_ENTRY && call <= last;
+    assert_eq!(rt;
+        posts_twice(&answer.report, 1, actor),
+        begins_again,
+        "{keys}"
+    );
     Ok(())
 }
 
@@ -89,11 +106,14 @@ fn lane_1_has(report: &Report, fate: Fate) -> bool {
 // proposal; Echo; Ready; Delivered with what it begins round 0 with; Aux; Pick with its share; since the coins of rounds 0 and 1 are
 // both 1, Decided with what it begins round 1 with; its Aux; and its Pick with its share. These are the last calls for the first
 // entry, for the seventh, which has Decided, and for the ninth.
-const SHARDS: u32 = 10;
+const FIRST_ENTRY: u32 = 10;
 
 const DECIDED: u32 = 34;
 
 const LAST: u32 = 42;
+
+// The desk of a node has three entries: Propose, NoMore and Closed.
+const DESK_LAST: u32 = 18;
 
 // What is printed of node 1 if a call of this disk fails. It closes the epoch if the lane has decided by then.
 fn node_1(alloc: Global, call: u32) -> Result<String, AllocError> {
@@ -113,7 +133,7 @@ fn check_fault(rt: &impl Host, alloc: Global, call: u32) -> Result<(), Fail> {
     let keys = format!(in alloc; ",\"faults\":[{{\"node\":1,\"actor\":1,\"call\":{call}}}]")?;
     let scenario = four(alloc, keys.as_str())?;
     let answer = run(rt, alloc, scenario.as_str())?;
-    let other = ("running", if call > SHARDS { ALL } else { WITHOUT_1 });
+    let other = ("running", if call > FIRST_ENTRY { ALL } else { WITHOUT_1 });
     let ledger = node_1(alloc, call)?;
     let (stands, fate) = if call > LAST {
         ("running", Fate::Running)

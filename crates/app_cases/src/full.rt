@@ -74,7 +74,7 @@ const LENGTHS: [(u8, usize); 3] = [
 
 // Checks the lengths of these votes. There are 256 of each: in each of 16 lanes one for each node.
 fn check_lengths(rt: &impl Abort, report: &Report) {
-    for (kind, length) in LENGTHS {
+    for &(kind, length) in &LENGTHS {
         let mut count = 0u32;
         for post in &report.history {
             let bytes = post.bytes.as_slice();

@@ -21,7 +21,7 @@ const KINDS: [&str; 6] = [
 // delivers.
 fn check_kinds(rt: &impl Host, alloc: Global, node: u8, nodes: &[Node<'_>]) -> Result<(), Fail> {
     let want = text(alloc, FOUR_FRONT, nodes, 0)?;
-    for name in KINDS {
+    for &name in &KINDS {
         let keys = format!(in alloc; ",\"liars\":[{{\"node\":{node},\"name\":\"{name}\"}}]")?;
         let scenario = four(alloc, keys.as_str())?;
         let answer = run(rt, alloc, scenario.as_str())?;

@@ -1,12 +1,13 @@
 //! What `observe` prints of a run.
 
 use crate::calls::{Request, call, check_ran};
-use crate::texts::{ALL, FIRST_THREE, four};
+use crate::texts::{ALL, FIRST_THREE, FOUR_COINS, four};
 use std::test::Fail;
 
 // The observer beside a node to which all is dropped hears that node alone.
 #[test]
 fn observers_of_a_lost_node(rt: HostRuntime) -> Result<(), Fail> {
+    assert!(rt; FOUR_COINS.have_both_bits(rt.alloc())?);
     let scenario = four(
         rt.alloc(),
         r#","links":[{"to":2,"every":1,"at":0,"shape":"drop"}]"#,
@@ -32,6 +33,7 @@ observer 3 epochs 1
 // An observer stands beside a liar too, and hears what is said to all.
 #[test]
 fn observers_of_a_liar(rt: HostRuntime) -> Result<(), Fail> {
+    assert!(rt; FOUR_COINS.have_both_bits(rt.alloc())?);
     let scenario = four(rt.alloc(), r#","liars":[{"node":3,"name":"equivocate"}]"#)?;
     let answer = call(
         &rt,

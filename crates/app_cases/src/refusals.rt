@@ -83,7 +83,7 @@ const ROWS: [(&str, &str); 20] = [
 
 #[test]
 fn faults_of_scenarios(rt: HostRuntime) -> Result<(), Fail> {
-    for (input, line) in ROWS {
+    for &(input, line) in &ROWS {
         let answer = run(&rt, rt.alloc(), input)?;
         check_none(&rt, &answer, 3, line, input);
     }
@@ -142,7 +142,7 @@ fn cut_scenarios(rt: HostRuntime) -> Result<(), Fail> {
 // Where the line can't be put there is nothing to tell it.
 #[test]
 fn lines_that_fail(rt: HostRuntime) -> Result<(), Fail> {
-    for (input, _) in ROWS {
+    for &(input, _) in &ROWS {
         let given = Request {
             tell: 1,
             ..Request::new(&["run"], input)

@@ -1,6 +1,7 @@
 //! Takes and puts that fail.
 
 use crate::calls::{Answer, Host, Request, call, check_none, check_ran};
+use crate::texts::{ONE_COINS, ONE_FALLS};
 use std::alloc::{AllocError, Global};
 use std::process::Abort;
 use std::test::Fail;
@@ -57,6 +58,7 @@ fn takes_that_fail(rt: HostRuntime) -> Result<(), Fail> {
 
 #[test]
 fn pieces(rt: HostRuntime) -> Result<(), Fail> {
+    assert!(rt; ONE_COINS.begin_with(rt.alloc(), 0, &ONE_FALLS)?);
     let text = joined(rt.alloc(), &LINES)?;
     for piece in [1, 2, 3, 16, 86, 87, 88] {
         let given = Request {
@@ -118,6 +120,7 @@ fn check_puts(
 
 #[test]
 fn puts_that_fail(rt: HostRuntime) -> Result<(), Fail> {
+    assert!(rt; ONE_COINS.begin_with(rt.alloc(), 0, &ONE_FALLS)?);
     check_puts(&rt, rt.alloc(), "run", LINES)?;
     check_puts(&rt, rt.alloc(), "observe", OBSERVED)?;
     Ok(())

@@ -25,6 +25,17 @@ pub(crate) const FOUR_COINS: Coins = Coins {
     seed: 0,
 };
 
+// The coins of one node that is alone for one epoch of three rounds with the seed 0: 0, 0 and 1. So it decides 1 in the last.
+pub(crate) const ONE_COINS: Coins = Coins {
+    nodes: 1,
+    faulty: 0,
+    epochs: 1,
+    rounds: 3,
+    seed: 0,
+};
+
+pub(crate) const ONE_FALLS: [bool; 3] = [false, false, true];
+
 // The first line of a run of the four nodes.
 pub(crate) const FOUR_FRONT: &str = "run nodes 4 faulty 1 version 1 epochs 1\n";
 

@@ -1,4 +1,4 @@
--- The run of the tests: five nodes, of which node 4 lies, and what their desks post.
+-- The run of the shared book: five nodes, of which node 4 lies, and what their desks post.
 use Rattle.std.specs.Prelude.{◌≡◌, true, false, [], ◌∷◌}
 use Rattle.hb_base.specs.Numbers.{Numbers}
 use Rattle.hb_base.specs.NodeSet.{is_in}

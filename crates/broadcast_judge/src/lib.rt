@@ -8,8 +8,6 @@ mod known;
 mod lane;
 mod sending;
 mod shards;
-#[cfg(test)]
-mod tests;
 
 pub use broadcast::may_broadcast;
 pub use known::Known;

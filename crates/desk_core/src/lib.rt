@@ -4,8 +4,6 @@
 
 mod actor;
 mod desk;
-#[cfg(test)]
-mod tests;
 
 pub use actor::{Desk, new_desk};
 pub use desk::DeskCore;

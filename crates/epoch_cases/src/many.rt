@@ -234,8 +234,8 @@ fn proposes(votes: &[Vote], epoch: u8, value: &[u8]) -> bool {
 #[test]
 fn oldest_of_ten_thousand(rt: HostRuntime) -> Result<(), Fail> {
     let alloc = rt.alloc();
-    for run in RUNS {
-        let due = cast_in(alloc, &run)?;
+    for run in &RUNS {
+        let due = cast_in(alloc, run)?;
         assert_eq!(rt; counts(due.votes()), (32, 32), "in steps of {}", run.step);
         for epoch in 0..EPOCHS {
             let wanted = batch_from(alloc, first_in(epoch, 0, run.step))?;

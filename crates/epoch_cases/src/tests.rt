@@ -82,9 +82,9 @@ fn outcome(alloc: Global, case: &Case, own: &[Vote]) -> Result<Vec<u8>, Fail> {
 #[test]
 fn runs(rt: HostRuntime) -> Result<(), Fail> {
     let alloc = rt.alloc();
-    for case in CASES {
+    for case in &CASES {
         let own = votes_of(alloc, case.own)?;
-        let text = outcome(alloc, &case, &own)?;
+        let text = outcome(alloc, case, &own)?;
         assert!(rt;
             text.as_slice() == case.wanted.as_bytes(),
             "the run {}",
@@ -135,10 +135,10 @@ fn again(
 #[test]
 fn rebuilt_after_each_call(rt: HostRuntime) -> Result<(), Fail> {
     let alloc = rt.alloc();
-    for case in CASES {
+    for case in &CASES {
         for answers in 0..case.wanted.split(' ').count() {
-            let (own, wanted) = again(alloc, &case, answers.saturating_add(1), false)?;
-            let text = outcome(alloc, &case, &own)?;
+            let (own, wanted) = again(alloc, case, answers.saturating_add(1), false)?;
+            let text = outcome(alloc, case, &own)?;
             assert!(rt;
                 text.as_slice() == wanted.as_slice(),
                 "{} after {answers} answers",
@@ -153,12 +153,12 @@ fn rebuilt_after_each_call(rt: HostRuntime) -> Result<(), Fail> {
 fn rebuilt_before_a_closing(rt: HostRuntime) -> Result<(), Fail> {
     let alloc = rt.alloc();
     let mut places = 0u32;
-    for case in CASES {
+    for case in &CASES {
         for (answers, answer) in case.wanted.split(' ').enumerate() {
             let (front, _) = cut(answer);
             if !front.is_empty() {
-                let (own, wanted) = again(alloc, &case, answers, true)?;
-                let text = outcome(alloc, &case, &own)?;
+                let (own, wanted) = again(alloc, case, answers, true)?;
+                let text = outcome(alloc, case, &own)?;
                 assert!(rt;
                     text.as_slice() == wanted.as_slice(),
                     "{} after {answers} answers and {front}",

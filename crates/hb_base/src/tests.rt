@@ -73,6 +73,26 @@ fn byte_strings(rt: HostRuntime) -> Result<(), Fail> {
 }
 
 #[test]
+fn long_byte_strings(rt: HostRuntime) -> Result<(), Fail> {
+    for len in [65_536, 65_537, 1_000_000] {
+        let mut bytes = Vec::new(rt.alloc());
+        let mut byte = 0u8;
+        for _ in 0..len {
+            bytes.push(byte)?;
+            byte = byte.wrapping_add(7);
+        }
+        let copy = Bytes::copy(rt.alloc(), bytes.as_slice())?;
+        assert!(rt;
+            copy.as_slice() == bytes.as_slice(),
+            "{len} bytes are copied"
+        );
+        let taken = Bytes::from_vec(bytes)?;
+        assert!(rt; taken.clone()? == copy, "{len} bytes are taken");
+    }
+    Ok(())
+}
+
+#[test]
 fn parts_of_byte_strings(rt: HostRuntime) -> Result<(), Fail> {
     let whole = Bytes::copy(rt.alloc(), b"honey badger")?;
     let badger = whole.part(6, 6)?;

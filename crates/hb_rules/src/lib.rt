@@ -5,8 +5,6 @@
 pub mod actor;
 pub mod agreement_slot;
 pub mod book;
-#[cfg(test)]
-mod book_tests;
 pub mod desk;
 pub mod due;
 pub mod hearing;
@@ -17,8 +15,6 @@ pub mod plain_book;
 pub mod plain_seat;
 pub mod posts;
 pub mod report;
-#[cfg(test)]
-mod tests;
 pub mod voters;
 
 pub use actor::{Actor, ActorFault};

@@ -234,7 +234,7 @@ fn is_kept(
         refused: 0,
         found: Some(acknowledged),
     };
-    for leave in LEAVES {
+    for &leave in &LEAVES {
         let outcome = outcome_of(alloc, count, &[Stop { call, leave }], &[])?;
         if outcome != want && outcome != want.with(most) {
             return Ok(false);
@@ -284,7 +284,7 @@ fn each_call_of_a_long_fold_is_stopped_or_fails(rt: HostRuntime) -> Result<(), F
 fn a_recovery_that_is_stopped_is_taken_up_again(rt: HostRuntime) -> Result<(), Fail> {
     let alloc = rt.alloc();
     for call in 1..7 {
-        for leave in LEAVES {
+        for &leave in &LEAVES {
             let next = Stop {
                 call: call + 2,
                 leave,
@@ -308,7 +308,7 @@ fn a_recovery_of_two_halves_keeps_the_text(rt: HostRuntime) -> Result<(), Fail> 
         leave: Leave::Old,
     };
     for call in 25..32 {
-        for leave in LEAVES {
+        for &leave in &LEAVES {
             for later in 1..8 {
                 let next = Stop {
                     call: call + later,

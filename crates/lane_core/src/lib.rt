@@ -4,8 +4,6 @@
 mod actor;
 mod cores;
 mod lane;
-#[cfg(test)]
-mod tests;
 
 pub use actor::{Lane, new_lane};
 pub use lane::LaneCore;

@@ -9,8 +9,6 @@ mod judge;
 mod place;
 mod placing;
 mod table;
-#[cfg(test)]
-mod tests;
 mod told;
 
 pub use judge::HistoryJudge;

@@ -4,13 +4,9 @@
 
 mod answer;
 mod checking;
-#[cfg(test)]
-mod hearing_tests;
 mod rbc;
 mod root_state;
 mod roots;
-#[cfg(test)]
-mod tests;
 
 pub use answer::Check;
 pub use checking::{check, tree_over, value_through};

@@ -177,7 +177,7 @@ fn script(alloc: Global, text: &str) -> Result<Script, Fail> {
 #[test]
 fn numbers_of_a_scenario(rt: HostRuntime) -> Result<(), Fail> {
     let usual = r#"{"nodes":1,"faulty":0,"epochs":1}"#;
-    for (text, numbers, seed, order) in [
+    for &(text, numbers, seed, order) in &[
         (FULL, [4, 1, 2, 3, 5, 2, 4], 6, Order::Mixed),
         (usual, [1, 0, 1, 32, 64, 1, 0], 0, Order::Fifo),
     ] {
@@ -314,7 +314,7 @@ fn shapes_of_posts(rt: HostRuntime) -> Result<(), Fail> {
             shape: Shape::Twice
         },
     ]?;
-    for (from, to, k, wanted) in [
+    for &(from, to, k, wanted) in &[
         (0, 0, 4, Shape::Once),
         (0, 1, 1, Shape::Late),
         (0, 1, 4, Shape::Late),
@@ -373,7 +373,7 @@ fn long_texts(rt: HostRuntime) -> Result<(), Fail> {
 fn longest_texts(rt: HostRuntime) -> Result<(), Fail> {
     let alloc = rt.alloc();
     let least = r#"{"nodes":1,"faulty":0,"epochs":1}"#;
-    for (head, count, line) in [
+    for &(head, count, line) in &[
         (least, 1_048_543, "fine"),
         (least, 1_048_544, "refused 1 TooLong"),
         ("", 1_048_576, "refused 2 NotJson"),
@@ -388,7 +388,7 @@ fn longest_texts(rt: HostRuntime) -> Result<(), Fail> {
 #[test]
 fn deep_texts(rt: HostRuntime) -> Result<(), Fail> {
     let alloc = rt.alloc();
-    for (depth, line) in [
+    for &(depth, line) in &[
         (127, "refused 3 WrongKind top 0 -"),
         (128, "refused 2 NotJson"),
     ] {
@@ -425,7 +425,7 @@ fn texts_that_are_cut_off(rt: HostRuntime) -> Result<(), Fail> {
 fn lines_of_long_words(rt: HostRuntime) -> Result<(), Fail> {
     let alloc = rt.alloc();
     let words = "refused 14 BadWord top 0 order word=";
-    for (count, failing, shown, end) in [
+    for &(count, failing, shown, end) in &[
         (256, 2, 256, "\n"),
         (256, 1, 0, ""),
         (600, 6, 600, "\n"),

@@ -13,8 +13,6 @@ mod player;
 mod queue;
 mod run;
 mod sending;
-#[cfg(test)]
-mod tests;
 
 pub use coming::{comes_found, comes_to, reaches_node};
 pub use ends::end_of;

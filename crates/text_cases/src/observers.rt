@@ -80,7 +80,7 @@ const HEARD: [(&str, &str, u32); 16] = [
 
 #[test]
 fn counted(rt: HostRuntime) -> Result<(), Fail> {
-    for (history, wanted, epochs) in HEARD {
+    for &(history, wanted, epochs) in &HEARD {
         let report = run_of(rt.alloc(), history, &[])?;
         let mut observer = Observer::new(rt.alloc(), &report.config)?;
         let mut answers = Vec::new(rt.alloc());
@@ -134,7 +134,7 @@ const SPELLED: [(&[u8], Heard); 9] = [
 #[test]
 fn spelled(rt: HostRuntime) -> Result<(), Fail> {
     let config = Config::new(4, 1, 2, 8, 16, 7, 1, NodeSet::new()).ok_or("no config")?;
-    for (bytes, wanted) in SPELLED {
+    for &(bytes, wanted) in &SPELLED {
         let mut observer = Observer::new(rt.alloc(), &config)?;
         let heard = observer.hear(&post_of(rt.alloc(), bytes)?)?;
         assert!(rt; heard == wanted, "the bytes {bytes:?}");
@@ -215,7 +215,7 @@ const AGREEING: [(bool, &str, &[(Option<u8>, Option<u8>, u32, u32)]); 18] = [
 
 #[test]
 fn agreeing(rt: HostRuntime) -> Result<(), Fail> {
-    for (wanted, history, drops) in AGREEING {
+    for &(wanted, history, drops) in &AGREEING {
         let report = run_of(rt.alloc(), history, drops)?;
         assert_eq!(rt;
             observers_agree(rt.alloc(), &report)?,

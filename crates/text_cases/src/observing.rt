@@ -79,7 +79,7 @@ fn text_of(alloc: Global, observers: [&str; 4]) -> Result<String, Fail> {
 
 #[test]
 fn observed(rt: HostRuntime) -> Result<(), Fail> {
-    for (history, drops, observers) in OBSERVED {
+    for &(history, drops, observers) in &OBSERVED {
         let report = run_of(rt.alloc(), history, drops)?;
         let mut out = MemorySink::new(rt.alloc(), Vec::new(rt.alloc()));
         let done = print_observe(rt.alloc(), &report, &mut out);
@@ -93,7 +93,7 @@ fn observed(rt: HostRuntime) -> Result<(), Fail> {
 // Where a put fails, the lines before it have been written.
 #[test]
 fn puts_fail(rt: HostRuntime) -> Result<(), Fail> {
-    for (history, drops, observers) in OBSERVED {
+    for &(history, drops, observers) in &OBSERVED {
         let report = run_of(rt.alloc(), history, drops)?;
         let text = text_of(rt.alloc(), observers)?;
         for call in 1..80u32 {

@@ -362,7 +362,7 @@ end 4
 
 #[test]
 fn runs(rt: HostRuntime) -> Result<(), Fail> {
-    for (told, text) in RUNS {
+    for &(told, text) in &RUNS {
         let report = report_of(rt.alloc(), told)?;
         let mut out = MemorySink::new(rt.alloc(), Vec::new(rt.alloc()));
         assert!(rt; print_run(&report, &mut out).is_ok());
@@ -378,7 +378,7 @@ fn runs(rt: HostRuntime) -> Result<(), Fail> {
 // Where a put fails, the lines before it have been written.
 #[test]
 fn puts_that_fail(rt: HostRuntime) -> Result<(), Fail> {
-    for (told, text) in RUNS {
+    for &(told, text) in &RUNS {
         let report = report_of(rt.alloc(), told)?;
         for call in 1..60u32 {
             let mut out = MemorySink::new(rt.alloc(), failing(rt.alloc(), call)?);

@@ -88,7 +88,7 @@ fn told(history: &'static str, status: u8) -> Told {
 
 #[test]
 fn soaks(rt: HostRuntime) -> Result<(), Fail> {
-    for (history, status, text) in SOAKS {
+    for &(history, status, text) in &SOAKS {
         let report = report_of(rt.alloc(), told(history, status))?;
         let mut out = MemorySink::new(rt.alloc(), Vec::new(rt.alloc()));
         assert!(rt; print_soak(u64::MAX, &report, &mut out).is_ok());
@@ -100,7 +100,7 @@ fn soaks(rt: HostRuntime) -> Result<(), Fail> {
 // Where a put fails, the lines before it have been written.
 #[test]
 fn puts_that_fail(rt: HostRuntime) -> Result<(), Fail> {
-    for (history, status, text) in SOAKS {
+    for &(history, status, text) in &SOAKS {
         let report = report_of(rt.alloc(), told(history, status))?;
         for call in 1..6u32 {
             let mut out = MemorySink::new(rt.alloc(), failing(rt.alloc(), call)?);

@@ -171,44 +171,90 @@ fn first_lines(rt: HostRuntime) -> Result<(), Fail> {
     Ok(())
 }
 
-// A line of a post between two others: the second of three posts, which is the third line.
+// The text of three posts with this line in the place of one of them.
+fn with_line(alloc: Global, place: u32, line: &str) -> Result<String, AllocError> {
+    let mut text = String::from_str(alloc, NUMBERS)?;
+    for number in 0..3 {
+        if number == place {
+            text.push_str(line)?;
+        } else {
+            let other = format!(in alloc; "post {number} from 0 actor 1 to book -\n")?;
+            text.push_str(other.as_str())?;
+        }
+    }
+    text.push_str("end 3\n")?;
+    Ok(text)
+}
+
+// What stands behind the number of a post, the first, the second or the third.
 #[test]
 fn lines_of_posts(rt: HostRuntime) -> Result<(), Fail> {
-    for (line, wanted) in [
-        ("post 1 from 0 actor 1 to home 1100\n", None),
-        ("post 1 from 255 actor 255 to node 255 -\n", None),
-        ("", Some(3)),
-        ("\n", Some(3)),
-        ("post 0 from 0 actor 1 to home 1100\n", Some(3)),
-        ("post 2 from 0 actor 1 to home 1100\n", Some(3)),
-        ("post 01 from 0 actor 1 to home 1100\n", Some(3)),
-        ("post 1 from 00 actor 1 to home 1100\n", Some(3)),
-        ("post 1 from -1 actor 1 to home 1100\n", Some(3)),
-        ("post 1 from 256 actor 1 to home 1100\n", Some(3)),
-        ("post 1 from 0 actor 256 to home 1100\n", Some(3)),
-        (
-            "post 1 from 0 actor 18446744073709551617 to home 1100\n",
-            Some(3),
-        ),
-        ("post 1 from 0 actor 1 to node 256 1100\n", Some(3)),
-        ("post 1 from 0 actor 1 to node 07 1100\n", Some(3)),
-        ("post 1 from 0 actor 1 to node 1100\n", Some(3)),
-        ("post 1 from 0 actor 1 to desk 1100\n", Some(3)),
-        ("post 1 from 0 actor 1 to home  1100\n", Some(3)),
-        ("post 1 from 0 actor 1 to home 1100 \n", Some(3)),
-        ("post 1 from 0 actor 1 to home 110\n", Some(3)),
-        ("post 1 from 0 actor 1 to home 1A\n", Some(3)),
-        ("post 1 from 0 actor 1 to home 1g\n", Some(3)),
-        ("post 1 from 0 actor 1 to home \n", Some(3)),
-        ("post 1 from 0 actor 1 to home --\n", Some(3)),
-        ("post 1 from 0 actor 1 to home 1100", Some(3)),
-        ("post 1 from 0 actor 1 to home 1100\r\n", Some(3)),
-        ("end 1\n", Some(4)),
+    for (rest, is_read) in [
+        ("from 0 actor 1 to home 1100\n", true),
+        ("from 255 actor 255 to node 255 -\n", true),
+        ("from 00 actor 1 to home 1100\n", false),
+        ("from -1 actor 1 to home 1100\n", false),
+        ("from 256 actor 1 to home 1100\n", false),
+        ("from 0 actor 256 to home 1100\n", false),
+        ("from 0 actor 18446744073709551617 to home 1100\n", false),
+        ("from 0 actor 1 to node 256 1100\n", false),
+        ("from 0 actor 1 to node 07 1100\n", false),
+        ("from 0 actor 1 to node 1100\n", false),
+        ("from 0 actor 1 to desk 1100\n", false),
+        ("from 0 actor 1 to home  1100\n", false),
+        ("from 0 actor 1 to home 1100 \n", false),
+        ("from 0 actor 1 to home 110\n", false),
+        ("from 0 actor 1 to home 1A\n", false),
+        ("from 0 actor 1 to home 1g\n", false),
+        ("from 0 actor 1 to home \n", false),
+        ("from 0 actor 1 to home --\n", false),
+        ("from 0 actor 1 to home 1100", false),
+        ("from 0 actor 1 to home 1100\r\n", false),
     ] {
-        let text = format!(in rt.alloc();
-            "{NUMBERS}post 0 from 0 actor 1 to home 1100\n{line}post 2 from 0 actor 1 to book -\nend 3\n"
-        )?;
-        assert_eq!(rt; broken_line(rt.alloc(), text.as_str())?, wanted, "{line}");
+        for place in 0..3 {
+            let line = format!(in rt.alloc(); "post {place} {rest}")?;
+            let text = with_line(rt.alloc(), place, line.as_str())?;
+            let wanted = if is_read { None } else { Some(place + 2) };
+            assert_eq!(rt; broken_line(rt.alloc(), text.as_str())?, wanted, "{line}");
+        }
+    }
+    Ok(())
+}
+
+fn check_broken(
+    rt: &impl Abort,
+    alloc: Global,
+    place: u32,
+    line: &str,
+    broken: u32,
+) -> Result<(), Fail> {
+    let text = with_line(alloc, place, line)?;
+    assert_eq!(rt;
+        broken_line(alloc, text.as_str())?,
+        Some(broken),
+        "{line} for post {place}"
+    );
+    Ok(())
+}
+
+// A line that is missing or empty, or has the number of another post or one that is spelled otherwise; and one that ends the text
+// too soon, where the line behind it is the broken one.
+#[test]
+fn numbers_of_posts(rt: HostRuntime) -> Result<(), Fail> {
+    let alloc = rt.alloc();
+    for place in 0..3u32 {
+        let line = place + 2;
+        check_broken(&rt, alloc, place, "", line)?;
+        check_broken(&rt, alloc, place, "\n", line)?;
+        for number in ["0", "1", "2", "3", "00", "01", "02"] {
+            let own = format!(in alloc; "{place}")?;
+            if number != own.as_str() {
+                let wrong = format!(in alloc; "post {number} from 0 actor 1 to home 1100\n")?;
+                check_broken(&rt, alloc, place, wrong.as_str(), line)?;
+            }
+        }
+        let end = format!(in alloc; "end {place}\n")?;
+        check_broken(&rt, alloc, place, end.as_str(), line + 1)?;
     }
     Ok(())
 }

@@ -129,7 +129,7 @@ fn is_bounded(alloc: Global, kind: u8, n: u8, large: bool) -> Result<bool, Fail>
 
 #[test]
 fn bounds(rt: HostRuntime) -> Result<(), Fail> {
-    for kind in KINDS {
+    for &kind in &KINDS {
         for n in [1, 4, 16] {
             assert!(rt; is_bounded(rt.alloc(), kind, n, false)?);
             assert!(rt; is_bounded(rt.alloc(), kind, n, true)?);

@@ -85,7 +85,15 @@ fn count_posts(report: &Report) -> (u64, u64) {
 #[test]
 fn boxes_are_asked_and_dropped(rt: HostRuntime) -> Result<(), Fail> {
     let alloc = rt.alloc();
-    for hears in [0u32, 1, 3, 100] {
+    for (hears, workers) in [
+        (0u32, 4),
+        (1, 1),
+        (1, 4),
+        (3, 1),
+        (3, 4),
+        (100, 1),
+        (100, 4),
+    ] {
         let counts = Counts {
             asked: Arc::new(alloc, AtomicU64::new(0))?,
             dropped: Arc::new(alloc, AtomicU64::new(0))?,
@@ -93,7 +101,7 @@ fn boxes_are_asked_and_dropped(rt: HostRuntime) -> Result<(), Fail> {
         let keys = format!(in alloc;
             ",\"liars\":[{{\"node\":3,\"name\":\"counting\",\"hears\":{hears}}}]"
         )?;
-        let scenario = with_workers(alloc, FOUR, keys.as_str(), 4)?;
+        let scenario = with_workers(alloc, FOUR, keys.as_str(), workers)?;
         let cast = liars(alloc, &counts, 3)?;
         let answer = run_with(&rt, alloc, scenario.as_str(), cast, &OpenGate)?;
         check_any(&rt, alloc, &answer, &[0], keys.as_str())?;

@@ -44,7 +44,7 @@ fn stops_of_a_desk(rt: HostRuntime) -> Result<(), Fail> {
 #[test]
 fn faults_of_a_lane(rt: HostRuntime) -> Result<(), Fail> {
     let alloc = rt.alloc();
-    for call in 1..21u32 {
+    for call in 1..61u32 {
         let keys = format!(in alloc; ",\"faults\":[{{\"node\":1,\"actor\":1,\"call\":{call}}}]")?;
         let line = if call > 10 {
             "node 1 "

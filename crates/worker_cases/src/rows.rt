@@ -80,7 +80,7 @@ end 0
 #[test]
 fn one_node(rt: HostRuntime) -> Result<(), Fail> {
     let alloc = rt.alloc();
-    for (scenario, text, status) in ALONE {
+    for &(scenario, text, status) in &ALONE {
         for workers in [1, 4] {
             let scenario = with_workers(alloc, scenario, "", workers)?;
             let answer = run(&rt, alloc, scenario.as_str())?;
@@ -91,10 +91,8 @@ fn one_node(rt: HostRuntime) -> Result<(), Fail> {
     Ok(())
 }
 
-// Fourteen epochs, in which the journals of the node fold, and each batch is empty.
-#[test]
-fn one_node_for_long(rt: HostRuntime) -> Result<(), Fail> {
-    let alloc = rt.alloc();
+// Fourteen epochs, in which the journals of the node fold, and each batch is empty, with these keys besides.
+fn check_long(rt: &impl Host, alloc: Global, keys: &str) -> Result<(), Fail> {
     let front = "run nodes 1 faulty 0 version 1 epochs 14\nnode 0 running\n";
     let mut text = String::from_str(alloc, front)?;
     for epoch in 0..14u32 {
@@ -104,10 +102,41 @@ fn one_node_for_long(rt: HostRuntime) -> Result<(), Fail> {
     text.push_str("end 0\n")?;
     let node = r#"{"nodes":1,"faulty":0,"epochs":14,"rounds":12,"seed":58"#;
     for workers in [1, 4] {
-        let scenario = with_workers(alloc, node, "", workers)?;
-        let answer = run(&rt, alloc, scenario.as_str())?;
-        check_text(&rt, &answer, 0, text.as_str(), scenario.as_str());
-        check_any(&rt, alloc, &answer, &[0], scenario.as_str())?;
+        let scenario = with_workers(alloc, node, keys, workers)?;
+        let answer = run(rt, alloc, scenario.as_str())?;
+        check_text(rt, &answer, 0, text.as_str(), scenario.as_str());
+        check_any(rt, alloc, &answer, &[0], scenario.as_str())?;
+    }
+    Ok(())
+}
+
+#[test]
+fn one_node_for_long(rt: HostRuntime) -> Result<(), Fail> {
+    check_long(&rt, rt.alloc(), "")
+}
+
+// The node stops at a call, and once more at the third call of the restart, and begins again.
+fn check_stops(rt: &impl Host, alloc: Global, actor: u8, call: u32) -> Result<(), Fail> {
+    let again = call.saturating_add(3);
+    for leave in ["old", "new", "torn"] {
+        let keys = format!(in alloc;
+            ",\"stops\":[{{\"node\":0,\"actor\":{actor},\"call\":{call},\"leave\":\"{leave}\"}},
+{{\"node\":0,\"actor\":{actor},\"call\":{again},\"leave\":\"{leave}\"}}]"
+        )?;
+        check_long(rt, alloc, keys.as_str())?;
+    }
+    Ok(())
+}
+
+// One node alone casts the same votes in every schedule: at the first calls of each disk, and at those of the first fold of the lane's.
+#[test]
+fn one_node_that_stops(rt: HostRuntime) -> Result<(), Fail> {
+    for call in 1..41u32 {
+        check_stops(&rt, rt.alloc(), 0, call)?;
+        check_stops(&rt, rt.alloc(), 1, call)?;
+    }
+    for call in 260..275u32 {
+        check_stops(&rt, rt.alloc(), 0, call)?;
     }
     Ok(())
 }
@@ -137,7 +166,7 @@ fn check_kind(rt: &impl Host, alloc: Global, node: u8, name: &str) -> Result<(),
 
 #[test]
 fn six_kinds(rt: HostRuntime) -> Result<(), Fail> {
-    for name in KINDS {
+    for &name in &KINDS {
         check_kind(&rt, rt.alloc(), 3, name)?;
         check_kind(&rt, rt.alloc(), 0, name)?;
     }
@@ -245,7 +274,7 @@ pub(crate) fn has_lines(text: &[u8], lines: &str) -> bool {
 #[test]
 fn rows_of_one_thread(rt: HostRuntime) -> Result<(), Fail> {
     let alloc = rt.alloc();
-    for (scenario, keys, statuses, lines) in ROWS {
+    for &(scenario, keys, statuses, lines) in &ROWS {
         for workers in [1, 4] {
             let scenario = with_workers(alloc, scenario, keys, workers)?;
             let answer = run(&rt, alloc, scenario.as_str())?;

@@ -1,6 +1,0 @@
-use Rattle.std.proofs.Common.{◌≡◌}
-use Rattle.acs_core.specs.Subset.{node_epoch_of}
-use Rattle.acs_core.proofs.tests.outcomes.Given as goal
-
-abbrev pub invariant-loop-letter : goal.invariant-loop-letter
-invariant-loop-letter l = (node_epoch_of l.acs).config.n ≡ l.n

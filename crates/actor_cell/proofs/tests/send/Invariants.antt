@@ -1,5 +1,0 @@
-use Rattle.actor_cell.specs.Passes.{ArePassesOf}
-use Rattle.actor_cell.proofs.tests.send.Given as goal
-
-abbrev pub invariant-loop-i : goal.invariant-loop-i
-invariant-loop-i g l = ArePassesOf l.boxes l.passes

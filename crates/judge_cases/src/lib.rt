@@ -1,0 +1,23 @@
+//! Histories made by hand and by a separate program: whom they accuse, the texts of that, and what those say of them that judge votes
+//! and posts.
+//!
+//! `callers` is as any user might write it, and what is proved of it stands on the contract of accuse alone.
+#![tactic(auto)]
+
+#[cfg(test)]
+mod agreements;
+#[cfg(test)]
+mod broadcasts;
+mod callers;
+#[cfg(test)]
+mod histories;
+#[cfg(test)]
+mod near_misses;
+#[cfg(test)]
+mod posts;
+#[cfg(test)]
+mod texts;
+#[cfg(test)]
+mod two_nodes;
+
+pub use callers::count_accused;

@@ -1,0 +1,32 @@
+//! Broadcasts, binary agreements and lanes in small runs: the roots of broadcasts and the votes of agreements and lanes were worked out
+//! by programs in Python that go by the definitions, the votes of broadcasts by the numbers of the rules; and histories of which it was
+//! worked out by hand whether their agreements agree.
+//!
+//! `callers` is as any user might write it, and what is proved of it stands on the contracts of aba_core alone.
+#![tactic(auto)]
+
+#[cfg(test)]
+mod again;
+#[cfg(test)]
+mod alone;
+#[cfg(test)]
+mod broadcast_orders;
+#[cfg(test)]
+mod broadcasts;
+mod callers;
+#[cfg(test)]
+mod calls;
+#[cfg(test)]
+mod histories;
+#[cfg(test)]
+mod lanes;
+#[cfg(test)]
+mod node;
+#[cfg(test)]
+mod splits;
+#[cfg(test)]
+mod text;
+#[cfg(test)]
+mod world;
+
+pub use callers::{begin, first_decision, hear, is_heard};
