@@ -6,11 +6,12 @@ ghost use Rattle.hb_rules.specs.History.{HasSpelling};
 ghost use Rattle.hb_rules.specs.Terms.{AreHeardSpelled};
 ghost use Rattle.agreement_judge.specs.Checked.{is_share_checked, AreSharesChecked};
 
+use crate::votes::vote_of;
 use agreement_judge::{Place, may_agree};
 use coin_deal::{Deal, deal, leaf_of};
 use hb_base::{Config, NodeSet};
 use hb_rules::Heard;
-use hb_wire::{Vals, Vote, read};
+use hb_wire::{Vals, Vote};
 use merkle_branch::is_branch;
 use std::alloc::Global;
 use std::process::Abort;
@@ -61,16 +62,6 @@ const ROWS: [Row; 24] = [
 fn one_node(version: u8, rounds: u8) -> Result<Config, Fail> {
     let config = Config::new(1, 0, 1, rounds, 1, 5, version, NodeSet::new()).ok_or("no config")?;
     Ok(config)
-}
-
-// A vote of these bytes.
-fn vote_of(alloc: Global, config: &Config, bytes: &[u8]) -> Result<Vote, Fail>
-    ensures { IfOk result (λ vote. HasSpelling config.now vote) }
-{
-    match read(alloc, config.n(), config.version(), bytes) {
-        Ok(vote) => Ok(vote),
-        Err(_) => Err("no vote".into()),
-    }
 }
 
 // The kind of a vote, as its bytes begin with it.

@@ -6,10 +6,11 @@ ghost use Rattle.hb_rules.specs.History.{HasSpelling};
 ghost use Rattle.hb_rules.specs.Terms.{AreHeardSpelled};
 ghost use Rattle.broadcast_judge.specs.Checked.{is_checked, AreChecked};
 
+use crate::votes::vote_of;
 use broadcast_judge::{Known, Lane, may_broadcast};
 use hb_base::{Bytes, Config, NodeSet};
 use hb_rules::Heard;
-use hb_wire::{Vote, read};
+use hb_wire::Vote;
 use merkle_branch::is_branch;
 use rbc_core::tree_over;
 use std::alloc::Global;
@@ -51,16 +52,6 @@ const ROWS: [Row; 17] = [
 fn one_node() -> Result<Config, Fail> {
     let config = Config::new(1, 0, 2, 1, 1, 5, 1, NodeSet::new()).ok_or("no config")?;
     Ok(config)
-}
-
-// A vote of these bytes.
-fn vote_of(alloc: Global, config: &Config, bytes: &[u8]) -> Result<Vote, Fail>
-    ensures { IfOk result (λ vote. HasSpelling config.now vote) }
-{
-    match read(alloc, config.n(), config.version(), bytes) {
-        Ok(vote) => Ok(vote),
-        Err(_) => Err("no vote".into()),
-    }
 }
 
 // The frame of a value of two letters: the one shard of it.

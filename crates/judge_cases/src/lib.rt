@@ -19,5 +19,7 @@ mod posts;
 mod texts;
 #[cfg(test)]
 mod two_nodes;
+#[cfg(test)]
+mod votes;
 
 pub use callers::count_accused;

@@ -2,7 +2,7 @@
 use Rattle.std.proofs.Common.{◌≡◌, ℕ, zero, suc, ◌+◌, ◌<◌, ◌≤◌, Bool, true, false, List, [], ◌∷◌, ◌++◌, length, map, drop, cond, if◌then◌else◌, refl, sym, ap, ◌∙◌, subst, arith, length-append, append_assoc}
 use Rattle.std.specs.Prelude.{All}
 use Rattle.std.specs.List.{range_with_len}
-use Rattle.std.proofs.lemmas.List.{length_push, map_push}
+use Rattle.std.proofs.lemmas.List.{length-map, length_push, map_push}
 use Rattle.std.proofs.lemmas.List.Elements.{All-head, All-tail, All-push, All-weaker}
 use Rattle.std.proofs.lemmas.List.FromFn.{length-map-range_with_len, map-range_with_len_more}
 use Rattle.atomic_table.specs.Seated.{TableId}
@@ -19,7 +19,9 @@ use Rattle.ledger_run.specs.Team.{correct_name, lying_name, names_at, names_belo
 use Rattle.ledger_run.proofs.Steps.{below_more}
 use Rattle.run_closing.specs.Returning.{number_of}
 use Rattle.run_openings.specs.declared.opening.Opening.{Opening}
-use Rattle.run_openings.specs.Opening.{IsOpening}
+use Rattle.run_openings.specs.declared.opening.NodeOpening.{NodeOpening}
+use Rattle.run_openings.specs.declared.opening.NodeOpening.TheVariants.{Correct, Lying}
+use Rattle.run_openings.specs.Opening.{IsOpening, opening_name, opening_names, places_of}
 use Rattle.run_openings.specs.Seating.{AreMade}
 
 -- one more in a list
@@ -38,9 +40,6 @@ count_at c i = by (is_in c.liars i)
     by : (lies : Bool) → length (if lies then lying_name i ∷ [] else map (correct_name i) (range_with_len 0 (c.n + 1))) ≡ cond lies 1 (c.n + 1)
     by true = refl
     by false = length-map-range_with_len (correct_name i) 0 (c.n + 1)
-
-pub count_honest : (c : Numbers) (i x : ℕ) → is_in c.liars i ≡ false → x ≡ c.n + 1 → x ≡ length (names_at c i)
-count_honest c i x honest is = is ∙ sym (ap (λ (lies : Bool). cond lies 1 (c.n + 1)) honest) ∙ sym (count_at c i)
 
 as_many : (c : Numbers) (i : ℕ) → length (names_below c i) ≡ length (owners_below c i)
 as_many c zero = refl
@@ -75,6 +74,53 @@ liar_place c i x lies = rw lies (omega (arith, as_many c i))
 -- and within the mailboxes
 pub liar_within : (c : Numbers) (i : ℕ) → is_in c.liars i ≡ true → i < c.n → length (names_below c i) < length (owners c)
 liar_within c i lies known = omega (arith, liar_place c i 0 lies, place_within c i 0 known (omega arith))
+
+-- ---- whose places the openings are
+
+pub named : (lies : Bool) (i x : ℕ) (o : Opening SharedView) → (o.node ≡ i) × (o.actor ≡ x)
+    → opening_name lies o ≡ record { node = i; actor = x; lies = lies }
+named lies i x o who = ap (λ (a : ℕ). with a o.actor) who.0 ∙ ap (λ (b : ℕ). with i b) who.1
+  where
+    with : ℕ → ℕ → Name
+    with a b = record { node = a; actor = b; lies = lies }
+
+pub names_honest : (c : Numbers) (i x : ℕ) → is_in c.liars i ≡ false → x ≡ c.n + 1 → map (correct_name i) (range_with_len 0 x) ≡ names_at c i
+names_honest c i x honest all = ap (λ (k : ℕ). map (correct_name i) (range_with_len 0 k)) all ∙ sym at
+  where
+    at : names_at c i ≡ map (correct_name i) (range_with_len 0 (c.n + 1))
+    at = rw honest refl
+
+pub names_lying : (c : Numbers) (i : ℕ) → is_in c.liars i ≡ true → lying_name i ∷ [] ≡ names_at c i
+names_lying c i lies = sym at
+  where
+    at : names_at c i ≡ lying_name i ∷ []
+    at = rw lies refl
+
+-- one more of a list that is made of a range
+mapped_more : {X Y : Type 0} (f : X → Y) (g : ℕ → Y) (k : ℕ) (xs ys : List X) (x : X) → ys ≡ xs ++ x ∷ [] → f x ≡ g k
+    → map f xs ≡ map g (range_with_len 0 k) → map f ys ≡ map g (range_with_len 0 (k + 1))
+mapped_more {Y = Y} f g k xs ys x more here before =
+    let none : 0 + k ≡ k = omega arith in
+    ap (map f) more ∙ map_push f xs x ∙ ap (λ (l : List Y). l ++ f x ∷ []) before
+    ∙ ap (λ (y : Y). map g (range_with_len 0 k) ++ y ∷ []) here ∙ sym (map-range_with_len_more g 0 k k none)
+
+pub names_pushed : (i x : ℕ) (openings more : List (Opening SharedView)) (o : Opening SharedView) → more ≡ openings ++ o ∷ []
+    → (o.node ≡ i) × (o.actor ≡ x) → map (opening_name false) openings ≡ map (correct_name i) (range_with_len 0 x)
+    → map (opening_name false) more ≡ map (correct_name i) (range_with_len 0 (x + 1))
+names_pushed i x openings more o is who = mapped_more (opening_name false) (correct_name i) x openings more o is (named false i x o who)
+
+pub all_names_pushed : (c : Numbers) (i : ℕ) (openings more : List (NodeOpening SharedView)) (o : NodeOpening SharedView) → more ≡ openings ++ o ∷ []
+    → opening_names o ≡ names_at c i → map opening_names openings ≡ map (names_at c) (range_with_len 0 i)
+    → map opening_names more ≡ map (names_at c) (range_with_len 0 (i + 1))
+all_names_pushed c i openings more o is who = mapped_more opening_names (names_at c) i openings more o is who
+
+-- so there are as many as the node has places
+pub places_named : (c : Numbers) (i : ℕ) (o : NodeOpening SharedView) → opening_names o ≡ names_at c i → places_of o ≡ length (names_at c i)
+places_named c i o are = each o ∙ ap length are
+  where
+    each : (o : NodeOpening SharedView) → places_of o ≡ length (opening_names o)
+    each (Correct openings) = sym (length-map openings.items (opening_name false))
+    each (Lying opening) = refl
 
 -- ---- the seats made so far
 

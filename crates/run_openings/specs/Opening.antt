@@ -1,10 +1,11 @@
 -- What the places of a run begin with. The letters: a run of config c.
-use Rattle.std.specs.Prelude.{◌≡◌, ℕ, ◌<◌, ◌≤◌, true, false, length, All}
+use Rattle.std.specs.Prelude.{◌≡◌, ℕ, ◌<◌, ◌≤◌, Bool, true, false, List, [], ◌∷◌, length, map, All}
 use Rattle.hb_base.specs.Numbers.{Numbers}
 use Rattle.hb_base.specs.NodeSet.{is_in}
 use Rattle.hb_rules.specs.Book.{SeatView}
 use Rattle.actor_cell.specs.Boxes.{BoxesView, place_of}
 use Rattle.actor_cell.specs.Passes.{ArePassesOf}
+use Rattle.step_driver.specs.Places.{Name}
 use Rattle.ledger_run.specs.Actors.{new_seat}
 use Rattle.run_openings.specs.declared.opening.Opening.{Opening}
 use Rattle.run_openings.specs.declared.opening.NodeOpening.{NodeOpening}
@@ -34,6 +35,15 @@ pub record IsLiarOpening {S : Type 0} (knows : S → Type 0) (at : S → SeatVie
 abbrev pub IsNodeOpening : {S : Type 0} → (S → Type 0) → (S → SeatView) → BoxesView → Numbers → NodeOpening S → Type 0
 IsNodeOpening knows at boxes c (Correct openings) = All (IsActorOpening knows at boxes c) openings.items
 IsNodeOpening knows at boxes c (Lying opening) = IsLiarOpening knows at boxes c opening
+
+-- whose place an opening is, of a node that lies or of one that does not
+abbrev pub opening_name : {S : Type 0} → Bool → Opening S → Name
+opening_name lies o = record { node = o.node; actor = o.actor; lies = lies }
+
+-- whose places a node begins with, in their order
+abbrev pub opening_names : {S : Type 0} → NodeOpening S → List Name
+opening_names (Correct openings) = map (opening_name false) openings.items
+opening_names (Lying opening) = opening_name true opening ∷ []
 
 -- how many seats a node begins with
 abbrev pub places_of : {S : Type 0} → NodeOpening S → ℕ

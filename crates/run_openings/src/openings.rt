@@ -1,5 +1,6 @@
 //! The seats and passes of a run, by node.
 ghost use Rattle.std.specs.Prelude.{◌≡◌, ◌≤◌, ◌+◌, ◌<◌, [], ◌∷◌, ◌++◌, map, length, All, Contains, IfOk, OnOk, true, false, sum_by};
+ghost use Rattle.std.specs.List.{range_with_len};
 ghost use Rattle.hb_base.specs.NodeSet.{is_in};
 ghost use Rattle.actor_cell.specs.Boxes.{owners};
 ghost use Rattle.actor_cell.specs.Passes.{AreDealt, ArePassesOf};
@@ -8,7 +9,7 @@ ghost use Rattle.post_book.specs.SharedSeats.{SharedView};
 ghost use Rattle.ledger_run.specs.Actors.{new_seat};
 ghost use Rattle.ledger_run.specs.Team.{names_below, names_at};
 ghost use Rattle.run_closing.specs.Returning.{number_of};
-ghost use Rattle.run_openings.specs.Opening.{IsNodeOpening, IsActorOpening, IsLiarOpening, places_of};
+ghost use Rattle.run_openings.specs.Opening.{IsNodeOpening, IsActorOpening, IsLiarOpening, opening_name, opening_names, places_of};
 ghost use Rattle.run_openings.specs.Seating.{AreMade};
 
 use crate::opening::{NodeOpening, Opening};
@@ -31,6 +32,7 @@ pub fn openings_of<K: Naming>(
     requires passes { AreDealt boxes.now.names passes.items × All (ArePassesOf boxes.now) passes.items }
     ensures first { OnOk result (first.new ≡ record first.old { given = map number_of (names_below K.config K.config.n) }) }
     ensures openings { IfOk result (λ all. All (IsNodeOpening (λ (seat : SharedView). seat.book ≡ book.now) (λ (seat : SharedView). seat.seat) boxes.now K.config) all.items) }
+    ensures names { IfOk result (λ all. map opening_names all.items ≡ map (names_at K.config) (range_with_len 0 K.config.n)) }
     ensures all { IfOk result (λ all. sum_by places_of all.items ≡ length (names_below K.config K.config.n)) }
 {
     let mut passes = passes;
@@ -56,7 +58,7 @@ fn opening_at<K: Naming>(
     requires made { AreMade K.config boxes.now book.now (names_below K.config node) node 0 first.old passes.old.items }
     ensures made { OnOk result (AreMade K.config boxes.now book.now (names_below K.config (node + 1)) (node + 1) 0 first.new passes.new.items) }
     ensures opening { IfOk result (IsNodeOpening (λ (seat : SharedView). seat.book ≡ book.now) (λ (seat : SharedView). seat.seat) boxes.now K.config) }
-    ensures count { IfOk result (λ opening. places_of opening ≡ length (names_at K.config node)) }
+    ensures names { IfOk result (λ opening. opening_names opening ≡ names_at K.config node) }
 {
     if boxes.config().liars().has(node) {
         return Ok(NodeOpening::Lying(seat_next(book, first, boxes, passes, node, 255)));
@@ -80,7 +82,7 @@ fn actors_at<K: Naming>(
     requires made { AreMade K.config boxes.now book.now (names_below K.config node) node 0 first.old passes.old.items }
     ensures made { OnOk result (AreMade K.config boxes.now book.now (names_below K.config (node + 1)) (node + 1) 0 first.new passes.new.items) }
     ensures openings { IfOk result (λ all. All (IsActorOpening (λ (seat : SharedView). seat.book ≡ book.now) (λ (seat : SharedView). seat.seat) boxes.now K.config) all.items) }
-    ensures count { IfOk result (λ all. length all.items ≡ length (names_at K.config node)) }
+    ensures names { IfOk result (λ all. map (opening_name false) all.items ≡ names_at K.config node) }
 {
     let mut openings = Vec::new(alloc);
     for actor in 0..boxes.config().n() + 1 {

@@ -39,6 +39,7 @@ pub fn begin_all<'b, B: NamedBook + Drop + Copy, J: RunName, R: Wait>(
     requires deal { arc_value deal.now ≡ script.now.config }
     requires boxes { boxes.now.config ≡ script.now.config }
     requires openings { All (IsNodeOpening (B.knows book) (seat_at B.config B.node B.actor B.seen) boxes.now script.now.config) openings.items }
+    ensures each { IfOk result (λ nodes. map locks_of nodes.items ≡ map places_of openings.items) }
     ensures count { IfOk result (λ nodes. sum_by locks_of nodes.items ≡ sum_by places_of openings.items) }
 {
     let mut voices = voices;

@@ -1,6 +1,5 @@
-use Rattle.std.proofs.Common.{◌≡◌, ◌+◌, ◌≤◌, ◌∷◌, ◌++◌, List, length, map, ap, ◌∙◌, subst, arith}
+use Rattle.std.proofs.Common.{◌≡◌, ◌+◌, ◌≤◌, ◌∷◌, ◌++◌, List, map, ap, ◌∙◌, subst, arith}
 use Rattle.std.specs.List.{range_with_len}
-use Rattle.std.proofs.lemmas.List.{length_push}
 use Rattle.hb_base.specs.Numbers.{Numbers}
 use Rattle.actor_cell.specs.Passes.{PassesView}
 use Rattle.actor_cell.proofs.Places.{place_within}
@@ -8,7 +7,7 @@ use Rattle.post_book.specs.SharedSeats.{SharedView}
 use Rattle.ledger_run.specs.Team.{correct_name, names_below}
 use Rattle.run_openings.specs.Opening.{IsActorOpening}
 use Rattle.run_openings.specs.Seating.{AreMade}
-use Rattle.run_openings.proofs.Places.{all_pushed, actor_place, some_left, next_opening, actor_made, node_made, count_honest}
+use Rattle.run_openings.proofs.Places.{all_pushed, actor_place, some_left, next_opening, actor_made, node_made, names_pushed, names_honest}
 use Rattle.run_openings.proofs.openings.actors_at.Goals as goal
 
 pub seat_next-opening-requires-clause-left : goal.seat_next-opening-requires-clause-left
@@ -46,7 +45,7 @@ loop-actor-preserved g c =
       openings =
           all_pushed (IsActorOpening (λ (seat : SharedView). seat.book ≡ book) (λ (seat : SharedView). seat.seat) boxes conf) c.loop-actor.openings.items
           c.push.new.self.items opening c.in_ok-push.ensures.items c.loop-actor.invariant.openings is;
-      count = omega (arith, ap length c.in_ok-push.ensures.items, length_push c.loop-actor.openings.items opening, c.loop-actor.invariant.count);
+      names = names_pushed i x c.loop-actor.openings.items c.push.new.self.items opening c.in_ok-push.ensures.items place c.loop-actor.invariant.names;
     }
 
 pub returns-clause-made : goal.returns-clause-made
@@ -57,10 +56,10 @@ returns-clause-made g c =
     node_made conf c.args.boxes.now c.args.book.now c.args.node c.loop-actor.first c.loop-actor.actor c.loop-actor.passes.items c.requires.honest all
     (omega (arith, all, c.n-actor-end.ensures.value, c.n-actor-end.ensures.bounds.1, nodes)) c.loop-actor.invariant.made
 
-pub returns-clause-count : goal.returns-clause-count
-returns-clause-count g c =
+pub returns-clause-names : goal.returns-clause-names
+returns-clause-names g c =
     let conf = g.K.Naming.config in
     let nodes : c.config.result.n ≡ conf.n = ap (λ (k : Numbers). k.n) (c.config.ensures ∙ c.requires.config) in
-    c.loop-actor.invariant.count
-    ∙ count_honest conf c.args.node c.loop-actor.actor c.requires.honest
+    c.loop-actor.invariant.names
+    ∙ names_honest conf c.args.node c.loop-actor.actor c.requires.honest
     (omega (arith, c.loop-actor-test.false, c.loop-actor.auto.actor-end, c.n-actor-end.ensures.value, nodes))

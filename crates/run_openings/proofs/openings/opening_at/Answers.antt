@@ -1,8 +1,9 @@
-use Rattle.std.proofs.Common.{List, ◌∙◌, subst}
+use Rattle.std.proofs.Common.{List, [], ◌∷◌, true, ap, ◌∙◌, subst}
 use Rattle.actor_cell.specs.Passes.{PassesView}
+use Rattle.step_driver.specs.Places.{Name}
 use Rattle.ledger_run.specs.Team.{names_below}
 use Rattle.run_openings.specs.Seating.{AreMade}
-use Rattle.run_openings.proofs.Places.{lies_here, liar_place, liar_within, some_left, next_opening, liar_made}
+use Rattle.run_openings.proofs.Places.{lies_here, liar_place, liar_within, some_left, next_opening, liar_made, named, names_lying}
 use Rattle.run_openings.proofs.openings.opening_at.Goals as goal
 
 pub seat_next-requires-clause-left : goal.seat_next-requires-clause-left
@@ -41,3 +42,9 @@ returns-then-has-clause-opening g c =
       lies = rw c.seat_next.ensures.place.0 lies;
       actor = c.seat_next.ensures.place.1;
     }
+
+pub returns-then-has-clause-names : goal.returns-then-has-clause-names
+returns-then-has-clause-names g c =
+    let conf = g.K.Naming.config in
+    let lies = lies_here conf c.config.result c.liars.result c.args.node (c.config.ensures ∙ c.requires.config) c.liars.ensures.value c.if-has.ensures in
+    ap (λ (name : Name). name ∷ []) (named true c.args.node 255 c.seat_next.result c.seat_next.ensures.place) ∙ names_lying conf c.args.node lies

@@ -1,5 +1,6 @@
-use Rattle.std.proofs.Common.{ap, arith, sum_by}
+use Rattle.std.proofs.Common.{ℕ, List, [], ◌∷◌, ◌++◌, map, sym, ap, ◌∙◌, arith, sum_by}
 use Rattle.std.specs.Vec.Iter.{into_iter_items}
+use Rattle.std.proofs.lemmas.List.{map_push}
 use Rattle.std.proofs.lemmas.List.Sums.{sum_by_push}
 use Rattle.step_driver.specs.Places.{seat_at}
 use Rattle.node_workers.specs.Rounds.{locks_of}
@@ -19,6 +20,11 @@ loop-opening-preserved g c = record {
   split =
       gone_on c.loop-opening.yielded (into_iter_items c.loop-opening.opening-iterator) (into_iter_items c.next.new.self) c.args.openings.items c.in-Some.opening
       c.in-Some.ensures.steps.0 c.loop-opening.invariant.split;
+  each =
+      ap (map locks_of) c.in_ok-push.ensures.items ∙ map_push locks_of c.loop-opening.nodes.items c.in_ok-node.node
+      ∙ ap (λ (ks : List ℕ). ks ++ locks_of c.in_ok-node.node ∷ []) c.loop-opening.invariant.each
+      ∙ ap (λ (k : ℕ). map places_of c.loop-opening.yielded ++ k ∷ []) c.in_ok-node.ensures.count
+      ∙ sym (map_push places_of c.loop-opening.yielded c.in-Some.opening);
   count =
       omega (
         arith,
