@@ -10,8 +10,6 @@ pub mod laws;
 mod ledger_finder;
 mod lists;
 mod proposed;
-#[cfg(test)]
-mod tests;
 
 pub use batches::batches_ok;
 pub use closings::{Closing, count_of};

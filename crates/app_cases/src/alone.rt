@@ -65,7 +65,7 @@ fn fate_of(report: &Report, actor: u8) -> Option<Fate> {
 
 // Checks that the disk of an actor is called so often, by a fault at the last call and one behind it.
 fn check_calls(rt: &impl Host, alloc: Global, actor: u8, calls: u32) -> Result<(), Fail> {
-    for (call, fate) in [
+    for &(call, fate) in &[
         (calls, Fate::Journal),
         (calls.saturating_add(1), Fate::Running),
     ] {

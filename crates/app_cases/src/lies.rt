@@ -28,7 +28,7 @@ const ALL: u32 = 4_194_304;
 #[test]
 fn posts_of_liars(rt: HostRuntime) -> Result<(), Fail> {
     let alloc = rt.alloc();
-    for (name, hears, want) in [
+    for &(name, hears, want) in &[
         ("silent", ALL, b"".as_slice()),
         ("equivocate", ALL, b"\x01\x01\x01\x01".as_slice()),
         ("equivocate", 0, b"\x01\x01\x01\x01".as_slice()),
@@ -92,7 +92,7 @@ const BABBLE: &[u8] = b"\xff\x01";
 #[test]
 fn two_liars(rt: HostRuntime) -> Result<(), Fail> {
     let alloc = rt.alloc();
-    for (liars, fifth, sixth) in [
+    for &(liars, fifth, sixth) in &[
         (
             r#"{"node":5,"name":"equivocate","hears":0},{"node":6,"name":"babble","hears":1}"#,
             SEVEN_VALS,

@@ -18,7 +18,7 @@ fn report_of(rt: &impl Host, alloc: Global, keys: &str) -> Result<Report, AllocE
 #[test]
 fn reports_of_runs(rt: HostRuntime) -> Result<(), Fail> {
     let alloc = rt.alloc();
-    for keys in [
+    for &keys in &[
         "",
         r#","version":2"#,
         r#","links":[{"to":2,"every":1,"at":0,"shape":"drop"}]"#,
@@ -112,7 +112,7 @@ fn apply_to_end(end: &mut End, change: Change) -> Result<(), AllocError> {
 // Each actor needs each number once. An actor that has ended needs none. The last post is a Closed, which a desk owes without it.
 #[test]
 fn changed_reports(rt: HostRuntime) -> Result<(), Fail> {
-    for (what, wanted) in [
+    for &(what, wanted) in &[
         (Change::LoseTheLastNumber, false),
         (Change::HaveANumberTwice, true),
         (Change::HaveANumberOfNoPost, false),

@@ -102,7 +102,7 @@ fn with_spaces(alloc: Global, text: &str, count: u32) -> Result<String, AllocErr
 #[test]
 fn spaces(rt: HostRuntime) -> Result<(), Fail> {
     let alloc = rt.alloc();
-    for (text, count, line) in [
+    for &(text, count, line) in &[
         ("", 1_048_577, "refused 1 TooLong\n"),
         ("", 1_048_576, "refused 2 NotJson\n"),
         (

@@ -188,7 +188,7 @@ fn four_nodes(rt: HostRuntime) -> Result<(), Fail> {
     let alloc = rt.alloc();
     assert!(rt; FOUR_COINS.have_both_bits(alloc)?);
     let whole = ("running", ALL);
-    for (keys, third, status) in [
+    for &(keys, third, status) in &[
         ("", whole, 0),
         // nobody minds what comes twice
         (r#","links":[{"every":1,"at":0,"shape":"once"}]"#, whole, 0),

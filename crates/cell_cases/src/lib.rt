@@ -13,6 +13,8 @@ mod sharing;
 #[cfg(test)]
 mod tests;
 mod turning;
+#[cfg(test)]
+mod workers;
 
 pub use beginning::begin;
 pub use lying::{Echo, LiarTurns, lie_and_hear};

@@ -15,6 +15,3 @@ pub use dealt::{Deal, DealtShare};
 pub use laws::{coin_laws, share_laws, sharing_laws};
 pub use leaves::leaf_of;
 pub use others::{NodeShare, others_fit};
-
-#[cfg(test)]
-mod tests;

@@ -18,9 +18,6 @@ use merkle_branch::{Branch, MAX_HEIGHT, is_branch};
 use std::marker::Model;
 use std::snapshot::Snapshot;
 
-#[cfg(test)]
-mod tests;
-
 // The most shares that are kept, one of each node, and the most that make a coin, f + 1.
 const MOST_SHARES: usize = MOST_NODES as usize;
 

@@ -12,6 +12,8 @@ mod desks;
 #[cfg(test)]
 mod many;
 #[cfg(test)]
+mod pools;
+#[cfg(test)]
 mod room;
 #[cfg(test)]
 mod subsets;

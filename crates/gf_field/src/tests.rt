@@ -6,7 +6,7 @@ use std::test::Fail;
 /// Products worked out by hand from the polynomial 0x11D.
 #[test]
 fn products(rt: HostRuntime) -> Result<(), Fail> {
-    for (a, b, product) in [
+    for &(a, b, product) in &[
         (2, 0x80, 0x1D),
         (2, 0x8E, 1),
         (3, 3, 5),

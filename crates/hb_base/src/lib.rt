@@ -10,8 +10,6 @@ pub mod limits;
 pub mod memory;
 pub mod node_set;
 pub mod outside;
-#[cfg(test)]
-mod tests;
 
 pub use bytes::Bytes;
 pub use config::Config;

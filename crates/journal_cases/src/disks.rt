@@ -18,7 +18,7 @@ fn planned(alloc: Global, stops: &[Stop], faults: &[u32]) -> Result<Plan, Fail>
 #[test]
 fn a_stop_leaves_old_new_or_torn(rt: HostRuntime) -> Result<(), Fail> {
     let alloc = rt.alloc();
-    for (leave, want) in [
+    for &(leave, want) in &[
         (Leave::Old, [9, 9, 9]),
         (Leave::New, [1, 2, 3]),
         (Leave::Torn, [1, 0x5A, 3]),
@@ -69,7 +69,7 @@ fn a_fault_changes_nothing(rt: HostRuntime) -> Result<(), Fail> {
 #[test]
 fn a_cut_comes_back(rt: HostRuntime) -> Result<(), Fail> {
     let alloc = rt.alloc();
-    for (leave, want) in [
+    for &(leave, want) in &[
         (Leave::Old, [1, 2, 3, 9]),
         (Leave::New, [1, 2, 6, 7]),
         (Leave::Torn, [1, 2, 6, 0x5A]),

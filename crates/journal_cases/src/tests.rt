@@ -388,7 +388,7 @@ fn the_bytes_say_what_is_recovered(rt: HostRuntime) -> Result<(), Fail> {
     let torn = b"HBVJ0002\x5A\0\0\0\x04\x07\0\x03\x01\0\x5A\x5A".as_slice();
     let one = b"HBVJ0002\x5A\0\0\0\x01\x61\0".as_slice();
     let none = b"".as_slice();
-    for (a, b, want, want_left) in [
+    for &(a, b, want, want_left) in &[
         (torn, none, PAYLOAD.as_slice(), 9),
         (none, none, none, 9),
         (b"123456789", &[0xFF; 9], none, 9),
@@ -430,7 +430,7 @@ fn calls_of_recovery(alloc: Global, a: usize, b: usize) -> Result<u32, JournalFa
 #[test]
 fn halves_are_read_in_pieces(rt: HostRuntime) -> Result<(), Fail> {
     let alloc = rt.alloc();
-    for (a, b, want) in [
+    for &(a, b, want) in &[
         (0, 0, 6),
         (9, 9, 6),
         (10, 9, 5),

@@ -10,7 +10,11 @@ mod agreements;
 mod broadcasts;
 mod callers;
 #[cfg(test)]
+mod deliveries;
+#[cfg(test)]
 mod histories;
+#[cfg(test)]
+mod ledgers;
 #[cfg(test)]
 mod near_misses;
 #[cfg(test)]

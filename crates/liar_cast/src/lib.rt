@@ -13,8 +13,6 @@ mod liar;
 mod lies;
 mod silent;
 mod speech;
-#[cfg(test)]
-mod tests;
 
 pub use babble::Babble;
 pub use bval_both::BvalBoth;

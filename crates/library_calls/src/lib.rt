@@ -24,6 +24,14 @@ use rs_shards::{encode, value_of};
 use std::alloc::{AllocError, Global};
 
 #[cfg(test)]
+mod deals;
+#[cfg(test)]
+mod liars;
+#[cfg(test)]
+mod shards;
+#[cfg(test)]
+mod shares;
+#[cfg(test)]
 mod tests;
 
 /// The Merkle tree over shards.

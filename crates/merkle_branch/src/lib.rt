@@ -10,8 +10,6 @@ ghost use Rattle.sha2.specs.Sha256.{sha256};
 use sha2::{Digest, Sha256};
 
 mod laws;
-#[cfg(test)]
-mod tests;
 mod tree;
 
 pub use laws::{branch_laws, branches_bind, trees_bind};

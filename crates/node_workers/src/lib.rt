@@ -4,8 +4,6 @@
 mod crew;
 mod node;
 mod pool;
-#[cfg(test)]
-mod tests;
 mod worker;
 
 pub use node::{Node, run_nodes};

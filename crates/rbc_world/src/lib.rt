@@ -6,8 +6,6 @@ mod claims;
 mod entries;
 pub mod laws;
 mod proposed;
-#[cfg(test)]
-mod tests;
 
 pub use agreed::delivered_agree;
 pub use laws::{broadcast_laws, root_laws};

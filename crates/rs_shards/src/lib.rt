@@ -200,6 +200,3 @@ fn unequal_lengths(shards: &[(u8, Bytes)]) -> Option<(u32, u32)>
     }
     None
 }
-
-#[cfg(test)]
-mod tests;

@@ -4,7 +4,5 @@
 mod closings;
 mod outcome;
 mod spent;
-#[cfg(test)]
-mod tests;
 
 pub use outcome::status;

@@ -9,8 +9,6 @@ ghost use Rattle.scenario_gen.specs.Generated.{generated};
 
 mod drawing;
 mod numbers;
-#[cfg(test)]
-mod tests;
 
 use drawing::{draw_liars, draw_plans, draw_submits};
 use net_script::{Order, Script};

@@ -5,6 +5,8 @@
 
 mod callers;
 #[cfg(test)]
+mod generated;
+#[cfg(test)]
 mod rows;
 #[cfg(test)]
 mod tests;

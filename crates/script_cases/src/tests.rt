@@ -122,7 +122,7 @@ fn no_numbers(rt: HostRuntime) -> Result<(), Fail> {
         let (text, rest) = cut(row)?;
         let (place, _) = cut(rest)?;
         let line = format!(in rt.alloc(); "refused 6 NotNumber {place}")?;
-        for value in [
+        for &value in &[
             "null",
             "true",
             "\"1\"",

@@ -3,6 +3,8 @@
 //! `callers` is as any user might write it, and what is proved of it stands on the contracts of ledger_text alone.
 #![tactic(auto)]
 
+#[cfg(test)]
+mod audits;
 mod callers;
 #[cfg(test)]
 mod full;
@@ -11,12 +13,20 @@ mod observers;
 #[cfg(test)]
 mod observing;
 #[cfg(test)]
+mod reading;
+#[cfg(test)]
 mod reports;
+#[cfg(test)]
+mod rows;
 #[cfg(test)]
 mod runs;
 #[cfg(test)]
 mod soaks;
 #[cfg(test)]
+mod statuses;
+#[cfg(test)]
 mod traces;
+#[cfg(test)]
+mod verdicts;
 
 pub use callers::print_both;

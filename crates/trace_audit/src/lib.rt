@@ -3,8 +3,6 @@
 
 mod auditing;
 mod laws;
-#[cfg(test)]
-mod tests;
 
 pub use auditing::audit;
 pub use history_verdict::Verdict;

@@ -8,10 +8,6 @@ mod laws;
 mod post;
 mod posts;
 mod read;
-#[cfg(test)]
-mod tests;
-#[cfg(test)]
-mod texts;
 mod trace;
 mod words;
 

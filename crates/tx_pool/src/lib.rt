@@ -4,7 +4,5 @@
 
 mod pool;
 mod standings;
-#[cfg(test)]
-mod tests;
 
 pub use pool::{Pool, Submitted};

@@ -2,8 +2,6 @@
 #![tactic(auto)]
 
 mod refusal;
-#[cfg(test)]
-mod tests;
 mod verdict;
 
 pub use refusal::write_refusal;

@@ -84,7 +84,7 @@ fn is_batch(alloc: Global, count: u16, size: u16) -> Result<bool, Fail> {
 
 #[test]
 fn limits(rt: HostRuntime) -> Result<(), Fail> {
-    for (count, size, fits) in [
+    for &(count, size, fits) in &[
         (1, 1, true),
         (64, 256, true),
         (65, 1, false),

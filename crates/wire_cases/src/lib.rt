@@ -7,6 +7,8 @@
 #[cfg(test)]
 mod addresses;
 #[cfg(test)]
+mod base;
+#[cfg(test)]
 mod batches;
 #[cfg(test)]
 mod bounds;
@@ -17,5 +19,7 @@ mod malformed;
 mod probes;
 #[cfg(test)]
 mod spellings;
+#[cfg(test)]
+mod trees;
 
 pub use callers::{deliver, hear, propose, ready, show};

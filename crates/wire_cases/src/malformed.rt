@@ -256,7 +256,7 @@ fn malformed(rt: HostRuntime) -> Result<(), Fail> {
 // What version 2 alone has, and other versions than 1 and 2.
 #[test]
 fn versions(rt: HostRuntime) {
-    for (version, conf, aux) in [
+    for &(version, conf, aux) in &[
         (0, false, false),
         (1, false, true),
         (2, true, true),

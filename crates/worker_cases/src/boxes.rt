@@ -85,7 +85,7 @@ fn count_posts(report: &Report) -> (u64, u64) {
 #[test]
 fn boxes_are_asked_and_dropped(rt: HostRuntime) -> Result<(), Fail> {
     let alloc = rt.alloc();
-    for (hears, workers) in [
+    for &(hears, workers) in &[
         (0u32, 4),
         (1, 1),
         (1, 4),

@@ -223,3 +223,37 @@ fn four_lanes_at_once(rt: HostRuntime) -> Result<(), Fail> {
     check_any(&rt, alloc, &answer, &[0, 5], "four lanes")?;
     Ok(())
 }
+
+// Counts the entries of node 0, and those among the first four that are not of the lane with this number.
+#[derive(Drop)]
+struct InOrder {
+    entered: AtomicU64,
+    astray: AtomicU64,
+}
+
+impl Gate for InOrder {
+    fn enter(&self, node: u8, actor: u8) {
+        if node == 0 {
+            let before = self.entered.fetch_add(1, Ordering::SeqCst);
+            if before < 4 && u64::from(actor) != before {
+                self.astray.fetch_add(1, Ordering::SeqCst);
+            }
+        }
+    }
+}
+
+// Each lane of node 0 has a number before its only worker begins, which goes round from lane 0 on.
+#[test]
+fn actors_in_their_order(rt: HostRuntime) -> Result<(), Fail> {
+    let gate = InOrder {
+        entered: AtomicU64::new(0),
+        astray: AtomicU64::new(0),
+    };
+    let alloc = rt.alloc();
+    let scenario = with_workers(alloc, FOUR, "", 1)?;
+    let answer = run_with(&rt, alloc, scenario.as_str(), Vec::new(alloc), &gate)?;
+    assert!(rt; gate.entered.load(Ordering::SeqCst) > 4);
+    assert_eq!(rt; gate.astray.load(Ordering::SeqCst), 0);
+    check_any(&rt, alloc, &answer, &[0, 5], "actors in their order")?;
+    Ok(())
+}

@@ -42,7 +42,7 @@ fn an_observer_and_puts_that_fail(rt: HostRuntime) -> Result<(), Fail> {
 #[test]
 fn histories_are_legal(rt: HostRuntime) -> Result<(), Fail> {
     let alloc = rt.alloc();
-    for keys in [
+    for &keys in &[
         "",
         r#","version":2"#,
         r#","liars":[{"node":3,"name":"bval_both"}]"#,
@@ -66,7 +66,7 @@ fn histories_are_legal(rt: HostRuntime) -> Result<(), Fail> {
 #[test]
 fn only_a_liar_is_accused(rt: HostRuntime) -> Result<(), Fail> {
     let alloc = rt.alloc();
-    for (keys, front) in [
+    for &(keys, front) in &[
         ("", "accuse nodes 4 faulty 1 version 1 epochs 1\nend "),
         (
             r#","liars":[{"node":3,"name":"equivocate"}]"#,

@@ -1,6 +1,0 @@
-use Rattle.std.proofs.Common.{◌≡◌}
-use Rattle.coin_share.proofs.tests.first_coin_of_seed_0.Given as goal
-
--- the number of nodes stays
-abbrev pub invariant-loop-m : goal.invariant-loop-m
-invariant-loop-m g l = l.shares.n ≡ 4
