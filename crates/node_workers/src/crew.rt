@@ -4,16 +4,10 @@ use std::sync::atomic::{AtomicU64, Ordering};
 use std::sync::{Mutex, Wait};
 use std::time::Duration;
 
-/// The shortest time that a worker sleeps which has found nothing, in microseconds.
+// The shortest and the longest time that a worker sleeps which has found nothing, in microseconds.
 pub(crate) const SHORTEST_NAP: u64 = 20;
 
-// The longest one.
 const LONGEST_NAP: u64 = 1_000;
-
-/// How long a worker sleeps that found nothing after a nap of this length.
-pub(crate) fn longer(nap: u64) -> u64 {
-    nap.saturating_mul(2).min(LONGEST_NAP)
-}
 
 // How many workers there are that have not gone, how many of them may still find something to do, and how often one found something. A worker that
 // found nothing, while nobody found anything, looks no more. Once one finds something, all look again: what it did may be work for
@@ -105,17 +99,16 @@ impl Crew {
         true
     }
 
-    // Waits, for one that found nothing and had begun to look at this count of finds, until one has found something since. It sleeps at
-    // least once, so long at first, and each time twice as long as before, up to the longest nap. Whether it is over, and the worker
-    // has gone.
-    pub(crate) fn rest<R: Wait>(&self, rt: &R, began: u64, first: u64) -> bool {
-        let mut nap = first;
+    // Waits, for one that found nothing and had begun to look at this count of finds, until one has found something since. Where it is not
+    // over it sleeps at least once, for as long as `nap` says, and each time, also in its next rests, twice as long as before, up to
+    // the longest nap. Whether it is over, and the worker has gone.
+    pub(crate) fn rest<R: Wait>(&self, rt: &R, began: u64, nap: &mut u64) -> bool {
         for _ in rt.forever() {
             if self.over.load(Ordering::SeqCst) != 0 && self.retires(rt) {
                 return true;
             }
-            self.over.park_timeout(rt, 0, Duration::from_micros(nap));
-            nap = longer(nap);
+            self.over.park_timeout(rt, 0, Duration::from_micros(*nap));
+            *nap = nap.saturating_mul(2).min(LONGEST_NAP);
             if self.finds(rt) != began {
                 return false;
             }

@@ -1,11 +1,11 @@
 //! One worker.
 
-use crate::crew::{Crew, SHORTEST_NAP, longer};
+use crate::crew::{Crew, SHORTEST_NAP};
 use std::sync::Wait;
 
-// Goes round until nobody of the crew, to which it belongs, has anything to do. Each time that it finds nothing again it sleeps twice as
-// long as before: so a worker whose node has nothing to do looks seldom, however often others find something, and work that comes
-// waits at most about as long as it took to come.
+// Goes round until nobody of the crew, to which it belongs, has anything to do. Its naps grow until it has found something itself: so a
+// worker whose node has nothing to do looks seldom, however often others find something. A nap is never much longer than the time for
+// which the worker has found nothing.
 pub(crate) fn work<F: Fn(usize, usize) -> bool, R: Wait>(
     rt: &R,
     round: &F,
@@ -23,10 +23,9 @@ pub(crate) fn work<F: Fn(usize, usize) -> bool, R: Wait>(
             nap = SHORTEST_NAP;
         } else {
             crew.found_nothing(rt, began);
-            if crew.rest(rt, began, nap) {
+            if crew.rest(rt, began, &mut nap) {
                 return;
             }
-            nap = longer(nap);
         }
     }
 }

@@ -1,4 +1,5 @@
-//! Schedules that no run on one thread can have: gates hold actors of node 0 until others have entered.
+//! Schedules that no run on one thread can have: gates hold actors of node 0 until others have entered. Another gate sees in which order
+//! a worker serves the lanes of a node.
 
 use crate::calls::{check_any, check_text, run_with};
 use crate::texts::{FOUR, text_without, with_workers};
@@ -224,7 +225,7 @@ fn four_lanes_at_once(rt: HostRuntime) -> Result<(), Fail> {
     Ok(())
 }
 
-// Counts the entries of node 0, and those among the first four that are not of the lane with this number.
+// Counts the entries of node 0, and those among the first four that are not of the lane whose number is how many came before.
 #[derive(Drop)]
 struct InOrder {
     entered: AtomicU64,
