@@ -1,4 +1,4 @@
-//! What no clause says: that calls find memory and succeed, that the clauses mean what was meant, and that thousands of
+//! What no clause of tx_pool says: that calls find memory and succeed, that the clauses mean what was meant, and that thousands of
 //! transactions take little time.
 
 use hb_base::Bytes;

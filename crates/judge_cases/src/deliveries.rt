@@ -1,5 +1,5 @@
-//! Whether the definition says what is meant: histories whose answer was worked out by hand. Four nodes, of which node 3
-//! lies; actor 4 of a node is its desk.
+//! Whether rbc_world's definition of agreeing deliveries says what is meant: histories whose answer was worked out by hand. Four
+//! nodes, of which node 3 lies; actor 4 of a node is its desk.
 
 use hb_base::{Bytes, Config, NodeSet};
 use hb_rules::Report;

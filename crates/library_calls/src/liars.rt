@@ -1,4 +1,4 @@
-//! What the six kinds say, against bytes that a separate program in Python put together from the formats. Tables are
+//! What the six kinds of liars of liar_cast say, against bytes that a separate program in Python put together from the formats. Tables are
 //! texts, a row a line.
 
 mod limits;

@@ -1,5 +1,5 @@
 //! Votes made of what several libraries give, as a node makes and hears them: that the libraries fit together is proved
-//! here, by their contracts alone.
+//! here, by their contracts alone. Beside it the tests of rs_shards, coin_deal, coin_share and liar_cast.
 #![tactic(auto)]
 
 ghost use Rattle.std.specs.Prelude.{◌≡◌, ◌-◌, ◌*◌, ◌<◌, ◌≤◌, length, IfOk, OnOk, slice_index_or, [], ◌++◌, true, false};

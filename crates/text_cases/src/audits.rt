@@ -1,4 +1,4 @@
-//! What no clause says: that the calls find memory, and that verdicts on histories by hand are what was meant.
+//! What no clause of trace_audit says: that the calls find memory, and that verdicts on histories by hand are what was meant.
 
 use hb_base::{Bytes, MemorySource};
 use history_verdict::Verdict;

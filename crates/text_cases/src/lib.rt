@@ -1,4 +1,5 @@
-//! Reports made by hand, their texts, and what observers take from them. The texts were worked out by a separate program in Python.
+//! Reports made by hand, the statuses of their nodes, their texts, and what observers take from them; and texts of histories, what is
+//! read in them, and the verdicts of their audit. The texts were worked out by a separate program in Python.
 //!
 //! `callers` is as any user might write it, and what is proved of it stands on the contracts of ledger_text alone.
 #![tactic(auto)]

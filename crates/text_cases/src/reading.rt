@@ -1,4 +1,4 @@
-//! What no clause says: that calls find memory, and that the definitions say what was meant.
+//! What no clause of trace_reader says: that calls find memory, and that its definitions say what was meant.
 
 use crate::rows::{POSTS, Row, TEXT};
 use hb_base::{Bytes, Config, MemorySource, NodeSet, Source};

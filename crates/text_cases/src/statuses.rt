@@ -1,4 +1,4 @@
-//! Whether the definitions say what is meant: reports whose statuses were found by hand.
+//! Whether the definitions of run_status say what is meant: reports whose statuses were found by hand.
 
 use disk_model::{MemoryDisk, Note, Plan, Power};
 use hb_base::{Bytes, Config, NodeSet};

@@ -1,4 +1,4 @@
-//! What no clause says: that the lines are what was meant.
+//! What no clause of verdict_text says: that the lines are what was meant.
 
 use hb_base::MemorySink;
 use history_verdict::Verdict;

@@ -1,4 +1,4 @@
-//! What no clause says: that calls find memory and succeed, and that the limits are those that were meant.
+//! What no clause of hb_base says: that calls find memory and succeed, and that the limits are those that were meant.
 use hb_base::{Bytes, Config, LiarName, MemorySink, MemorySource, NodeSet, OpenGate, Sink, Source};
 use std::test::Fail;
 

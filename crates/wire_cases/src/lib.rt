@@ -1,5 +1,5 @@
 //! Votes and batches against bytes that were put together by hand from the table of formats. Tables are texts, a row a
-//! line.
+//! line. Beside them what votes are made of: bytes, limits and node sets of hb_base, and Merkle trees.
 //!
 //! `callers` is as any user might write it, and what is proved of it stands on the contracts of hb_wire alone.
 #![tactic(auto)]
