@@ -12,8 +12,8 @@ ghost use Rattle.aba_world.specs.Backing.{BeginningsAreBacked, DecisionsAreSettl
 
 /// Agreement and validity. What a correct node decides in a lane and epoch, some correct node there has as its estimate of
 /// round 0: 1 where it has delivered, 0 where its own desk wants no more lanes. Where no two hashed strings share a digest,
-/// correct nodes decide one bit. It was settled in some round, and from then on no correct node estimates or supports
-/// another.
+/// correct nodes decide one bit. It was settled in some round, and after that round no correct node estimates or
+/// supports another.
 pub fn agreement_laws()
     ensures agreement { (c : Numbers) (history : List Post) → AreSound c → IsLegal c history → NoCollision c history → DecisionsAgree c history }
     ensures validity { (c : Numbers) (history : List Post) → AreSound c → IsLegal c history → DecisionsAreBegun c history }

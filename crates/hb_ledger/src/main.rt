@@ -1,5 +1,4 @@
-//! The program `hb_ledger` over the streams and the words of its process. Run `hb_ledger run` with a scenario on the
-//! standard input.
+//! The program `hb_ledger` over the streams and the words of its process. What the words are, `hb_main` tells.
 #![tactic(auto)]
 
 mod streams;

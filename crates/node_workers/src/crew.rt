@@ -9,9 +9,9 @@ pub(crate) const SHORTEST_NAP: u64 = 20;
 
 const LONGEST_NAP: u64 = 1_000;
 
-// How many workers there are that have not gone, how many of them may still find something to do, and how often one found something. A worker that
-// found nothing, while nobody found anything, looks no more. Once one finds something, all look again: what it did may be work for
-// others.
+// How many workers there are that have not gone, how many of them may still find something to do, and how often one found
+// something. A worker that found nothing, while nobody found anything, looks no more. Once one finds something, all look again: what it
+// did may be work for others.
 #[derive(Drop)]
 struct Count {
     workers: u64,
@@ -25,7 +25,7 @@ struct Count {
 pub(crate) struct Crew {
     count: Mutex<Count>,
 
-    // 1 once it is over.
+    // 1 while it is over, and else 0.
     over: AtomicU64,
 }
 
@@ -42,7 +42,7 @@ impl Crew {
         }
     }
 
-    // Takes in one worker more, which looks.
+    // Takes in one worker more, which looks: so it is not over.
     pub(crate) fn enter<R: Wait>(&self, rt: &R) {
         let mut count = self.count.lock(rt);
         count.workers = count.workers.saturating_add(1);

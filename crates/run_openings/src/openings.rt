@@ -113,6 +113,7 @@ fn seat_next<K: Naming>(
     ensures seat { (result.seat.book ≡ book.now) × (result.seat.seat ≡ record (new_seat K.config node actor) { seen = first.old.seen }) }
 {
     let _ = boxes;
+    // this moves the passes that are left, of which there are 272 at most
     let passes = passes.remove(0);
     let seat = book.seat_for(first, node, actor);
     Opening {

@@ -1,5 +1,5 @@
 //! The words that a number gives: the key stream of ChaCha20 (RFC 8439) with the number as its key. The dealer of the
-//! coins draws them, and so does the generator of scenarios.
+//! coins draws them, and so do the generator of scenarios and the driver's mixed order.
 #![tactic(auto)]
 
 ghost use Rattle.std.specs.Prelude.{◌≡◌, ◌+◌, ◌^◌, ◌<◌};

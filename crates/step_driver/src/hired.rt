@@ -59,7 +59,7 @@ pub struct Hired<L> {
 }
 
 impl<L: Mouth> Hired<L> {
-    /// One that has said nothing. `seat` is the seat of its node; it hears `hears` posts, and is then dropped.
+    /// One that has said nothing. `seat` is the seat of its node; what speaks for it hears `hears` posts, and is then dropped.
     pub fn new(alloc: Global, seat: PlainSeat, hears: u32, mouth: L) -> Hired<L>
         ensures view { hired_view result ≡ record { seat = seat; said = 0 } }
         ensures hears { result.hears ≡ hears }

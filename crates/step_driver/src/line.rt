@@ -55,8 +55,10 @@ impl Line {
     }
 
     /// Takes the next envelope, and None exactly where none waits. First in, first out it is the first of the prompt ones,
-    /// or of all where only late ones are left, and takes constant time. In the mixed order a word is drawn, and it is the
-    /// one whose place among these is the word modulo their number; the time is then about the root of the most that it has had.
+    /// or of all where only late ones are left, and takes constant time, but that the list of blocks is moved where one is
+    /// emptied. In the mixed order a word is drawn, and it is the one whose place among these is the word modulo their number;
+    /// the time is then a step for each block before it, and half a block. A block has 1,024 envelopes at most, and is not
+    /// filled again once one behind it has begun.
     pub fn take(&mut self, order: Order, words: &mut ChaCha20Rng) -> Option<Envelope>
         requires words { words.old.word_pos + 1 < 2 ^ 68 }
         ensures taken { result ≡ next_of order words.old self.old }

@@ -11,8 +11,8 @@ use std::marker::Model;
 // How many envelopes a block has at most when it is filled.
 const LONGEST_BLOCK: usize = 1_024;
 
-// Envelopes in order, in blocks. One is added behind the others, or taken from the front, at a constant cost; to take one
-// from elsewhere costs the number of blocks before it and half a block.
+// Envelopes in order, in blocks. One is added behind the others, or taken from the front, at a constant cost, but that the
+// list of blocks is moved where one is emptied; to take one from elsewhere costs the number of blocks before it and half a block.
 #[derive(Drop)]
 pub(crate) struct Queue {
     blocks: Vec<Block>,

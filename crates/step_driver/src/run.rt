@@ -39,7 +39,7 @@ pub struct Done {
 /// Runs the places on one thread until nothing is left to do. Each place is started, in their order; then posts are delivered
 /// one by one, in the script's order, and those that come of them. An actor that a stop has left without power is restarted at
 /// once, and all earlier posts that come to it are delivered again. An actor with another refusal ends, and the others go on.
-/// Before each delivery the gate is entered. Err is want of memory for what waits or for the ends.
+/// Before each delivery the gate is entered. Err is want of memory for the table of the places, for what waits or for the ends.
 pub fn run_steps<A: Actor<PlainBook>, L: Mouth, G: Gate>(
     alloc: Global,
     script: &Script,
