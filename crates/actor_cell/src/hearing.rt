@@ -13,7 +13,7 @@ use net_script::Script;
 use std::alloc::{AllocError, Global};
 use step_driver::{fate_of, may_restart};
 
-/// How post k arrives at the actor. It shows the actor the whole history of that moment.
+/// How post k arrives at the actor. It shows the actor the whole history of that moment. Err is want of memory to read the post.
 pub fn look<B: Book, A: Actor<B>>(
     script: &Script,
     book: &mut B,

@@ -95,7 +95,7 @@ impl<'b, B: NamedBook + Drop, A: Actor<B>, J: RunName> Held<'b, B, A, J> {
 
     /// Starts an actor that was never started, and restarts it where a stop leaves it without power. The numbers of its posts are put
     /// into the mailboxes of all whom they reach. Want of memory ends it, and so does a fault of the journal that leaves the
-    /// power on, or a full book; then nothing is put.
+    /// power on, or a full book; then nothing more is put.
     pub fn begin<R: Wait>(
         rt: &R,
         alloc: Global,
@@ -224,7 +224,7 @@ impl<'b, B: NamedBook + Drop, A: Actor<B>, J: RunName> Held<'b, B, A, J> {
         self.deliver(rt, alloc, gate, k, found);
     }
 
-    // Serves a number from the mailbox, unless its post is late: then it is held back, and the answer is false.
+    // Serves a number from the mailbox, unless its post is late and can be held back: then the answer is false.
     fn serve_new<R: Wait, G: Gate>(&mut self, rt: &R, alloc: Global, gate: &G, k: u32) -> bool
         requires running { self.old.fate ≡ Running }
         ensures script { self.new.script ≡ self.old.script }

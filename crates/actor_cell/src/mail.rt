@@ -78,6 +78,7 @@ impl<'b> Mail<'b> {
         requires known { (node < self.old.boxes.config.n) × (actor ≤ self.old.boxes.config.n) }
         ensures { AreSent self.old.boxes.config (delivery node actor k ∷ []) self.old self.new }
     {
+        // what this call ensures says that a run has 16 nodes at most
         let _n = self.boxes.config().n();
         if self
             .boxes

@@ -5,7 +5,7 @@
 pub enum Served {
     /// Nothing: its mailbox was empty at a step of the turn, and nothing is held back.
     Idle,
-    /// It took one number, and heard its post or threw it away.
+    /// It took one number, and heard its post, threw it away, or ended since there was no memory for it.
     Did,
     /// Nothing: the actor had ended before.
     Ended,

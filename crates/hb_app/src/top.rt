@@ -43,11 +43,11 @@ use trace_audit::audit;
 /// that observers take from closing votes, and `accuse` the nodes whose own posts contradict each other. `soak N` runs the scenario
 /// of a number and prints whether the ledgers agree. `audit` reads the text of a history, as `trace` prints one, and prints whether
 /// the history is legal, or else the number of its first post that is not. The status is
-///   0 if some correct node runs, and each that runs closed the last epoch, or the history is legal,
+///   0 if memory did not run out, some correct node runs, and each that runs closed the last epoch, or the history is legal,
 ///   2 if the words are unknown,
 ///   3 if the input is no scenario, or no text of a history,
 ///   4 if there was a run that is none of 0, 5 and 9,
-///   5 if it is not 0, and a lane of a correct node works and has spent its rounds,
+///   5 if it is neither 0 nor 9, and a lane of a correct node works and has spent its rounds,
 ///   6 if the input can't be read,
 ///   7 if the output or the error sink can't be written,
 ///   8 if the history is not legal, and

@@ -26,10 +26,15 @@ pub enum Fate {
 /// come.
 #[derive(Debug, Drop)]
 pub struct End {
+    /// Its node, a correct one.
     pub node: u8,
+    /// Its number there: a lane below n, the desk n.
     pub actor: u8,
+    /// How the run ended for it.
     pub fate: Fate,
+    /// The numbers of the posts that it received since its last start, in order.
     pub got: Vec<u32>,
+    /// How far its disk has come.
     pub note: Note,
 }
 
@@ -37,10 +42,15 @@ pub struct End {
 /// node and then actor, and the status that the program answers.
 #[derive(Debug, Drop)]
 pub struct Report {
+    /// The numbers of the run.
     pub config: Config,
+    /// What it was to do.
     pub script: Script,
+    /// All posts, each under its number from 0 on.
     pub history: Vec<Post>,
+    /// The ends of the actors of correct nodes, by node and then actor.
     pub ends: Vec<End>,
+    /// What the program answers, and 255 before that is known.
     pub status: u8,
 }
 

@@ -11,9 +11,13 @@ use std::alloc::AllocError;
 /// actors below n, the desk is actor n. The book puts the sender's name; a liar chooses the rest.
 #[derive(Debug, PartialEq, Eq, Drop)]
 pub struct Post {
+    /// The node that sent it.
     pub from: u8,
+    /// The actor of that node, or for a liar the one that it names.
     pub actor: u8,
+    /// Where it goes.
     pub to: To,
+    /// The bytes of a vote, or for a liar any bytes.
     pub bytes: Bytes,
 }
 
@@ -33,9 +37,13 @@ impl Clone for Post {
 /// What a liar posts under its node's name, in the name of whichever actor, to whomever, with any bytes.
 #[derive(Debug, PartialEq, Eq, Drop)]
 pub struct Lie {
+    /// The node that lies.
     pub node: u8,
+    /// The actor that it names.
     pub actor: u8,
+    /// Where the lie goes.
     pub to: To,
+    /// What it says.
     pub bytes: Bytes,
 }
 

@@ -21,8 +21,8 @@ use step_driver::{Player, is_running};
 // hears those of these that come to it and that it has not received, in their order; one that was restarted in a delivery has
 // forgotten what it received, and waits for the next call. Of one that has ended it is only asked whether it has seen more posts.
 //
-// It costs a mark for each post, a look at the marks and, where it lacks one, at the post that was handed in; the book is read for
-// each post that is delivered, and twice in the end.
+// It costs a mark for each post, and a look at each post that has no mark; the book is read twice for each post that is delivered,
+// and twice where the actor lacked none.
 pub(crate) fn catch_up<B: Book, A: Actor<B>, G: Gate>(
     alloc: Global,
     script: &Script,

@@ -12,7 +12,9 @@ use std::alloc::{AllocError, Global};
 /// The core of an actor of a node: of one of its lanes, or of its desk.
 #[derive(Drop)]
 pub enum NodeCore {
+    /// That of a lane.
     Lane(LaneCore),
+    /// That of the desk.
     Desk(DeskCore),
 }
 

@@ -175,7 +175,7 @@ fn lying_place(
 }
 
 /// How many posts the liar at a node hears, and its voice, which is taken out. The voices are those of the script's liars, in
-/// their order.
+/// their order. Where the script has no liar at this node these are 0 and a voice that says nothing.
 pub fn voice_at(script: &Script, voices: &mut Vec<Voice>, node: u8) -> (u32, Voice)
     ensures hears { result.0 ≡ hears_at node script.now.liars.items }
     ensures voice { result.1.liar ≡ voice_at node script.now.liars.items (map (λ voice. voice.liar) voices.old.items) }

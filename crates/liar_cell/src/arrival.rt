@@ -9,8 +9,8 @@ use hb_wire::Post;
 use net_script::{Script, shape};
 use step_driver::reaches_node;
 
-/// How post k arrives at a node that lies: not at all unless it reaches an actor of the node and is not dropped on its way.
-pub fn arrival_at(script: &Script, post: &Post, node: u8, k: u32) -> Arrival
+// How post k arrives at a node that lies: not at all unless it reaches an actor of the node and is not dropped on its way.
+fn arrival_at(script: &Script, post: &Post, node: u8, k: u32) -> Arrival
     ensures { result ≡ arrival_at script.now post.now node k }
 {
     if reaches_node(&script.config, post, node) {

@@ -5,6 +5,5 @@ mod arrival;
 mod cell;
 mod held;
 
-pub use arrival::arrival_at;
 pub use cell::LiarCell;
 pub use held::HeldLiar;

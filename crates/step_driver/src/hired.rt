@@ -12,7 +12,7 @@ use crate::coming::{is_drop, reaches_node};
 use hb_base::limits::MOST_LIES;
 use hb_rules::{Book, PlainBook, PlainSeat};
 use hb_wire::{Lie, Post};
-use liar_cast::{Liar, LiarSeat, Lies};
+use liar_cast::{LiarSeat, Lies};
 use net_script::{Script, shape};
 use std::alloc::Global;
 
@@ -23,29 +23,6 @@ pub trait Mouth: Drop {
 
     /// Hears a post, and may speak.
     fn hear(&mut self, alloc: Global, me: &LiarSeat, post: &Post, lies: &mut Lies);
-}
-
-/// A boxed liar.
-#[derive(Drop)]
-pub struct Boxed {
-    liar: Box<dyn Liar>,
-}
-
-impl Boxed {
-    /// The mouth that is this liar.
-    pub fn new(liar: Box<dyn Liar>) -> Boxed {
-        Boxed { liar }
-    }
-}
-
-impl Mouth for Boxed {
-    fn start(&mut self, alloc: Global, me: &LiarSeat, lies: &mut Lies) {
-        self.liar.start(alloc, me, lies);
-    }
-
-    fn hear(&mut self, alloc: Global, me: &LiarSeat, post: &Post, lies: &mut Lies) {
-        self.liar.hear(alloc, me, post, lies);
-    }
 }
 
 /// A node that lies, with what speaks for it until it has heard so many posts.
@@ -171,7 +148,9 @@ pub fn listen<L: Mouth>(
     }
 }
 
-/// Posts the lies that wait, as `post_lies`, and drops what speaks for the node where it hears no more.
+/// Posts the lies that wait under the seat's node, in their order and each once, as long as fewer than 4,096 posts of the node
+/// stand, and answers how many stand then. A lie that the book refuses is dropped, and so is what speaks for the node where it
+/// hears no more.
 pub fn tell<B: Book, L: Mouth>(
     book: &mut B,
     seat: &mut B::Seat,
@@ -199,9 +178,8 @@ pub fn tell<B: Book, L: Mouth>(
     said
 }
 
-/// Posts these lies under the seat's node, in their order and each once, as long as fewer than 4,096 posts of the node stand,
-/// and answers how many stand then. A lie that the book refuses is dropped.
-pub fn post_lies<B: Book>(book: &mut B, seat: &mut B::Seat, said: u32, lies: &[Lie]) -> u32
+// Posts these lies, and answers how many posts of the node stand then.
+fn post_lies<B: Book>(book: &mut B, seat: &mut B::Seat, said: u32, lies: &[Lie]) -> u32
     requires seat { B.knows book.old seat.old }
     requires liar { is_in (B.config seat.old).liars (B.node seat.old) ≡ true }
     requires said { count_by (is_from (B.node seat.old)) (B.seen seat.old) ≡ said }

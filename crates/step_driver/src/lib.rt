@@ -17,7 +17,7 @@ mod sending;
 pub use coming::{comes_found, comes_to, reaches_node};
 pub use ends::end_of;
 pub use envelope::Envelope;
-pub use hired::{Boxed, Hired, Mouth, listen, post_lies, tell};
+pub use hired::{Hired, Mouth, listen, tell};
 pub use line::Line;
 pub use place::Place;
 pub use player::{Player, fate_of, is_running, may_restart};
