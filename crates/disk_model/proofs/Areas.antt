@@ -1,9 +1,10 @@
 -- What a half keeps, through a write and at a sync.
-use Rattle.std.proofs.Common.{◌≡◌, ◌≤◌, ◌<◌, ◌+◌, ◌⊎◌, inl, inr, ⊎_elim, length, ℕ, List, [], ◌∷◌, ◌++◌, false, max, refl, sym, ◌∙◌, arith}
+use Rattle.std.proofs.Common.{◌≡◌, ◌≤◌, ◌<◌, ◌+◌, ◌==◌, ◌⊎◌, inl, inr, ⊎_elim, length, take, ℕ, List, [], ◌∷◌, ◌++◌, false, max, refl, sym, ap, ◌∙◌, arith}
 use Rattle.std.proofs.lemmas.Bool.{cases_lt, or_parts, or_from, and_from, le-leb, lt-ltb, both_ways}
+use Rattle.std.proofs.lemmas.List.{ext_get_or, places}
 use Rattle.disk_model.specs.declared.span.Span.{Span}
 use Rattle.disk_model.specs.Disk.{overwritten}
-use Rattle.disk_model.specs.Area.{AreaState, IsKept, is_in, is_written}
+use Rattle.disk_model.specs.Area.{AreaState, IsKept, is_in, is_written, after_write}
 use Rattle.disk_model.proofs.Lists.{length-overwritten, overwritten_below, overwritten_above}
 
 -- an offset outside of ranges and one more is outside of these ranges, and of that one
@@ -56,3 +57,19 @@ pub write_made : (area : AreaState) (at : ℕ) (bytes : List ℕ) (content synce
     → most ≡ max area.most (at + length bytes)
     → IsKept (record { content = content; synced = synced; written = written; least = area.least; most = most })
 write_made area at bytes content synced written most kept h e1 e2 e3 e4 = rw (e1, e2, e3, e4) (write_keeps area at bytes kept h)
+
+-- the front of the bytes that are written is what is written over the front
+pub written_front : (at len end : ℕ) (bytes old made : List ℕ) → made ≡ overwritten at bytes old → at ≤ len → len ≤ length old → end ≡ max len (at + length bytes)
+    → take end made ≡ overwritten at bytes (take len old)
+written_front at len end bytes old made e h fits is =
+    ap (λ (xs : List ℕ). take end xs) e
+    ∙ ext_get_or 0 _ _ (let g : length (take end (overwritten at bytes old)) ≡ length (overwritten at bytes (take len old)) = grind (arith, places) in g)
+    (λ k l. grind (arith, places))
+
+-- after a write of some bytes, field by field
+pub write_is : (at : ℕ) (bytes content synced : List ℕ) (written : List Span) (most : ℕ) (area : AreaState) → (length bytes == 0) ≡ false
+    → content ≡ overwritten at bytes area.content → synced ≡ area.synced → written ≡ area.written ++ record { at = at; len = length bytes } ∷ []
+    → most ≡ max area.most (at + length bytes)
+    → record { content = content; synced = synced; written = written; least = area.least; most = most } ≡ after_write at bytes area
+write_is at [] content synced written most area some e1 e2 e3 e4 = absurd (cc (some))
+write_is at (byte ∷ bytes) content synced written most area some e1 e2 e3 e4 = rw (e1, e2, e3, e4) refl

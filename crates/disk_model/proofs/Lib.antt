@@ -1,4 +1,5 @@
 pub mod Lists
+pub mod PutBack
 pub mod Tears
 pub mod Areas
 pub mod Images

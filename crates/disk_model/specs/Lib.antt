@@ -1,5 +1,6 @@
 pub mod Image
 pub mod Disk
+pub mod Undo
 pub mod Faults
 pub mod Supply
 pub mod Area

@@ -1,11 +1,11 @@
 //! One half of a disk in memory.
 ghost use Rattle.std.specs.Prelude.{◌≡◌, ◌≤◌, ◌<◌, ◌+◌, ◌%◌, ◌^◌, ◌==◌, ◌&&◌, [], length, IfOk, OnOk, OnErr, ℕ, false, slice_index, if◌then◌else◌};
-ghost use Rattle.std.specs.Vec.{vec_capacity};
 ghost use Rattle.disk_model.specs.Disk.{overwritten, Reads};
 ghost use Rattle.disk_model.specs.Area.{IsKept, at_rest, after_write, after_cut, left_by, torn_from, is_in, is_written};
 
 use crate::plan::Leave;
 use crate::span::Span;
+use crate::undo::UndoBytes;
 use std::alloc::{AllocError, Global};
 use std::marker::Model;
 
@@ -15,59 +15,71 @@ const TORN_BYTE: u8 = 0x5A;
 /// One half: its bytes, and what a crash may make of them.
 #[derive(Drop)]
 pub(crate) struct Area {
-    /// What a read gives.
-    content: Vec<u8>,
-    /// What the last successful sync left, with room for all of the content.
-    synced: Vec<u8>,
-    /// The ranges written since.
+    /// What a read gives, and behind it what was cut off since the last successful sync. It can put back what that sync
+    /// left.
+    bytes: UndoBytes,
+    /// How many bytes a read gives.
+    len: usize,
+    /// The ranges written since that sync.
     written: Vec<Span>,
-    /// The least length since.
+    /// The least length since that sync.
     least: usize,
-    /// The greatest length since.
-    most: usize,
 }
 
 impl Model for Area {
-    ghost use Rattle.std.specs.Prelude.{◌≤◌, length};
-    ghost use Rattle.std.specs.Vec.{vec_capacity};
+    ghost use Rattle.std.specs.Prelude.{◌≤◌, length, take};
     ghost use Rattle.disk_model.specs.Area.{AreaState, IsKept};
 
     ghost Value = { AreaState };
 
-    ghost view = { λ a. record { content = a.content.items; synced = a.synced.items; written = a.written.items; least = a.least; most = a.most } };
+    ghost view = { λ a. record { content = take a.len a.bytes.current; synced = a.bytes.settled; written = a.written.items; least = a.least; most = length a.bytes.current } };
 
-    ghost invariant = { λ a. IsKept (record { content = a.content.items; synced = a.synced.items; written = a.written.items; least = a.least; most = a.most })
-        × (length a.content.items ≤ vec_capacity a.synced) };
+    ghost invariant = { λ a. IsKept (record { content = take a.len a.bytes.current; synced = a.bytes.settled; written = a.written.items; least = a.least; most = length a.bytes.current })
+        × (a.len ≤ length a.bytes.current) };
 }
 
 impl Area {
     pub(crate) fn new(alloc: Global) -> Area
         ensures { result ≡ at_rest [] }
     {
+        Area::of(Vec::new(alloc))
+    }
+
+    // These bytes, with nothing pending.
+    fn of(bytes: Vec<u8>) -> Area
+        ensures { result ≡ at_rest bytes.items }
+    {
+        let len = bytes.len();
         Area {
-            content: Vec::new(alloc),
-            synced: Vec::new(alloc),
-            written: Vec::new(alloc),
-            least: 0,
-            most: 0,
+            written: Vec::new(*bytes.allocator()),
+            bytes: UndoBytes::of(bytes),
+            len,
+            least: len,
         }
+    }
+
+    // What a read gives.
+    fn content(&self) -> &[u8]
+        ensures { result.now ≡ self.now.content }
+    {
+        &self.bytes.as_slice()[..self.len]
     }
 
     /// What its type keeps, for a proof.
     pub(crate) fn kept(&self)
         ensures { IsKept self.now }
     {
-        let _ = &self.content;
+        let _ = &self.written;
     }
 
     /// Reads from an offset into the front of `buf`, and answers how many bytes.
     pub(crate) fn read(&self, at: u64, buf: &mut [u8]) -> usize
         ensures { Reads self.now.content at buf.old buf.new result }
     {
-        let len = self.content.len();
-        let from = (at.min(len as u64)) as usize;
-        let count = buf.len().min(len - from);
-        buf[..count].copy_from_slice(&self.content[from..from + count]);
+        let content = self.content();
+        let from = (at.min(content.len() as u64)) as usize;
+        let count = buf.len().min(content.len() - from);
+        buf[..count].copy_from_slice(&content[from..from + count]);
         count
     }
 
@@ -78,21 +90,19 @@ impl Area {
         ensures small { OnOk result (at + length bytes.now < 2 ^ 63) }
         ensures err { OnErr result (self.new ≡ self.old) }
     {
-        let len = self.content.len();
+        self.bytes.kept();
         if bytes.is_empty() {
             return Ok(());
         }
         let at = at as usize;
-        let end = at + bytes.len();
-        self.synced
-            .try_reserve(end.max(len).saturating_sub(self.synced.len()))?;
         self.written.push(Span {
             at,
             len: bytes.len(),
         })?;
-        match overwrite(&mut self.content, at, bytes) {
+        match self.bytes.write(at, bytes) {
             Ok(()) => {
-                self.most = self.most.max(end);
+                let end = at + bytes.len();
+                self.len = self.len.max(end);
                 Ok(())
             }
             Err(refused) => {
@@ -107,86 +117,37 @@ impl Area {
         requires { len ≤ length self.old.content }
         ensures { self.new ≡ after_cut len self.old }
     {
-        let len = len as usize;
-        self.content.truncate(len);
-        self.least = self.least.min(len);
+        self.len = len as usize;
+        self.least = self.least.min(self.len);
     }
 
-    /// Makes the content durable. It touches only what was written or cut off since the last sync, and gives room back
-    /// where less than half of the most that it held is left.
+    /// Makes the content durable. It touches none of it, but gives room back where less than half of the most that it
+    /// held is left.
     pub(crate) fn settle(&mut self)
         ensures { self.new ≡ at_rest self.old.content }
     {
-        settle_bytes(&mut self.synced, &self.content, &self.written, self.least);
+        let most = self.bytes.as_slice().len();
+        self.bytes.settle(self.len);
         self.written.clear();
-        let len = self.content.len();
-        // What is left is copied into two smaller blocks: fewer bytes for each than were cut off. A half that grows again
-        // asks for the room again, in blocks that double.
-        if len < self.most / 2 {
-            self.content.shrink_to_fit();
-            self.synced.shrink_to(len);
+        // What is left is copied into a smaller block: fewer bytes than were cut off. A half that grows again asks for the
+        // room again, in blocks that double.
+        if self.len < most / 2 {
+            self.bytes.shrink();
         }
-        self.least = len;
-        self.most = len;
+        self.least = self.len;
     }
 
     /// What a stop leaves, with nothing pending.
     pub(crate) fn left(&self, leave: Leave) -> Result<Area, AllocError>
         ensures { IfOk result (λ area. area ≡ at_rest (left_by leave self.now)) }
     {
-        let alloc = *self.content.allocator();
+        let alloc = *self.written.allocator();
         let bytes = match leave {
-            Leave::Old => Vec::from_slice(alloc, &self.synced)?,
-            Leave::New => Vec::from_slice(alloc, &self.content)?,
-            Leave::Torn => torn(alloc, &self.content, &self.written)?,
+            Leave::Old => self.bytes.settled(alloc)?,
+            Leave::New => Vec::from_slice(alloc, self.content())?,
+            Leave::Torn => torn(alloc, self.content(), &self.written)?,
         };
-        let len = bytes.len();
-        Ok(Area {
-            synced: Vec::from_slice(alloc, &bytes)?,
-            content: bytes,
-            written: Vec::new(alloc),
-            least: len,
-            most: len,
-        })
-    }
-}
-
-fn overwrite(content: &mut Vec<u8>, at: usize, bytes: &[u8]) -> Result<(), AllocError>
-    requires { at ≤ length content.old.items }
-    ensures ok { OnOk result (content.new.items ≡ overwritten at bytes.now content.old.items) }
-    ensures err { OnErr result (content.new.items ≡ content.old.items) }
-{
-    let over = bytes.len().min(content.len() - at);
-    content.extend_from_slice(&bytes[over..])?;
-    content[at..at + over].copy_from_slice(&bytes[..over]);
-    Ok(())
-}
-
-// Copies the ranges that were written, and all past the least length.
-fn settle_bytes(synced: &mut Vec<u8>, content: &Vec<u8>, written: &[Span], least: usize)
-    requires room { length content.now.items ≤ vec_capacity synced.old }
-    requires least { (least ≤ length content.now.items) × (least ≤ length synced.old.items) }
-    requires agree { (k : ℕ) → k < least → is_written written.now k ≡ false → slice_index synced.old.items k ≡ slice_index content.now.items k }
-    ensures same { synced.new.items ≡ content.now.items }
-    ensures room { length content.now.items ≤ vec_capacity synced.new }
-{
-    for span in written {
-        copy_span(synced, content, *span, least);
-    }
-    synced.truncate(least);
-    if synced.extend_from_slice(&content[least..]).is_err() {
-        unreachable!();
-    }
-}
-
-// Copies what lies in a range and below a bound.
-fn copy_span(to: &mut [u8], from: &[u8], span: Span, below: usize)
-    requires { (below ≤ length to.old) × (below ≤ length from.now) }
-    ensures { (k : ℕ) → k < below → slice_index to.new k ≡ (if is_in span k then slice_index from.now k else slice_index to.old k) }
-{
-    let end = span.at.saturating_add(span.len).min(below);
-    if span.at < end {
-        to[span.at..end].copy_from_slice(&from[span.at..end]);
+        Ok(Area::of(bytes))
     }
 }
 

@@ -9,6 +9,7 @@ mod met;
 mod past;
 mod plan;
 mod span;
+mod undo;
 
 pub use disk::{Disk, DiskFault, Half, Power};
 pub use memory::MemoryDisk;
