@@ -3,15 +3,16 @@
 ghost use Rattle.std.specs.Prelude.{codes};
 
 use crate::FalseFrame;
-use crate::calls::{Answer, Host, Request, call, call_with, check_none, check_ran};
-use crate::texts::{FOUR_COINS, ONE_COINS, ONE_FALLS, four};
+use crate::calls::{Request, call, check_no_run, check_run};
+use crate::four::{check_four, check_with_liar};
+use crate::texts::{check_four_coins, check_one_coins, stop_at};
 use hb_base::LiarName;
 use hb_wire::{Post, To};
 use liar_cast::{Liar, LiarSeat, Lies};
-use std::alloc::{AllocError, Global};
+use std::alloc::Global;
 use std::test::Fail;
 
-// One node, whose run of three rounds has 23 posts.
+// One node with one transaction, whose run of three rounds has 23 posts.
 pub(crate) const ALONE: &str =
     r#"{"nodes":1,"faulty":0,"epochs":1,"rounds":3,"seed":0,"submit":[{"node":0,"tx":"6869"}]}"#;
 
@@ -28,23 +29,25 @@ end 23
 
 #[test]
 fn trace_of_one_node(rt: HostRuntime) -> Result<(), Fail> {
-    assert!(rt; ONE_COINS.begin_with(rt.alloc(), 0, &ONE_FALLS)?);
+    check_one_coins(&rt, rt.alloc())?;
     let answer = call(&rt, rt.alloc(), &Request::new(&["trace"], ALONE))?;
-    assert_eq!(rt; answer.status, 0);
-    assert!(rt; answer.err.held().is_empty());
     let text = answer.out.held();
-    assert!(rt; text.starts_with(FIRST_LINES.as_bytes()));
-    assert!(rt; text.ends_with(LAST_LINES.as_bytes()));
-    assert_eq!(rt; text.iter().filter(|byte| **byte == b'\n').count(), 25);
+    assert!(rt;
+        answer.status == 0
+            && answer.err.held().is_empty()
+            && text.starts_with(FIRST_LINES.as_bytes())
+            && text.ends_with(LAST_LINES.as_bytes())
+            && text.iter().filter(|byte| **byte == b'\n').count() == 25
+    );
     Ok(())
 }
 
 #[test]
 fn nobody_is_accused(rt: HostRuntime) -> Result<(), Fail> {
-    assert!(rt; ONE_COINS.begin_with(rt.alloc(), 0, &ONE_FALLS)?);
-    let answer = call(&rt, rt.alloc(), &Request::new(&["accuse"], ALONE))?;
+    check_one_coins(&rt, rt.alloc())?;
+    let given = Request::new(&["accuse"], ALONE);
     let text = "accuse nodes 1 faulty 0 version 1 epochs 1\nend 0\n";
-    check_ran(&rt, &answer, 0, text, "one node");
+    check_run(&rt, rt.alloc(), &given, (0, text), "one node")?;
     Ok(())
 }
 
@@ -69,37 +72,25 @@ impl Liar for Doubtful {
     fn hear(&mut self, _alloc: Global, _me: &LiarSeat, _post: &Post, _lies: &mut Lies) {}
 }
 
-// Asks who is accused among four nodes, of which node 3 is this liar.
-fn accuse(
-    rt: &impl Host,
-    alloc: Global,
-    name: &str,
-    liar: Box<dyn Liar>,
-) -> Result<Answer, AllocError> {
-    let keys = format!(in alloc; ",\"liars\":[{{\"node\":3,\"name\":\"{name}\"}}]")?;
-    let scenario = four(alloc, keys.as_str())?;
-    let mut liars: Vec<Box<dyn Liar>> = Vec::new(alloc);
-    liars.push(liar)?;
-    call_with(
-        rt,
-        alloc,
-        &Request::new(&["accuse"], scenario.as_str()),
-        liars,
-    )
-}
-
 // The three correct nodes propose first, so the two votes are posts 3 and 4. A node may support both bits of a round (kind 6), and
 // may vote for one of them (kind 7).
 #[test]
 fn two_votes_of_a_liar(rt: HostRuntime) -> Result<(), Fail> {
-    assert!(rt; FOUR_COINS.have_both_bits(rt.alloc())?);
+    check_four_coins(&rt, rt.alloc())?;
     for (kind, accused) in [(7, "accused 3 posts 3 4\n"), (6, "")] {
-        let liar = Box::new(rt.alloc(), Doubtful { kind })?;
-        let answer = accuse(&rt, rt.alloc(), "doubtful", liar)?;
         let text = format!(in rt.alloc();
             "accuse nodes 4 faulty 1 version 1 epochs 1\n{accused}end 0\n"
         )?;
-        check_ran(&rt, &answer, 0, text.as_str(), accused);
+        let liar = Box::new(rt.alloc(), Doubtful { kind })?;
+        check_with_liar(
+            &rt,
+            rt.alloc(),
+            "accuse",
+            "doubtful",
+            liar,
+            text.as_str(),
+            accused,
+        )?;
     }
     Ok(())
 }
@@ -110,30 +101,28 @@ const NOBODY: &str = "accuse nodes 4 faulty 1 version 1 epochs 1\nend 0\n";
 // All pieces of a false frame have one root, and each node is sent one.
 #[test]
 fn a_false_frame_is_no_contradiction(rt: HostRuntime) -> Result<(), Fail> {
-    assert!(rt; FOUR_COINS.have_both_bits(rt.alloc())?);
+    check_four_coins(&rt, rt.alloc())?;
     let liar = Box::new(rt.alloc(), FalseFrame)?;
-    let answer = accuse(&rt, rt.alloc(), "false_frame", liar)?;
-    check_ran(&rt, &answer, 0, NOBODY, "false_frame");
-    Ok(())
-}
-
-// Checks that nobody is accused where lane 1 of node 1 stops at a call of its disk: what it posts again it had posted before.
-fn check_stop(rt: &impl Host, alloc: Global, number: u32, leave: &str) -> Result<(), Fail> {
-    let keys = format!(in alloc;
-        ",\"stops\":[{{\"node\":1,\"actor\":1,\"call\":{number},\"leave\":\"{leave}\"}}]"
+    check_with_liar(
+        &rt,
+        rt.alloc(),
+        "accuse",
+        "false_frame",
+        liar,
+        NOBODY,
+        "false_frame",
     )?;
-    let scenario = four(alloc, keys.as_str())?;
-    let answer = call(rt, alloc, &Request::new(&["accuse"], scenario.as_str()))?;
-    check_ran(rt, &answer, 0, NOBODY, keys.as_str());
     Ok(())
 }
 
+// Nobody is accused where lane 1 of node 1 stops at a call of its disk: what it posts again it had posted before.
 #[test]
 fn stops_are_no_contradictions(rt: HostRuntime) -> Result<(), Fail> {
-    assert!(rt; FOUR_COINS.have_both_bits(rt.alloc())?);
+    check_four_coins(&rt, rt.alloc())?;
     for number in 1..41u32 {
         for leave in ["old", "new", "torn"] {
-            check_stop(&rt, rt.alloc(), number, leave)?;
+            let keys = stop_at(rt.alloc(), 1, 1, number, leave)?;
+            check_four(&rt, rt.alloc(), "accuse", keys.as_str(), (0, NOBODY))?;
         }
     }
     Ok(())
@@ -142,8 +131,15 @@ fn stops_are_no_contradictions(rt: HostRuntime) -> Result<(), Fail> {
 #[test]
 fn inputs_that_are_no_scenarios(rt: HostRuntime) -> Result<(), Fail> {
     for word in ["trace", "observe", "accuse"] {
-        let answer = call(&rt, rt.alloc(), &Request::new(&[word], "{"))?;
-        check_none(&rt, &answer, 3, "refused 2 NotJson\n", word);
+        let words = [word];
+        let given = Request::new(&words, "{");
+        check_no_run(
+            &rt,
+            rt.alloc(),
+            &given,
+            (3, "", "refused 2 NotJson\n"),
+            word,
+        )?;
     }
     Ok(())
 }

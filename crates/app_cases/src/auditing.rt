@@ -1,8 +1,8 @@
 //! What `audit` answers to texts of histories, and to what is none.
 
 use crate::accusing::ALONE;
-use crate::calls::{Answer, Host, Request, Written, call, check_written};
-use crate::texts::{ONE_COINS, ONE_FALLS, four};
+use crate::calls::{Answer, Host, Request, Written, call, check_no_run, check_written};
+use crate::texts::{check_one_coins, four, liar_at, stop_at};
 use std::alloc::{AllocError, Global};
 use std::test::Fail;
 
@@ -77,8 +77,8 @@ end 1
 #[test]
 fn texts_by_hand(rt: HostRuntime) -> Result<(), Fail> {
     for &(text, written) in &ROWS {
-        let answer = call(&rt, rt.alloc(), &Request::new(&["audit"], text))?;
-        check_written(&rt, &answer, written, text);
+        let given = Request::new(&["audit"], text);
+        check_no_run(&rt, rt.alloc(), &given, written, text)?;
     }
     Ok(())
 }
@@ -99,7 +99,7 @@ fn takes_that_fail(rt: HostRuntime) -> Result<(), Fail> {
             take,
             ..Request::new(&["audit"], PROPOSES)
         };
-        check_written(&rt, &call(&rt, rt.alloc(), &given)?, written, "a take");
+        check_no_run(&rt, rt.alloc(), &given, written, "a take")?;
     }
     Ok(())
 }
@@ -124,7 +124,7 @@ fn puts_that_fail(rt: HostRuntime) -> Result<(), Fail> {
             tell,
             ..Request::new(&["audit"], text)
         };
-        check_written(&rt, &call(&rt, rt.alloc(), &given)?, written, text);
+        check_no_run(&rt, rt.alloc(), &given, written, text)?;
     }
     Ok(())
 }
@@ -138,13 +138,8 @@ fn a_text_that_is_too_long(rt: HostRuntime) -> Result<(), Fail> {
         piece: 65_536,
         ..Request::new(&["audit"], "")
     };
-    let answer = call(&rt, rt.alloc(), &given)?;
-    check_written(
-        &rt,
-        &answer,
-        (3, "", "refused 21 TooLongTrace\n"),
-        "too long",
-    );
+    let written = (3, "", "refused 21 TooLongTrace\n");
+    check_no_run(&rt, rt.alloc(), &given, written, "too long")?;
     Ok(())
 }
 
@@ -163,18 +158,20 @@ pub(crate) fn traced(
     Ok((trace, answer))
 }
 
-// Checks that what is printed of a run is found legal, with as many posts as its history has.
-fn check_legal(rt: &impl Host, alloc: Global, scenario: &str) -> Result<(), Fail> {
-    let (trace, answer) = traced(rt, alloc, scenario)?;
+// Checks that what is printed of a run of the four nodes, with these keys besides, is found legal, with as many posts as its history
+// has.
+fn check_legal(rt: &impl Host, alloc: Global, keys: &str) -> Result<(), AllocError> {
+    let scenario = four(alloc, keys)?;
+    let (trace, answer) = traced(rt, alloc, scenario.as_str())?;
     let count = trace.report.history.len();
     let line = format!(in alloc; "legal {count}\n")?;
-    check_written(rt, &answer, (0, line.as_str(), ""), scenario);
+    check_written(rt, &answer, (0, line.as_str(), ""), keys);
     Ok(())
 }
 
 #[test]
 fn one_node(rt: HostRuntime) -> Result<(), Fail> {
-    assert!(rt; ONE_COINS.begin_with(rt.alloc(), 0, &ONE_FALLS)?);
+    check_one_coins(&rt, rt.alloc())?;
     let (_trace, answer) = traced(&rt, rt.alloc(), ALONE)?;
     check_written(&rt, &answer, (0, "legal 23\n", ""), "one node");
     Ok(())
@@ -182,8 +179,9 @@ fn one_node(rt: HostRuntime) -> Result<(), Fail> {
 
 #[test]
 fn an_equivocating_liar(rt: HostRuntime) -> Result<(), Fail> {
-    let scenario = four(rt.alloc(), r#","liars":[{"node":3,"name":"equivocate"}]"#)?;
-    check_legal(&rt, rt.alloc(), scenario.as_str())
+    let keys = liar_at(rt.alloc(), 3, "equivocate")?;
+    check_legal(&rt, rt.alloc(), keys.as_str())?;
+    Ok(())
 }
 
 #[test]
@@ -191,11 +189,8 @@ fn stops_of_a_lane(rt: HostRuntime) -> Result<(), Fail> {
     let alloc = rt.alloc();
     for call in 1..41u32 {
         for leave in ["old", "new", "torn"] {
-            let keys = format!(in alloc;
-                ",\"stops\":[{{\"node\":1,\"actor\":1,\"call\":{call},\"leave\":\"{leave}\"}}]"
-            )?;
-            let scenario = four(alloc, keys.as_str())?;
-            check_legal(&rt, alloc, scenario.as_str())?;
+            let keys = stop_at(alloc, 1, 1, call, leave)?;
+            check_legal(&rt, alloc, keys.as_str())?;
         }
     }
     Ok(())

@@ -2,8 +2,8 @@
 
 use crate::accusing::ALONE;
 use crate::auditing::traced;
-use crate::calls::{Request, call, check_written};
-use crate::texts::{ONE_COINS, ONE_FALLS};
+use crate::calls::{Request, check_no_run};
+use crate::texts::check_one_coins;
 use std::alloc::{AllocError, Global};
 use std::test::Fail;
 
@@ -87,7 +87,7 @@ fn bent(alloc: Global, text: &str, number: usize, line: &str) -> Result<Vec<u8>,
 
 #[test]
 fn one_post_of_a_history(rt: HostRuntime) -> Result<(), Fail> {
-    assert!(rt; ONE_COINS.begin_with(rt.alloc(), 0, &ONE_FALLS)?);
+    check_one_coins(&rt, rt.alloc())?;
     let (trace, _answer) = traced(&rt, rt.alloc(), ALONE)?;
     let text = str::from_utf8(trace.out.held())?;
     for &(number, line, wanted) in &BENDS {
@@ -96,9 +96,8 @@ fn one_post_of_a_history(rt: HostRuntime) -> Result<(), Fail> {
             input: bent.as_slice(),
             ..Request::new(&["audit"], "")
         };
-        let answer = call(&rt, rt.alloc(), &given)?;
         let status = if wanted.starts_with("legal") { 0 } else { 8 };
-        check_written(&rt, &answer, (status, wanted, ""), line);
+        check_no_run(&rt, rt.alloc(), &given, (status, wanted, ""), line)?;
     }
     Ok(())
 }

@@ -59,6 +59,41 @@ fn failing(alloc: Global, call: u32) -> Result<Vec<u32>, AllocError> {
     Ok(calls)
 }
 
+// The words of a request.
+fn words_of(alloc: Global, given: &Request<'_>) -> Result<Vec<String>, AllocError> {
+    let mut words = Vec::new(alloc);
+    for word in given.words {
+        words.push(String::from_str(alloc, word)?)?;
+    }
+    Ok(words)
+}
+
+// What the input of a request is read from.
+fn source_of(alloc: Global, given: &Request<'_>) -> Result<MemorySource, AllocError> {
+    let takes = failing(alloc, given.take)?;
+    let bytes = Bytes::copy(alloc, given.input)?;
+    Ok(MemorySource::new(bytes, given.piece.max(1), takes))
+}
+
+// What stands before a call: nothing is written, and the report is empty.
+fn before(alloc: Global, given: &Request<'_>) -> Result<Answer, AllocError> {
+    let puts = failing(alloc, given.put)?;
+    let tells = failing(alloc, given.tell)?;
+    Ok(Answer {
+        status: 255,
+        report: Report::empty(alloc),
+        out: MemorySink::new(alloc, puts),
+        err: MemorySink::new(alloc, tells),
+    })
+}
+
+// Checks that what a run left is quiet.
+fn check_quiet(rt: &impl Abort, alloc: Global, report: &Report) -> Result<(), AllocError> {
+    let quiet = report.status == 255 || is_quiet(alloc, report)?;
+    assert!(rt; quiet);
+    Ok(())
+}
+
 // Calls the program with this cast. What a run leaves is quiet.
 pub(crate) fn call_with(
     rt: &impl Host,
@@ -66,35 +101,22 @@ pub(crate) fn call_with(
     given: &Request<'_>,
     liars: Vec<Box<dyn Liar>>,
 ) -> Result<Answer, AllocError> {
-    let mut words = Vec::new(alloc);
-    for word in given.words {
-        words.push(String::from_str(alloc, word)?)?;
-    }
-    let bytes = Bytes::copy(alloc, given.input)?;
-    let mut source = MemorySource::new(bytes, given.piece.max(1), failing(alloc, given.take)?);
-    let mut out = MemorySink::new(alloc, failing(alloc, given.put)?);
-    let mut err = MemorySink::new(alloc, failing(alloc, given.tell)?);
-    let mut report = Report::empty(alloc);
-    let status = hb_main(
+    let mut answer = before(alloc, given)?;
+    let words = words_of(alloc, given)?;
+    let mut source = source_of(alloc, given)?;
+    answer.status = hb_main(
         rt,
         alloc,
         words.as_slice(),
         &mut source,
-        &mut out,
-        &mut err,
+        &mut answer.out,
+        &mut answer.err,
         liars,
         &OpenGate,
-        &mut report,
+        &mut answer.report,
     );
-    if report.status != 255 {
-        assert!(rt; is_quiet(alloc, &report)?);
-    }
-    Ok(Answer {
-        status,
-        report,
-        out,
-        err,
-    })
+    check_quiet(rt, alloc, &answer.report)?;
+    Ok(answer)
 }
 
 // The cast of the program.
@@ -122,10 +144,27 @@ pub(crate) fn run(rt: &impl Host, alloc: Global, scenario: &str) -> Result<Answe
 
 // Checks that there was a run, with this status and this text, and that nothing was told.
 pub(crate) fn check_ran(rt: &impl Abort, answer: &Answer, status: u8, text: &str, name: &str) {
-    assert_eq!(rt; answer.status, status, "{name}");
-    assert_eq!(rt; answer.report.status, status, "{name}");
-    assert!(rt; answer.out.held() == text.as_bytes(), "{name}");
-    assert!(rt; answer.err.held().is_empty(), "{name}");
+    assert!(rt;
+        answer.status == status
+            && answer.report.status == status
+            && answer.out.held() == text.as_bytes()
+            && answer.err.held().is_empty(),
+        "{name}"
+    );
+}
+
+// Calls the program, and checks that there was a run, with this status and this text, and that nothing was told.
+pub(crate) fn check_run(
+    rt: &impl Host,
+    alloc: Global,
+    given: &Request<'_>,
+    wanted: (u8, &str),
+    name: &str,
+) -> Result<(), AllocError> {
+    let (status, text) = wanted;
+    let answer = call(rt, alloc, given)?;
+    check_ran(rt, &answer, status, text, name);
+    Ok(())
 }
 
 // What a call wrote that ran nothing: its status, what was printed, and what was told.
@@ -134,17 +173,28 @@ pub(crate) type Written<'a> = (u8, &'a str, &'a str);
 // Checks that there was no run: the report is as it was handed in, and this was written.
 pub(crate) fn check_written(rt: &impl Abort, answer: &Answer, written: Written<'_>, name: &str) {
     let (status, printed, told) = written;
-    assert_eq!(rt; answer.status, status, "{name}");
-    assert_eq!(rt; answer.report.status, 255, "{name}");
-    assert!(rt; answer.report.history.is_empty(), "{name}");
-    assert!(rt; answer.report.ends.is_empty(), "{name}");
-    assert_eq!(rt; answer.out.held(), printed.as_bytes(), "{name}");
-    assert_eq!(rt; answer.err.held(), told.as_bytes(), "{name}");
+    assert!(rt;
+        answer.status == status
+            && answer.report.status == 255
+            && answer.report.history.is_empty()
+            && answer.report.ends.is_empty()
+            && answer.out.held() == printed.as_bytes()
+            && answer.err.held() == told.as_bytes(),
+        "{name}"
+    );
 }
 
-// Checks that there was no run, that nothing was printed, and that this was told.
-pub(crate) fn check_none(rt: &impl Abort, answer: &Answer, status: u8, told: &str, name: &str) {
-    check_written(rt, answer, (status, "", told), name);
+// Calls the program, and checks that there was no run, and that this was written.
+pub(crate) fn check_no_run(
+    rt: &impl Host,
+    alloc: Global,
+    given: &Request<'_>,
+    written: Written<'_>,
+    name: &str,
+) -> Result<(), AllocError> {
+    let answer = call(rt, alloc, given)?;
+    check_written(rt, &answer, written, name);
+    Ok(())
 }
 
 // The first byte of each post of a node, in order, 0 for a post of no bytes.
@@ -156,6 +206,17 @@ pub(crate) fn first_bytes(alloc: Global, report: &Report, node: u8) -> Result<Ve
         }
     }
     Ok(firsts)
+}
+
+// Whether these are the first bytes of the posts of a node.
+pub(crate) fn has_first_bytes(
+    alloc: Global,
+    report: &Report,
+    node: u8,
+    wanted: &[u8],
+) -> Result<bool, AllocError> {
+    let firsts = first_bytes(alloc, report, node)?;
+    Ok(firsts.as_slice() == wanted)
 }
 
 // The numbers of a scenario by which its coins are dealt.

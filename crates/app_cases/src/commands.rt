@@ -1,8 +1,7 @@
 //! Words, and generated runs.
 
-use crate::calls::{Answer, Request, call, check_none, check_ran};
+use crate::calls::{Host, Request, call, check_no_run, check_ran};
 use std::alloc::{AllocError, Global};
-use std::process::Abort;
 use std::test::Fail;
 
 const USAGE: &str = "usage: hb_ledger run|soak N|trace|audit|observe|accuse\n";
@@ -43,8 +42,7 @@ fn no_commands(rt: HostRuntime) -> Result<(), Fail> {
                 tell,
                 ..Request::new(words, scenario)
             };
-            let answer = call(&rt, rt.alloc(), &given)?;
-            check_none(&rt, &answer, status, told, "no command");
+            check_no_run(&rt, rt.alloc(), &given, (status, "", told), "no command")?;
         }
     }
     Ok(())
@@ -57,35 +55,31 @@ const SOAKS: [(&str, &str); 3] = [
     ("7", "soak 7 nodes 4 faulty 1 epochs 5 batch 22 workers 2\n"),
 ];
 
-// Checks a generated run: all its ledgers agree. Either all nodes came to its end, or a lane has spent its rounds.
-fn check_soak(
-    rt: &impl Abort,
-    alloc: Global,
-    answer: &Answer,
-    number: &str,
-    front: &str,
-) -> Result<(), AllocError> {
+// Checks a generated run: all its ledgers agree. Either all nodes came to its end, or a lane has spent its rounds. No take fails,
+// since a generated run takes nothing of the input.
+fn check_soak(rt: &impl Host, alloc: Global, number: &str, front: &str) -> Result<(), AllocError> {
+    let words = ["soak", number];
+    let given = Request {
+        take: 1,
+        ..Request::new(&words, "")
+    };
+    let answer = call(rt, alloc, &given)?;
     let status = answer.status;
-    assert!(rt; status == 0 || status == 5, "{number}");
     let text = format!(in alloc;
         "{front}comparable yes\nbatches yes\nunaltered yes\nend {status}\n"
     )?;
-    check_ran(rt, answer, status, text.as_str(), number);
-    assert!(rt; !answer.report.history.is_empty(), "{number}");
+    check_ran(rt, &answer, status, text.as_str(), number);
+    assert!(rt;
+        (status == 0 || status == 5) && !answer.report.history.is_empty(),
+        "{number}"
+    );
     Ok(())
 }
 
-// No take fails, since a generated run takes nothing of the input.
 #[test]
 fn soaks(rt: HostRuntime) -> Result<(), Fail> {
     for &(number, front) in &SOAKS {
-        let words = ["soak", number];
-        let given = Request {
-            take: 1,
-            ..Request::new(&words, "")
-        };
-        let answer = call(&rt, rt.alloc(), &given)?;
-        check_soak(&rt, rt.alloc(), &answer, number, front)?;
+        check_soak(&rt, rt.alloc(), number, front)?;
     }
     Ok(())
 }

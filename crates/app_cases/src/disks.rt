@@ -1,7 +1,10 @@
 //! Runs in which a disk of node 1 loses its power once, or fails once.
 
-use crate::calls::{Host, check_ran, run};
-use crate::texts::{ALL, FOUR_COINS, FOUR_FRONT, WITHOUT_1, four, text};
+use crate::calls::{Host, check_ran};
+use crate::four::run_four;
+use crate::texts::{
+    ALL, FOUR_COINS, FOUR_FRONT, WITHOUT_1, check_four_coins, fault_at, stop_at, text,
+};
 use hb_rules::{Fate, Report};
 use hb_wire::Post;
 use std::alloc::{AllocError, Global};
@@ -57,25 +60,21 @@ fn check_stop(
     leave: &str,
 ) -> Result<(), Fail> {
     let last = if actor == 4 { DESK_LAST } else { LAST };
-    let keys = format!(in alloc;
-        ",\"stops\":[{{\"node\":1,\"actor\":{actor},\"call\":{call},\"leave\":\"{leave}\"}}]"
-    )?;
-    let scenario = four(alloc, keys.as_str())?;
-    let answer = run(rt, alloc, scenario.as_str())?;
+    let keys = stop_at(alloc, 1, actor, call, leave)?;
+    let answer = run_four(rt, alloc, keys.as_str())?;
     let want = text(alloc, FOUR_FRONT, &[("running", ALL); 4], 0)?;
     check_ran(rt, &answer, 0, want.as_str(), keys.as_str());
-    assert!(rt; has_posted_all_again(&answer.report, 1, actor), "{keys}");
     let begins_again = call > FIRST_ENTRY && call <= last;
-    assert_eq!(rt;
-        posts_twice(&answer.report, 1, actor),
-        begins_again,
+    assert!(rt;
+        has_posted_all_again(&answer.report, 1, actor)
+            && posts_twice(&answer.report, 1, actor) == begins_again,
         "{keys}"
     );
     Ok(())
 }
 
 fn check_stops(rt: &impl Host, alloc: Global, actor: u8) -> Result<(), Fail> {
-    assert!(rt; FOUR_COINS.have_both_bits(alloc)?);
+    check_four_coins(rt, alloc)?;
     for call in 1..41u32 {
         for leave in ["old", "new", "torn"] {
             check_stop(rt, alloc, actor, call, leave)?;
@@ -127,30 +126,38 @@ fn node_1(alloc: Global, call: u32) -> Result<String, AllocError> {
     Ok(ledger)
 }
 
-// If a call up to the first entry fails no shard is sent. After them three other nodes are enough to deliver the proposal. A call that
-// is never made can't fail.
-fn check_fault(rt: &impl Host, alloc: Global, call: u32) -> Result<(), Fail> {
-    let keys = format!(in alloc; ",\"faults\":[{{\"node\":1,\"actor\":1,\"call\":{call}}}]")?;
-    let scenario = four(alloc, keys.as_str())?;
-    let answer = run(rt, alloc, scenario.as_str())?;
+// What a run prints if this call of the disk of lane 1 of node 1 fails. If it is one up to the first entry no shard is sent. If it
+// is a later one, the three other nodes are enough to deliver the proposal. A call that is never made can't fail.
+fn text_of_fault(alloc: Global, call: u32) -> Result<String, AllocError> {
     let other = ("running", if call > FIRST_ENTRY { ALL } else { WITHOUT_1 });
     let ledger = node_1(alloc, call)?;
-    let (stands, fate) = if call > LAST {
-        ("running", Fate::Running)
-    } else {
-        ("ended", Fate::Journal)
-    };
+    let stands = if call > LAST { "running" } else { "ended" };
     let first = (stands, ledger.as_str());
-    let want = text(alloc, FOUR_FRONT, &[other, first, other, other], 0)?;
+    text(alloc, FOUR_FRONT, &[other, first, other, other], 0)
+}
+
+// Checks that a run in which that call fails ends with 0 and prints that text. It checks the 20 ends and their fates, too: the lane
+// alone has ended, since its journal failed, if the call is made at all.
+fn check_fault(rt: &impl Host, alloc: Global, call: u32) -> Result<(), Fail> {
+    let keys = fault_at(alloc, 1, 1, call)?;
+    let answer = run_four(rt, alloc, keys.as_str())?;
+    let want = text_of_fault(alloc, call)?;
     check_ran(rt, &answer, 0, want.as_str(), keys.as_str());
-    assert_eq!(rt; answer.report.ends.len(), 20, "{keys}");
-    assert!(rt; lane_1_has(&answer.report, fate), "{keys}");
+    let fate = if call > LAST {
+        Fate::Running
+    } else {
+        Fate::Journal
+    };
+    assert!(rt;
+        answer.report.ends.len() == 20 && lane_1_has(&answer.report, fate),
+        "{keys}"
+    );
     Ok(())
 }
 
 #[test]
 fn faults_of_a_lane(rt: HostRuntime) -> Result<(), Fail> {
-    assert!(rt; FOUR_COINS.have_both_bits(rt.alloc())?);
+    check_four_coins(&rt, rt.alloc())?;
     assert!(rt; FOUR_COINS.begin_with(rt.alloc(), 1, &[true, true])?);
     for call in 1..61u32 {
         check_fault(&rt, rt.alloc(), call)?;

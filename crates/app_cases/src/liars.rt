@@ -2,9 +2,9 @@
 //! one.
 
 use crate::FalseFrame;
-use crate::calls::{Host, Request, call_with, check_ran, run};
-use crate::texts::{FIRST_THREE, FOUR_COINS, FOUR_FRONT, LAST_THREE, Node, four, text};
-use liar_cast::Liar;
+use crate::calls::Host;
+use crate::four::{check_four, check_with_liar};
+use crate::texts::{FIRST_THREE, FOUR_FRONT, LAST_THREE, Node, check_four_coins, liar_at, text};
 use std::alloc::Global;
 use std::test::Fail;
 
@@ -22,17 +22,15 @@ const KINDS: [&str; 6] = [
 fn check_kinds(rt: &impl Host, alloc: Global, node: u8, nodes: &[Node<'_>]) -> Result<(), Fail> {
     let want = text(alloc, FOUR_FRONT, nodes, 0)?;
     for &name in &KINDS {
-        let keys = format!(in alloc; ",\"liars\":[{{\"node\":{node},\"name\":\"{name}\"}}]")?;
-        let scenario = four(alloc, keys.as_str())?;
-        let answer = run(rt, alloc, scenario.as_str())?;
-        check_ran(rt, &answer, 0, want.as_str(), keys.as_str());
+        let keys = liar_at(alloc, node, name)?;
+        check_four(rt, alloc, "run", keys.as_str(), (0, want.as_str()))?;
     }
     Ok(())
 }
 
 #[test]
 fn six_kinds(rt: HostRuntime) -> Result<(), Fail> {
-    assert!(rt; FOUR_COINS.have_both_bits(rt.alloc())?);
+    check_four_coins(&rt, rt.alloc())?;
     let liar = ("liar", "");
     let first = ("running", FIRST_THREE);
     check_kinds(&rt, rt.alloc(), 3, &[first, first, first, liar])?;
@@ -54,16 +52,7 @@ batch 3 txs 0
 #[test]
 fn false_frames(rt: HostRuntime) -> Result<(), Fail> {
     let alloc = rt.alloc();
-    assert!(rt; FOUR_COINS.have_both_bits(alloc)?);
-    let scenario = four(alloc, r#","liars":[{"node":3,"name":"false_frame"}]"#)?;
-    let mut liars: Vec<Box<dyn Liar>> = Vec::new(alloc);
-    liars.push(Box::new(alloc, FalseFrame)?)?;
-    let answer = call_with(
-        &rt,
-        alloc,
-        &Request::new(&["run"], scenario.as_str()),
-        liars,
-    )?;
+    check_four_coins(&rt, alloc)?;
     let correct = ("running", WITH_NOTHING);
     let want = text(
         alloc,
@@ -71,6 +60,15 @@ fn false_frames(rt: HostRuntime) -> Result<(), Fail> {
         &[correct, correct, correct, ("liar", "")],
         0,
     )?;
-    check_ran(&rt, &answer, 0, want.as_str(), "false_frame");
+    let liar = Box::new(alloc, FalseFrame)?;
+    check_with_liar(
+        &rt,
+        alloc,
+        "run",
+        "false_frame",
+        liar,
+        want.as_str(),
+        "false_frame",
+    )?;
     Ok(())
 }

@@ -21,6 +21,8 @@ mod commands;
 mod disks;
 mod false_frame;
 #[cfg(test)]
+mod four;
+#[cfg(test)]
 mod full;
 #[cfg(test)]
 mod liars;

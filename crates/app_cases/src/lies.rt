@@ -2,7 +2,7 @@
 
 ghost use Rattle.std.specs.Prelude.{codes};
 
-use crate::calls::{Host, Request, call_with, first_bytes, run};
+use crate::calls::{Answer, Host, Request, call_with, first_bytes, has_first_bytes, run};
 use crate::texts::four;
 use hb_base::LiarName;
 use hb_wire::{Post, To};
@@ -17,6 +17,18 @@ fn with_liar(alloc: Global, name: &str, hears: u32) -> Result<String, AllocError
         ",\"liars\":[{{\"node\":3,\"name\":\"{name}\",\"hears\":{hears}}}]"
     )?;
     four(alloc, keys.as_str())
+}
+
+// The first bytes of what that liar posts.
+fn posts_of_liar(
+    rt: &impl Host,
+    alloc: Global,
+    name: &str,
+    hears: u32,
+) -> Result<Vec<u8>, AllocError> {
+    let scenario = with_liar(alloc, name, hears)?;
+    let answer = run(rt, alloc, scenario.as_str())?;
+    first_bytes(alloc, &answer.report, 3)
 }
 
 // A liar that goes on is asked to hear at most so many posts.
@@ -42,27 +54,26 @@ fn posts_of_liars(rt: HostRuntime) -> Result<(), Fail> {
         ("babble", 1, b"\xff\x01".as_slice()),
         ("babble", 3, b"\xff\x01\xff\x01\xff\x01".as_slice()),
     ] {
-        let scenario = with_liar(alloc, name, hears)?;
-        let answer = run(&rt, alloc, scenario.as_str())?;
-        let found = first_bytes(alloc, &answer.report, 3)?;
-        assert_eq!(rt; found.as_slice(), want, "{name} {hears}");
+        let found = posts_of_liar(&rt, alloc, name, hears)?;
+        assert!(rt; found.as_slice() == want, "{name} {hears}");
     }
     Ok(())
 }
 
-// Checks that node 3 posts the same votes again and again, at least once for each lane.
-fn check_each_lane(rt: &impl Host, alloc: Global, name: &str, votes: &[u8]) -> Result<(), Fail> {
-    let scenario = with_liar(alloc, name, ALL)?;
-    let answer = run(rt, alloc, scenario.as_str())?;
-    let found = first_bytes(alloc, &answer.report, 3)?;
-    assert!(rt; found.len() >= votes.len().saturating_mul(4), "{name}");
+// Whether these are the same votes again and again, at least once for each lane.
+fn are_repeated(found: &[u8], votes: &[u8]) -> bool {
     for (place, byte) in found.iter().enumerate() {
-        assert_eq!(rt;
-            Some(byte),
-            votes.get(place % votes.len().max(1)),
-            "{name} {place}"
-        );
+        if votes.get(place % votes.len().max(1)) != Some(byte) {
+            return false;
+        }
     }
+    found.len() >= votes.len().saturating_mul(4)
+}
+
+// Checks that node 3 posts the same votes again and again.
+fn check_each_lane(rt: &impl Host, alloc: Global, name: &str, votes: &[u8]) -> Result<(), Fail> {
+    let found = posts_of_liar(rt, alloc, name, ALL)?;
+    assert!(rt; are_repeated(found.as_slice(), votes), "{name}");
     Ok(())
 }
 
@@ -76,16 +87,22 @@ fn liars_in_agreements(rt: HostRuntime) -> Result<(), Fail> {
 // One that babbles answers its own posts too, and so speaks until it has said all that a liar may.
 #[test]
 fn babble_to_the_end(rt: HostRuntime) -> Result<(), Fail> {
-    let scenario = with_liar(rt.alloc(), "babble", ALL)?;
-    let answer = run(&rt, rt.alloc(), scenario.as_str())?;
-    let found = first_bytes(rt.alloc(), &answer.report, 3)?;
-    assert_eq!(rt; found.len(), 4_096);
+    let found = posts_of_liar(&rt, rt.alloc(), "babble", ALL)?;
+    assert!(rt; found.len() == 4_096);
     Ok(())
 }
 
 const SEVEN_VALS: &[u8] = b"\x01\x01\x01\x01\x01\x01\x01";
 
 const BABBLE: &[u8] = b"\xff\x01";
+
+// Runs seven nodes with these liars.
+fn run_seven(rt: &impl Host, alloc: Global, liars: &str) -> Result<Answer, AllocError> {
+    let scenario = format!(in alloc;
+        "{{\"nodes\":7,\"faulty\":2,\"epochs\":1,\"liars\":[{liars}]}}"
+    )?;
+    run(rt, alloc, scenario.as_str())
+}
 
 // Two liars among seven nodes: each speaks at its own node, as its kind does, in whichever order the scenario names them. What
 // reaches the one that babbles first is a VAL.
@@ -104,14 +121,12 @@ fn two_liars(rt: HostRuntime) -> Result<(), Fail> {
             SEVEN_VALS,
         ),
     ] {
-        let scenario = format!(in alloc;
-            "{{\"nodes\":7,\"faulty\":2,\"epochs\":1,\"liars\":[{liars}]}}"
-        )?;
-        let answer = run(&rt, alloc, scenario.as_str())?;
-        let found = first_bytes(alloc, &answer.report, 5)?;
-        assert_eq!(rt; found.as_slice(), fifth, "{liars}");
-        let found = first_bytes(alloc, &answer.report, 6)?;
-        assert_eq!(rt; found.as_slice(), sixth, "{liars}");
+        let answer = run_seven(&rt, alloc, liars)?;
+        assert!(rt;
+            has_first_bytes(alloc, &answer.report, 5, fifth)?
+                && has_first_bytes(alloc, &answer.report, 6, sixth)?,
+            "{liars}"
+        );
     }
     Ok(())
 }
@@ -136,29 +151,45 @@ impl Liar for Counting {
     }
 }
 
+// Three that share this value.
+fn three_counting(
+    alloc: Global,
+    shared: &Arc<u8, Global>,
+) -> Result<Vec<Box<dyn Liar>>, AllocError> {
+    let mut liars: Vec<Box<dyn Liar>> = Vec::new(alloc);
+    for _ in 0..3 {
+        let counting = Counting {
+            _shared: shared.clone()?,
+        };
+        liars.push(Box::new(alloc, counting)?)?;
+    }
+    Ok(liars)
+}
+
+// Runs the four nodes with these liars, of which one is asked for, and hears so many posts.
+fn run_counting(
+    rt: &impl Host,
+    alloc: Global,
+    hears: u32,
+    liars: Vec<Box<dyn Liar>>,
+) -> Result<Answer, AllocError> {
+    let scenario = with_liar(alloc, "counting", hears)?;
+    call_with(rt, alloc, &Request::new(&["run"], scenario.as_str()), liars)
+}
+
 // A liar is asked to hear as often as the scenario says, and at the end nothing is left of the cast, be it asked for or not.
 #[test]
 fn boxes_are_asked_and_dropped(rt: HostRuntime) -> Result<(), Fail> {
     let alloc = rt.alloc();
     for hears in [0u32, 1, 3, 50] {
         let shared = Arc::new(alloc, 0u8)?;
-        let mut liars: Vec<Box<dyn Liar>> = Vec::new(alloc);
-        for _ in 0..3 {
-            let counting = Counting {
-                _shared: shared.clone()?,
-            };
-            liars.push(Box::new(alloc, counting)?)?;
-        }
-        let scenario = with_liar(alloc, "counting", hears)?;
-        let answer = call_with(
-            &rt,
-            alloc,
-            &Request::new(&["run"], scenario.as_str()),
-            liars,
-        )?;
+        let liars = three_counting(alloc, &shared)?;
+        let answer = run_counting(&rt, alloc, hears, liars)?;
         let found = first_bytes(alloc, &answer.report, 3)?;
-        assert_eq!(rt; found.len(), hears as usize);
-        assert_eq!(rt; Arc::strong_count(&shared), 1, "{hears}");
+        assert!(rt;
+            found.len() == hears as usize && Arc::strong_count(&shared) == 1,
+            "{hears}"
+        );
     }
     Ok(())
 }

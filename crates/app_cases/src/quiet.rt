@@ -1,17 +1,17 @@
 //! Whether reports are quiet: those of runs, and those of which something was taken away.
 
 use crate::calls::{Host, run};
-use crate::texts::four;
+use crate::four::run_four;
 use acs_world::common_epochs;
 use hb_rules::{End, Fate, Report};
 use quiet_check::is_quiet;
 use std::alloc::{AllocError, Global};
 use std::test::Fail;
 
-// The report of a run of four nodes, with these keys besides.
-fn report_of(rt: &impl Host, alloc: Global, keys: &str) -> Result<Report, AllocError> {
-    let answer = run(rt, alloc, four(alloc, keys)?.as_str())?;
-    Ok(answer.report)
+// Whether the report of a run of four nodes, with these keys besides, is quiet.
+fn is_quiet_with(rt: &impl Host, alloc: Global, keys: &str) -> Result<bool, AllocError> {
+    let answer = run_four(rt, alloc, keys)?;
+    is_quiet(alloc, &answer.report)
 }
 
 // A run that ended left nothing to do, whatever was lost, doubled, lied or stopped on the way.
@@ -27,7 +27,7 @@ fn reports_of_runs(rt: HostRuntime) -> Result<(), Fail> {
         r#","faults":[{"node":1,"actor":1,"call":9}]"#,
         r#","stops":[{"node":1,"actor":4,"call":9,"leave":"torn"}]"#,
     ] {
-        assert!(rt; is_quiet(alloc, &report_of(&rt, alloc, keys)?)?, "{keys}");
+        assert!(rt; is_quiet_with(&rt, alloc, keys)?, "{keys}");
     }
     Ok(())
 }
@@ -36,22 +36,25 @@ fn reports_of_runs(rt: HostRuntime) -> Result<(), Fail> {
 #[test]
 fn a_lost_node(rt: HostRuntime) -> Result<(), Fail> {
     let keys = r#","links":[{"to":2,"every":1,"at":0,"shape":"drop"}]"#;
-    let report = report_of(&rt, rt.alloc(), keys)?;
-    assert!(rt; is_quiet(rt.alloc(), &report)?);
-    assert_eq!(rt; common_epochs(&report), 0);
+    let answer = run_four(&rt, rt.alloc(), keys)?;
+    assert!(rt; is_quiet(rt.alloc(), &answer.report)? && common_epochs(&answer.report) == 0);
     Ok(())
+}
+
+// Whether one node spends its rounds, and its report is quiet.
+fn spends_quietly(rt: &impl Host, alloc: Global, version: u32) -> Result<bool, AllocError> {
+    let scenario = format!(in alloc;
+        "{{\"nodes\":1,\"faulty\":0,\"epochs\":1,\"rounds\":2,\"seed\":0,\"version\":{version}}}"
+    )?;
+    let answer = run(rt, alloc, scenario.as_str())?;
+    Ok(answer.status == 5 && is_quiet(alloc, &answer.report)?)
 }
 
 // A lane that has spent its rounds owes nothing.
 #[test]
 fn spent_rounds(rt: HostRuntime) -> Result<(), Fail> {
     for version in [1u32, 2] {
-        let scenario = format!(in rt.alloc();
-            "{{\"nodes\":1,\"faulty\":0,\"epochs\":1,\"rounds\":2,\"seed\":0,\"version\":{version}}}"
-        )?;
-        let answer = run(&rt, rt.alloc(), scenario.as_str())?;
-        assert_eq!(rt; answer.status, 5);
-        assert!(rt; is_quiet(rt.alloc(), &answer.report)?);
+        assert!(rt; spends_quietly(&rt, rt.alloc(), version)?);
     }
     Ok(())
 }
@@ -109,6 +112,13 @@ fn apply_to_end(end: &mut End, change: Change) -> Result<(), AllocError> {
     Ok(())
 }
 
+// Whether the report of a run of four nodes is quiet after this change.
+fn is_quiet_after(rt: &impl Host, alloc: Global, change: Change) -> Result<bool, AllocError> {
+    let mut answer = run_four(rt, alloc, "")?;
+    apply(&mut answer.report, change)?;
+    is_quiet(alloc, &answer.report)
+}
+
 // Each actor needs each number once. An actor that has ended needs none. The last post is a Closed, which a desk owes without it.
 #[test]
 fn changed_reports(rt: HostRuntime) -> Result<(), Fail> {
@@ -121,9 +131,7 @@ fn changed_reports(rt: HostRuntime) -> Result<(), Fail> {
         (Change::EndWithoutPosts, true),
         (Change::LoseTheLastPost, false),
     ] {
-        let mut report = report_of(&rt, rt.alloc(), "")?;
-        apply(&mut report, what)?;
-        assert_eq!(rt; is_quiet(rt.alloc(), &report)?, wanted);
+        assert!(rt; is_quiet_after(&rt, rt.alloc(), what)? == wanted);
     }
     Ok(())
 }

@@ -1,6 +1,6 @@
 //! Inputs that are no scenario: the first fault is told, and nothing runs.
 
-use crate::calls::{Request, call, check_none, run};
+use crate::calls::{Request, check_no_run};
 use crate::texts::four;
 use std::alloc::{AllocError, Global};
 use std::test::Fail;
@@ -84,8 +84,8 @@ const ROWS: [(&str, &str); 20] = [
 #[test]
 fn faults_of_scenarios(rt: HostRuntime) -> Result<(), Fail> {
     for &(input, line) in &ROWS {
-        let answer = run(&rt, rt.alloc(), input)?;
-        check_none(&rt, &answer, 3, line, input);
+        let given = Request::new(&["run"], input);
+        check_no_run(&rt, rt.alloc(), &given, (3, "", line), input)?;
     }
     Ok(())
 }
@@ -117,8 +117,8 @@ fn spaces(rt: HostRuntime) -> Result<(), Fail> {
         ),
     ] {
         let input = with_spaces(alloc, text, count)?;
-        let answer = run(&rt, alloc, input.as_str())?;
-        check_none(&rt, &answer, 3, line, line);
+        let given = Request::new(&["run"], input.as_str());
+        check_no_run(&rt, alloc, &given, (3, "", line), line)?;
     }
     Ok(())
 }
@@ -133,8 +133,8 @@ fn cut_scenarios(rt: HostRuntime) -> Result<(), Fail> {
             input: &whole[..len],
             ..Request::new(&["run"], "")
         };
-        let answer = call(&rt, rt.alloc(), &given)?;
-        check_none(&rt, &answer, 3, "refused 2 NotJson\n", "a cut scenario");
+        let written = (3, "", "refused 2 NotJson\n");
+        check_no_run(&rt, rt.alloc(), &given, written, "a cut scenario")?;
     }
     Ok(())
 }
@@ -147,8 +147,7 @@ fn lines_that_fail(rt: HostRuntime) -> Result<(), Fail> {
             tell: 1,
             ..Request::new(&["run"], input)
         };
-        let answer = call(&rt, rt.alloc(), &given)?;
-        check_none(&rt, &answer, 7, "", input);
+        check_no_run(&rt, rt.alloc(), &given, (7, "", ""), input)?;
     }
     Ok(())
 }

@@ -1,8 +1,9 @@
 //! Runs without liars and without faults of disks, and their whole texts.
 
 use crate::callers::run_bytes;
-use crate::calls::{Coins, Host, cast_of, check_ran, first_bytes, run};
-use crate::texts::{ALL, FOUR_COINS, FOUR_FRONT, Node, four, text};
+use crate::calls::{Coins, Host, Request, cast_of, check_run, has_first_bytes, run};
+use crate::four::{check_four, run_four};
+use crate::texts::{ALL, FOUR_COINS, FOUR_FRONT, Node, ONE_COINS, check_four_coins, text};
 use acs_world::{batches_ok, common_epochs, comparable};
 use hb_base::Bytes;
 use hb_rules::Report;
@@ -18,20 +19,12 @@ struct Row {
     status: u8,
 }
 
-// The coins of one node over two rounds and over three, of one node in two epochs, and of six nodes.
+// The coins of one node over two rounds, of one node in two epochs, and of six nodes.
 const TWO_ROUNDS: Coins = Coins {
     nodes: 1,
     faulty: 0,
     epochs: 1,
     rounds: 2,
-    seed: 0,
-};
-
-const THREE_ROUNDS: Coins = Coins {
-    nodes: 1,
-    faulty: 0,
-    epochs: 1,
-    rounds: 3,
     seed: 0,
 };
 
@@ -79,7 +72,7 @@ const ROWS: [Row; 6] = [
     // one node, whose coins of rounds 0, 1 and 2 are 0, 0 and 1
     Row {
         scenario: r#"{"nodes":1,"faulty":0,"epochs":1,"rounds":3,"seed":0,"submit":[{"node":0,"tx":"6869"}]}"#,
-        coins: THREE_ROUNDS,
+        coins: ONE_COINS,
         front: "run nodes 1 faulty 0 version 1 epochs 1\n",
         nodes: &[("running", "epoch 0 batches 1\nbatch 0 txs 1\ntx 6869\n")],
         status: 0,
@@ -147,11 +140,12 @@ const ROWS: [Row; 6] = [
 
 // Checks that the coins fall as a row needs it: all 0 where it spends its rounds, else so that each lane can decide.
 fn check_coins(rt: &impl Host, alloc: Global, coins: &Coins, spends: bool) -> Result<(), Fail> {
-    if spends {
-        assert!(rt; coins.are_all_zero(alloc)?);
+    let fall = if spends {
+        coins.are_all_zero(alloc)?
     } else {
-        assert!(rt; coins.have_both_bits(alloc)?);
-    }
+        coins.have_both_bits(alloc)?
+    };
+    assert!(rt; fall);
     Ok(())
 }
 
@@ -166,19 +160,26 @@ fn check_caller(
     let input = Bytes::copy(alloc, scenario.as_bytes())?;
     let mut report = Report::empty(alloc);
     let (found, out) = run_bytes(rt, alloc, input, cast_of(alloc)?, &mut report)?;
-    assert_eq!(rt; found, status, "{scenario}");
-    assert!(rt; out.held() == text.as_bytes(), "{scenario}");
+    assert!(rt;
+        found == status && out.held() == text.as_bytes(),
+        "{scenario}"
+    );
     Ok(())
+}
+
+// Checks what is printed of a run, by the program and by the caller.
+fn check_row(rt: &impl Host, alloc: Global, row: &Row) -> Result<(), AllocError> {
+    let want = text(alloc, row.front, row.nodes, row.status)?;
+    let given = Request::new(&["run"], row.scenario);
+    check_run(rt, alloc, &given, (row.status, want.as_str()), row.scenario)?;
+    check_caller(rt, alloc, row.scenario, row.status, want.as_str())
 }
 
 #[test]
 fn whole_texts(rt: HostRuntime) -> Result<(), Fail> {
     for row in &ROWS {
         check_coins(&rt, rt.alloc(), &row.coins, row.status == 5)?;
-        let answer = run(&rt, rt.alloc(), row.scenario)?;
-        let want = text(rt.alloc(), row.front, row.nodes, row.status)?;
-        check_ran(&rt, &answer, row.status, want.as_str(), row.scenario);
-        check_caller(&rt, rt.alloc(), row.scenario, row.status, want.as_str())?;
+        check_row(&rt, rt.alloc(), row)?;
     }
     Ok(())
 }
@@ -186,7 +187,7 @@ fn whole_texts(rt: HostRuntime) -> Result<(), Fail> {
 #[test]
 fn four_nodes(rt: HostRuntime) -> Result<(), Fail> {
     let alloc = rt.alloc();
-    assert!(rt; FOUR_COINS.have_both_bits(alloc)?);
+    check_four_coins(&rt, alloc)?;
     let whole = ("running", ALL);
     for &(keys, third, status) in &[
         ("", whole, 0),
@@ -206,11 +207,9 @@ fn four_nodes(rt: HostRuntime) -> Result<(), Fail> {
             4,
         ),
     ] {
-        let scenario = four(alloc, keys)?;
-        let answer = run(&rt, alloc, scenario.as_str())?;
         let nodes = [whole, whole, third, whole];
         let want = text(alloc, FOUR_FRONT, &nodes, status)?;
-        check_ran(&rt, &answer, status, want.as_str(), keys);
+        check_four(&rt, alloc, "run", keys, (status, want.as_str()))?;
     }
     Ok(())
 }
@@ -220,15 +219,23 @@ fn four_nodes(rt: HostRuntime) -> Result<(), Fail> {
 fn mixed_order(rt: HostRuntime) -> Result<(), Fail> {
     let alloc = rt.alloc();
     let keys = r#","order":"mixed","seed":7,"links":[{"every":2,"at":0,"shape":"twice"}]"#;
-    let answer = run(&rt, alloc, four(alloc, keys)?.as_str())?;
-    assert!(rt; answer.status == 0 || answer.status == 5);
-    assert!(rt; comparable(&answer.report));
-    assert!(rt; batches_ok(&answer.report));
-    assert_eq!(rt;
-        common_epochs(&answer.report),
-        u32::from(answer.status == 0)
+    let answer = run_four(&rt, alloc, keys)?;
+    assert!(rt;
+        (answer.status == 0 || answer.status == 5)
+            && comparable(&answer.report)
+            && batches_ok(&answer.report)
+            && common_epochs(&answer.report) == u32::from(answer.status == 0)
     );
     Ok(())
+}
+
+// Whether these are the first bytes of what one node posts over so many rounds.
+fn has_votes(rt: &impl Host, alloc: Global, rounds: u32, votes: &[u8]) -> Result<bool, AllocError> {
+    let scenario = format!(in alloc;
+        "{{\"nodes\":1,\"faulty\":0,\"epochs\":1,\"rounds\":{rounds},\"seed\":0,\"submit\":[{{\"node\":0,\"tx\":\"6869\"}}]}}"
+    )?;
+    let answer = run(rt, alloc, scenario.as_str())?;
+    has_first_bytes(alloc, &answer.report, 0, votes)
 }
 
 // One node casts each vote once, and each round has the same five: of three rounds there are 23, of two 15.
@@ -238,14 +245,9 @@ fn histories_of_one_node(rt: HostRuntime) -> Result<(), Fail> {
     let three =
         b"\x10\x01\x02\x03\x04\x05\x06\x07\x08\x09\x05\x06\x07\x08\x09\x05\x06\x07\x08\x09\x0a\x11\x12";
     let two = b"\x10\x01\x02\x03\x04\x05\x06\x07\x08\x09\x05\x06\x07\x08\x09";
-    assert!(rt; TWO_ROUNDS.are_all_zero(alloc)? && THREE_ROUNDS.have_both_bits(alloc)?);
+    assert!(rt; TWO_ROUNDS.are_all_zero(alloc)? && ONE_COINS.have_both_bits(alloc)?);
     for (rounds, votes) in [(3, three.as_slice()), (2, two.as_slice())] {
-        let scenario = format!(in alloc;
-            "{{\"nodes\":1,\"faulty\":0,\"epochs\":1,\"rounds\":{rounds},\"seed\":0,\"submit\":[{{\"node\":0,\"tx\":\"6869\"}}]}}"
-        )?;
-        let answer = run(&rt, alloc, scenario.as_str())?;
-        let found = first_bytes(alloc, &answer.report, 0)?;
-        assert_eq!(rt; found.as_slice(), votes, "{rounds} rounds");
+        assert!(rt; has_votes(&rt, alloc, rounds, votes)?, "{rounds} rounds");
     }
     Ok(())
 }

@@ -1,16 +1,12 @@
 //! Takes and puts that fail.
 
-use crate::calls::{Answer, Host, Request, call, check_none, check_ran};
-use crate::texts::{ONE_COINS, ONE_FALLS};
+use crate::accusing::ALONE;
+use crate::calls::{Host, Request, call, check_no_run, check_run};
+use crate::texts::check_one_coins;
 use std::alloc::{AllocError, Global};
-use std::process::Abort;
 use std::test::Fail;
 
-// One node with one transaction.
-const ONE: &str =
-    r#"{"nodes":1,"faulty":0,"epochs":1,"rounds":3,"seed":0,"submit":[{"node":0,"tx":"6869"}]}"#;
-
-// The lines of its run.
+// The lines of the run of one node with one transaction.
 const LINES: [&str; 6] = [
     "run nodes 1 faulty 0 version 1 epochs 1\n",
     "node 0 running\n",
@@ -47,10 +43,9 @@ fn takes_that_fail(rt: HostRuntime) -> Result<(), Fail> {
                 piece: 16,
                 take,
                 tell,
-                ..Request::new(&["run"], ONE)
+                ..Request::new(&["run"], ALONE)
             };
-            let answer = call(&rt, rt.alloc(), &given)?;
-            check_none(&rt, &answer, status, told, told);
+            check_no_run(&rt, rt.alloc(), &given, (status, "", told), told)?;
         }
     }
     Ok(())
@@ -58,27 +53,36 @@ fn takes_that_fail(rt: HostRuntime) -> Result<(), Fail> {
 
 #[test]
 fn pieces(rt: HostRuntime) -> Result<(), Fail> {
-    assert!(rt; ONE_COINS.begin_with(rt.alloc(), 0, &ONE_FALLS)?);
+    check_one_coins(&rt, rt.alloc())?;
     let text = joined(rt.alloc(), &LINES)?;
     for piece in [1, 2, 3, 16, 86, 87, 88] {
         let given = Request {
             piece,
             take: 100,
-            ..Request::new(&["run"], ONE)
+            ..Request::new(&["run"], ALONE)
         };
-        let answer = call(&rt, rt.alloc(), &given)?;
-        check_ran(&rt, &answer, 0, text.as_str(), "pieces");
+        check_run(&rt, rt.alloc(), &given, (0, text.as_str()), "pieces")?;
     }
     Ok(())
 }
 
 // The run itself came to its end: its status is in the report.
-fn check_cut(rt: &impl Abort, answer: &Answer, front: &str, told: &str) {
-    assert_eq!(rt; answer.status, 7);
-    assert_eq!(rt; answer.report.status, 0);
-    assert_eq!(rt; answer.report.history.len(), 23);
-    assert_eq!(rt; answer.out.held(), front.as_bytes());
-    assert_eq!(rt; answer.err.held(), told.as_bytes());
+fn check_cut(
+    rt: &impl Host,
+    alloc: Global,
+    given: &Request<'_>,
+    front: &str,
+    told: &str,
+) -> Result<(), AllocError> {
+    let answer = call(rt, alloc, given)?;
+    assert!(rt;
+        answer.status == 7
+            && answer.report.status == 0
+            && answer.report.history.len() == 23
+            && answer.out.held() == front.as_bytes()
+            && answer.err.held() == told.as_bytes()
+    );
+    Ok(())
 }
 
 // Where a put fails, the lines before it have been put.
@@ -97,30 +101,22 @@ fn check_puts(
             let given = Request {
                 put,
                 tell,
-                ..Request::new(&words, ONE)
+                ..Request::new(&words, ALONE)
             };
-            let answer = call(rt, alloc, &given)?;
-            check_cut(rt, &answer, front.as_str(), told);
+            check_cut(rt, alloc, &given, front.as_str(), told)?;
         }
         front.push_str(line)?;
     }
     let given = Request {
         put: 7,
-        ..Request::new(&words, ONE)
+        ..Request::new(&words, ALONE)
     };
-    check_ran(
-        rt,
-        &call(rt, alloc, &given)?,
-        0,
-        front.as_str(),
-        "seventh put",
-    );
-    Ok(())
+    check_run(rt, alloc, &given, (0, front.as_str()), "seventh put")
 }
 
 #[test]
 fn puts_that_fail(rt: HostRuntime) -> Result<(), Fail> {
-    assert!(rt; ONE_COINS.begin_with(rt.alloc(), 0, &ONE_FALLS)?);
+    check_one_coins(&rt, rt.alloc())?;
     check_puts(&rt, rt.alloc(), "run", LINES)?;
     check_puts(&rt, rt.alloc(), "observe", OBSERVED)?;
     Ok(())

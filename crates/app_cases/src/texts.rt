@@ -1,7 +1,10 @@
-//! Scenarios of four nodes that submit a transaction each, and the texts of runs.
+//! Scenarios of four nodes that submit a transaction each, keys of scenarios, the coins of the four nodes and of one alone, and the
+//! texts of runs.
 
 use crate::calls::Coins;
 use std::alloc::{AllocError, Global};
+use std::process::Abort;
+use std::test::Fail;
 
 // Four nodes, of which one may be faulty, with a transaction each, up to what else the scenario has.
 const FOUR: &str =
@@ -16,7 +19,35 @@ pub(crate) fn four(alloc: Global, keys: &str) -> Result<String, AllocError> {
     Ok(scenario)
 }
 
-// Their coins, where the scenario names no other seed.
+// Keys that stop an actor at a call of its disk.
+pub(crate) fn stop_at(
+    alloc: Global,
+    node: u8,
+    actor: u8,
+    call: u32,
+    leave: &str,
+) -> Result<String, AllocError> {
+    format!(in alloc;
+        ",\"stops\":[{{\"node\":{node},\"actor\":{actor},\"call\":{call},\"leave\":\"{leave}\"}}]"
+    )
+}
+
+// Keys that have a call of an actor's disk fail.
+pub(crate) fn fault_at(
+    alloc: Global,
+    node: u8,
+    actor: u8,
+    call: u32,
+) -> Result<String, AllocError> {
+    format!(in alloc; ",\"faults\":[{{\"node\":{node},\"actor\":{actor},\"call\":{call}}}]")
+}
+
+// Keys that make a node a liar of this name.
+pub(crate) fn liar_at(alloc: Global, node: u8, name: &str) -> Result<String, AllocError> {
+    format!(in alloc; ",\"liars\":[{{\"node\":{node},\"name\":\"{name}\"}}]")
+}
+
+// The coins of the four nodes, where the scenario names no other seed.
 pub(crate) const FOUR_COINS: Coins = Coins {
     nodes: 4,
     faulty: 1,
@@ -24,6 +55,12 @@ pub(crate) const FOUR_COINS: Coins = Coins {
     rounds: 32,
     seed: 0,
 };
+
+// Checks that those coins fall so that each lane can decide.
+pub(crate) fn check_four_coins(rt: &impl Abort, alloc: Global) -> Result<(), Fail> {
+    assert!(rt; FOUR_COINS.have_both_bits(alloc)?);
+    Ok(())
+}
 
 // The coins of one node that is alone for one epoch of three rounds with the seed 0: 0, 0 and 1. So it decides 1 in the last.
 pub(crate) const ONE_COINS: Coins = Coins {
@@ -34,7 +71,13 @@ pub(crate) const ONE_COINS: Coins = Coins {
     seed: 0,
 };
 
-pub(crate) const ONE_FALLS: [bool; 3] = [false, false, true];
+const ONE_FALLS: [bool; 3] = [false, false, true];
+
+// Checks that the coins of that node fall so.
+pub(crate) fn check_one_coins(rt: &impl Abort, alloc: Global) -> Result<(), Fail> {
+    assert!(rt; ONE_COINS.begin_with(alloc, 0, &ONE_FALLS)?);
+    Ok(())
+}
 
 // The first line of a run of the four nodes.
 pub(crate) const FOUR_FRONT: &str = "run nodes 4 faulty 1 version 1 epochs 1\n";

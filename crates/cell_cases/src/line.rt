@@ -38,12 +38,16 @@ fn taken(
     Ok(posts)
 }
 
+// Whether the posts that are taken are these.
+fn are_taken(alloc: Global, order: Order, posts: &[u32]) -> Result<bool, AllocError> {
+    let mut line = four_posts(alloc)?;
+    let taken = taken(alloc, &mut line, order, &mut words_of(7, 1))?;
+    Ok(taken.as_slice() == posts)
+}
+
 #[test]
 fn late_ones_come_last(rt: HostRuntime) -> Result<(), Fail> {
-    let alloc = rt.alloc();
-    let mut line = four_posts(alloc)?;
-    let posts = taken(alloc, &mut line, Order::Fifo, &mut words_of(7, 1))?;
-    assert_eq!(rt; posts.as_slice(), [0, 1, 1, 4, 2].as_slice());
+    assert!(rt; are_taken(rt.alloc(), Order::Fifo, &[0, 1, 1, 4, 2])?);
     Ok(())
 }
 
@@ -51,9 +55,6 @@ fn late_ones_come_last(rt: HostRuntime) -> Result<(), Fail> {
 // 2 modulo 3, 1 modulo 2.
 #[test]
 fn words_mix(rt: HostRuntime) -> Result<(), Fail> {
-    let alloc = rt.alloc();
-    let mut line = four_posts(alloc)?;
-    let posts = taken(alloc, &mut line, Order::Mixed, &mut words_of(7, 1))?;
-    assert_eq!(rt; posts.as_slice(), [0, 4, 1, 1, 2].as_slice());
+    assert!(rt; are_taken(rt.alloc(), Order::Mixed, &[0, 4, 1, 1, 2])?);
     Ok(())
 }

@@ -143,25 +143,47 @@ fn is_complete(taken: &[u32]) -> bool {
     low == EACH && high == 2 * EACH
 }
 
+// Takes three times by the passes at a place.
+fn take_thrice<R: Wait>(rt: &R, boxes: &Boxes, all: &mut Vec<Passes>, at: usize) -> [Option<u32>; 3]
+    requires passes { All (ArePassesOf boxes.now) all.old.items }
+    ensures passes { All (ArePassesOf boxes.now) all.new.items }
+{
+    let one = take(rt, boxes, all, at);
+    let two = take(rt, boxes, all, at);
+    let three = take(rt, boxes, all, at);
+    [one, two, three]
+}
+
+// Whether five numbers are put, of which three come from lane 0 of node 0 and two from the liar.
+fn put_five<R: Wait>(rt: &R, boxes: &Boxes, all: &mut Vec<Passes>) -> [bool; 5]
+    requires passes { All (ArePassesOf boxes.now) all.old.items }
+    ensures passes { All (ArePassesOf boxes.now) all.new.items }
+{
+    let one = put(rt, boxes, all, 0, (1, 2), 7).is_ok();
+    let two = put(rt, boxes, all, 0, (3, 0), 8).is_ok();
+    let three = put(rt, boxes, all, 0, (3, 4), 9).is_ok();
+    let four = put(rt, boxes, all, LIAR, (1, 2), 11).is_ok();
+    let five = put(rt, boxes, all, LIAR, (0, 4), 12).is_ok();
+    [one, two, three, four, five]
+}
+
 #[test]
 fn one_thread(rt: HostRuntime) -> Result<(), Fail> {
     let config = four().expect(&rt, "a config");
     let (boxes, mut all) = Boxes::new(rt.alloc(), &config)?;
-    assert_eq!(rt; all.len(), 16);
-    let lane = NODE_1 + 2;
-    assert_eq!(rt; put(&rt, &boxes, &mut all, 0, (1, 2), 7), Ok(()));
-    assert_eq!(rt; put(&rt, &boxes, &mut all, 0, (3, 0), 8), Ok(()));
-    assert_eq!(rt; put(&rt, &boxes, &mut all, 0, (3, 4), 9), Ok(()));
-    assert_eq!(rt; put(&rt, &boxes, &mut all, LIAR, (1, 2), 11), Ok(()));
-    assert_eq!(rt; put(&rt, &boxes, &mut all, LIAR, (0, 4), 12), Ok(()));
-    assert_eq!(rt; take(&rt, &boxes, &mut all, lane), Some(7));
-    assert_eq!(rt; take(&rt, &boxes, &mut all, lane), Some(11));
-    assert_eq!(rt; take(&rt, &boxes, &mut all, lane), None);
-    assert_eq!(rt; take(&rt, &boxes, &mut all, LIAR), Some(8));
-    assert_eq!(rt; take(&rt, &boxes, &mut all, LIAR), Some(9));
-    assert_eq!(rt; take(&rt, &boxes, &mut all, LIAR), None);
-    assert_eq!(rt; take(&rt, &boxes, &mut all, 4), Some(12));
-    assert_eq!(rt; take(&rt, &boxes, &mut all, 0), None);
+    let count = all.len();
+    let are_put = put_five(&rt, &boxes, &mut all);
+    let by_lane = take_thrice(&rt, &boxes, &mut all, NODE_1 + 2);
+    let by_liar = take_thrice(&rt, &boxes, &mut all, LIAR);
+    let by_desk = take(&rt, &boxes, &mut all, 4);
+    let by_first = take(&rt, &boxes, &mut all, 0);
+    assert!(rt; count == 16 && are_put == [true, true, true, true, true]);
+    assert!(rt;
+        by_lane == [Some(7), Some(11), None]
+            && by_liar == [Some(8), Some(9), None]
+            && by_desk == Some(12)
+            && by_first == None
+    );
     Ok(())
 }
 
@@ -182,16 +204,12 @@ fn two_senders(rt: HostRuntime) -> Result<(), Fail> {
 #[test]
 fn marks(rt: HostRuntime) -> Result<(), Fail> {
     let mut marks = Marks::new();
-    assert!(rt; !marks.has(15, 16));
+    let is_new = !marks.has(15, 16);
     marks.note(15, 16);
     marks.note(0, 3);
     let copy = marks;
-    assert!(rt; copy.has(15, 16));
-    assert!(rt; copy.has(0, 3));
-    assert!(rt; !copy.has(3, 0));
-    assert!(rt; !copy.has(0, 16));
-    assert!(rt; !copy.has(16, 16));
-    assert!(rt; !copy.has(0, 17));
+    assert!(rt; is_new && copy.has(15, 16) && copy.has(0, 3));
+    assert!(rt; !copy.has(3, 0) && !copy.has(0, 16) && !copy.has(16, 16) && !copy.has(0, 17));
     Ok(())
 }
 
@@ -233,17 +251,6 @@ fn post_of(alloc: Global, from: u8) -> Result<Post, AllocError> {
     })
 }
 
-// Two numbers are taken by the passes at a place, and no third.
-fn takes_two<R: Wait>(rt: &R, boxes: &Boxes, all: &mut Vec<Passes>, at: usize) -> [Option<u32>; 3]
-    requires passes { All (ArePassesOf boxes.now) all.old.items }
-    ensures passes { All (ArePassesOf boxes.now) all.new.items }
-{
-    let one = take(rt, boxes, all, at);
-    let two = take(rt, boxes, all, at);
-    let three = take(rt, boxes, all, at);
-    [one, two, three]
-}
-
 #[test]
 fn sends_by_shape(rt: HostRuntime) -> Result<(), Fail> {
     let config = four().expect(&rt, "a config");
@@ -254,17 +261,16 @@ fn sends_by_shape(rt: HostRuntime) -> Result<(), Fail> {
     let post = post_of(rt.alloc(), 0)?;
     mail.send(&rt, &script, &post, 7);
     // Lane 2 of the nodes 0, 1 and 2, and node 3, whose passes send.
-    assert_eq!(rt; takes_two(&rt, &boxes, &mut all, 2), [Some(7), None, None]);
-    assert_eq!(rt;
-        takes_two(&rt, &boxes, &mut all, NODE_1 + 2),
-        [Some(7), Some(7), None]
+    let of_0 = take_thrice(&rt, &boxes, &mut all, 2);
+    let of_1 = take_thrice(&rt, &boxes, &mut all, NODE_1 + 2);
+    let of_2 = take_thrice(&rt, &boxes, &mut all, NODE_1 + 7);
+    let of_3 = [mail.take(&rt), mail.take(&rt)];
+    assert!(rt;
+        of_0 == [Some(7), None, None]
+            && of_1 == [Some(7), Some(7), None]
+            && of_2 == [None, None, None]
+            && of_3 == [Some(7), None]
     );
-    assert_eq!(rt;
-        takes_two(&rt, &boxes, &mut all, NODE_1 + 7),
-        [None, None, None]
-    );
-    assert_eq!(rt; mail.take(&rt), Some(7));
-    assert_eq!(rt; mail.take(&rt), None);
     assert!(rt; !mail.noted().has(0, 2) && !mail.noted().has(1, 2));
     Ok(())
 }
@@ -275,11 +281,20 @@ fn arrivals(rt: HostRuntime) -> Result<(), Fail> {
     let script = script_of(rt.alloc(), config)?;
     let own = Some(post_of(rt.alloc(), 0)?);
     let lie = Some(post_of(rt.alloc(), 3)?);
-    assert_eq!(rt; arrival_found(&script, &own, 0, 2, 7), Arrival::Prompt);
-    assert_eq!(rt; arrival_found(&script, &own, 0, 1, 7), Arrival::Aside);
-    assert_eq!(rt; arrival_found(&script, &own, 1, 2, 7), Arrival::Prompt);
-    assert_eq!(rt; arrival_found(&script, &own, 2, 2, 7), Arrival::Aside);
-    assert_eq!(rt; arrival_found(&script, &lie, 0, 2, 7), Arrival::Late);
-    assert_eq!(rt; arrival_found(&script, &None, 0, 2, 7), Arrival::Aside);
+    let of_own = [
+        arrival_found(&script, &own, 0, 2, 7),
+        arrival_found(&script, &own, 0, 1, 7),
+        arrival_found(&script, &own, 1, 2, 7),
+        arrival_found(&script, &own, 2, 2, 7),
+    ];
+    let of_lie = arrival_found(&script, &lie, 0, 2, 7);
+    let of_none = arrival_found(&script, &None, 0, 2, 7);
+    let wanted = [
+        Arrival::Prompt,
+        Arrival::Aside,
+        Arrival::Prompt,
+        Arrival::Aside,
+    ];
+    assert!(rt; of_own == wanted && of_lie == Arrival::Late && of_none == Arrival::Aside);
     Ok(())
 }

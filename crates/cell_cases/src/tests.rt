@@ -61,11 +61,13 @@ fn one_post_and_then_none(rt: HostRuntime) -> Result<(), Fail> {
     let config = four(3).expect(&rt, "a config");
     let script = plain_script(rt.alloc(), config);
     let turns = turns::<Brand, HostRuntime>(&rt, rt.alloc(), &script)?.expect(&rt, "turns");
-    assert_eq!(rt; turns.one, Served::Did);
-    assert_eq!(rt; turns.two, Served::Idle);
-    assert_eq!(rt; turns.fate, Fate::Running);
-    assert_eq!(rt; turns.entered, 1);
-    assert_eq!(rt; turns.got, 1);
+    assert!(rt;
+        turns.one == Served::Did
+            && turns.two == Served::Idle
+            && turns.fate == Fate::Running
+            && turns.entered == 1
+            && turns.got == 1
+    );
     Ok(())
 }
 
@@ -89,12 +91,8 @@ fn a_liar_that_hears_two_posts(rt: HostRuntime) -> Result<(), Fail> {
     let config = four(0).expect(&rt, "a config");
     let script = plain_script(rt.alloc(), config);
     let turns = liar_turns::<Brand, HostRuntime>(&rt, rt.alloc(), &script, 2)?.expect(&rt, "turns");
-    assert_eq!(rt;
-        turns.served,
-        [Served::Did, Served::Did, Served::Did, Served::Idle]
-    );
-    assert_eq!(rt; turns.entered, 3);
-    assert_eq!(rt; turns.posts, 3);
+    let served = [Served::Did, Served::Did, Served::Did, Served::Idle];
+    assert!(rt; turns.served == served && turns.entered == 3 && turns.posts == 3);
     Ok(())
 }
 
@@ -103,11 +101,7 @@ fn a_liar_that_hears_nothing(rt: HostRuntime) -> Result<(), Fail> {
     let config = four(0).expect(&rt, "a config");
     let script = plain_script(rt.alloc(), config);
     let turns = liar_turns::<Brand, HostRuntime>(&rt, rt.alloc(), &script, 0)?.expect(&rt, "turns");
-    assert_eq!(rt;
-        turns.served,
-        [Served::Did, Served::Idle, Served::Idle, Served::Idle]
-    );
-    assert_eq!(rt; turns.entered, 1);
-    assert_eq!(rt; turns.posts, 1);
+    let served = [Served::Did, Served::Idle, Served::Idle, Served::Idle];
+    assert!(rt; turns.served == served && turns.entered == 1 && turns.posts == 1);
     Ok(())
 }

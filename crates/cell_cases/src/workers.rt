@@ -24,7 +24,7 @@ fn workers_end_when_all_is_done(rt: HostRuntime) -> Result<(), Fail> {
         2,
         &|_node: usize, _worker: usize| take_one(&rt, &left),
     );
-    assert_eq!(rt; left.into_inner(), 0);
+    assert!(rt; left.into_inner() == 0);
     Ok(())
 }
 
@@ -37,7 +37,7 @@ fn no_nodes(rt: HostRuntime) -> Result<(), Fail> {
         2,
         &|_node: usize, _worker: usize| take_one(&rt, &left),
     );
-    assert_eq!(rt; left.into_inner(), 1);
+    assert!(rt; left.into_inner() == 1);
     Ok(())
 }
 
@@ -74,7 +74,7 @@ fn the_first_wait_for_the_last(rt: HostRuntime) -> Result<(), Fail> {
         2,
         &|node: usize, _worker: usize| put_or_take(&rt, &left, &rounds, node),
     );
-    assert_eq!(rt; left.into_inner(), 0);
+    assert!(rt; left.into_inner() == 0);
     Ok(())
 }
 
@@ -113,7 +113,7 @@ fn a_token_goes_round(rt: HostRuntime) -> Result<(), Fail> {
             &|node: usize, _worker: usize| hand_on(&rt, &token, node),
         );
         let left = token.into_inner();
-        assert_eq!(rt; left.hops, 0);
+        assert!(rt; left.hops == 0);
     }
     Ok(())
 }

@@ -33,14 +33,19 @@ fn submitted(alloc: Global, letters: &str) -> Result<Vec<Bytes>, Fail>
     Ok(txs)
 }
 
+// What a desk to which these were submitted casts first.
+fn first_due(alloc: Global, letters: &str, batch: u8) -> Result<Due, Fail> {
+    let config = Config::new(1, 0, 2, 1, batch, 0, 1, NodeSet::new()).ok_or("no config")?;
+    let mut core = DeskCore::new(&config, 0, submitted(alloc, letters)?);
+    let mut due = Due::new(alloc);
+    core.rebuild(alloc, &[], &mut due)?;
+    Ok(due)
+}
+
 #[test]
 fn first_proposals(rt: HostRuntime) -> Result<(), Fail> {
-    let alloc = rt.alloc();
     for &(letters, batch, wanted) in &CASES {
-        let config = Config::new(1, 0, 2, 1, batch, 0, 1, NodeSet::new()).ok_or("no config")?;
-        let mut core = DeskCore::new(&config, 0, submitted(alloc, letters)?);
-        let mut due = Due::new(alloc);
-        core.rebuild(alloc, &[], &mut due)?;
+        let due = first_due(rt.alloc(), letters, batch)?;
         match due.votes() {
             [Vote::Propose { epoch: 0, value }] => {
                 assert!(rt; value.as_slice() == wanted, "what is proposed of {letters}");

@@ -6,6 +6,13 @@ use std::alloc::{AllocError, Global};
 use std::test::Fail;
 use tx_pool::{Pool, Submitted};
 
+// Settles one transaction.
+fn settle_one(alloc: Global, pool: &mut Pool, tx: &[u8]) -> Result<(), AllocError> {
+    let mut txs = Vec::new(alloc);
+    txs.push(Bytes::copy(alloc, tx)?)?;
+    pool.settle(txs.as_slice())
+}
+
 // A pool that was told this script: a small letter is submitted, a great one settles its small one. The answers are
 // told as A and K, and the pooled transactions as their letters.
 fn told(alloc: Global, script: &[u8]) -> Result<(Vec<u8>, Vec<u8>), AllocError> {
@@ -14,9 +21,7 @@ fn told(alloc: Global, script: &[u8]) -> Result<(Vec<u8>, Vec<u8>), AllocError> 
     for letter in script {
         let tx = [letter.to_ascii_lowercase()];
         if letter.is_ascii_uppercase() {
-            let mut txs = Vec::new(alloc);
-            txs.push(Bytes::copy(alloc, &tx)?)?;
-            pool.settle(txs.as_slice())?;
+            settle_one(alloc, &mut pool, &tx)?;
         } else {
             let answer = match pool.submit(&tx)? {
                 Submitted::Added => b'A',
@@ -53,12 +58,9 @@ fn scripts(rt: HostRuntime) -> Result<(), Fail> {
     ] {
         let (told_answers, told_pooled) = told(alloc, script.as_bytes())?;
         assert!(rt;
-            told_answers.as_slice() == answers.as_bytes(),
-            "answers to {script}"
-        );
-        assert!(rt;
-            told_pooled.as_slice() == pooled.as_bytes(),
-            "pooled after {script}"
+            told_answers.as_slice() == answers.as_bytes()
+                && told_pooled.as_slice() == pooled.as_bytes(),
+            "answers to {script}, or what is pooled after it"
         );
     }
     Ok(())
@@ -108,15 +110,27 @@ fn numbered(alloc: Global, first: u32, step: u32, count: u32) -> Result<Vec<Byte
     Ok(txs)
 }
 
-// Whether transactions are numbers, from a first one on, each so much above the one before.
-fn are_numbered(txs: &[Bytes], first: u32, step: u32) -> bool {
-    let mut all = true;
+// Whether transactions are so many numbers, from a first one on, each so much above the one before.
+fn are_numbered(txs: &[Bytes], count: usize, first: u32, step: u32) -> bool {
+    let mut all = txs.len() == count;
     let mut number = first;
     for tx in txs {
         all &= tx.as_slice() == number.to_be_bytes().as_slice();
         number = number.saturating_add(step);
     }
     all
+}
+
+// Settles numbers as `numbered` makes them.
+fn settle_numbered(
+    alloc: Global,
+    pool: &mut Pool,
+    first: u32,
+    step: u32,
+    count: u32,
+) -> Result<(), AllocError> {
+    let txs = numbered(alloc, first, step, count)?;
+    pool.settle(txs.as_slice())
 }
 
 // A pool of so many numbers.
@@ -132,12 +146,10 @@ fn full(alloc: Global, numbers: u32) -> Result<Option<Pool>, AllocError> {
 #[test]
 fn ten_thousand_submitted(rt: HostRuntime) -> Result<(), Fail> {
     let mut pool = full(rt.alloc(), 10_000)?.ok_or("a fresh one was known")?;
-    assert_eq!(rt; pool.pooled().len(), 10_000);
-    assert!(rt; are_numbered(pool.pooled(), 0, 1));
-    assert!(rt; are_answered(&mut pool, 10_000, Submitted::Known)?);
+    let are_pooled = are_numbered(pool.pooled(), 10_000, 0, 1);
+    let are_known = are_answered(&mut pool, 10_000, Submitted::Known)?;
     let oldest = pool.oldest(255)?;
-    assert_eq!(rt; oldest.len(), 255);
-    assert!(rt; are_numbered(oldest.as_slice(), 0, 1));
+    assert!(rt; are_pooled && are_known && are_numbered(oldest.as_slice(), 255, 0, 1));
     Ok(())
 }
 
@@ -146,13 +158,10 @@ fn ten_thousand_settled(rt: HostRuntime) -> Result<(), Fail> {
     let alloc = rt.alloc();
     let mut pool = full(alloc, 10_000)?.ok_or("a fresh one was known")?;
     // The even ones, and as many that were never submitted.
-    let even = numbered(alloc, 0, 2, 10_000)?;
-    pool.settle(even.as_slice())?;
-    assert_eq!(rt; pool.pooled().len(), 5_000);
-    assert!(rt; are_numbered(pool.pooled(), 1, 2));
-    assert!(rt; are_answered(&mut pool, 10_000, Submitted::Known)?);
-    let odd = numbered(alloc, 1, 2, 5_000)?;
-    pool.settle(odd.as_slice())?;
-    assert_eq!(rt; pool.pooled().len(), 0);
+    settle_numbered(alloc, &mut pool, 0, 2, 10_000)?;
+    let are_odd = are_numbered(pool.pooled(), 5_000, 1, 2);
+    let are_known = are_answered(&mut pool, 10_000, Submitted::Known)?;
+    settle_numbered(alloc, &mut pool, 1, 2, 5_000)?;
+    assert!(rt; are_odd && are_known && pool.pooled().is_empty());
     Ok(())
 }

@@ -79,14 +79,19 @@ fn outcome(alloc: Global, case: &Case, own: &[Vote]) -> Result<Vec<u8>, Fail> {
     Ok(text)
 }
 
+// Whether a desk that has cast these votes casts what is wanted in the run of a case.
+fn casts(alloc: Global, case: &Case, own: &[Vote], wanted: &[u8]) -> Result<bool, Fail> {
+    let text = outcome(alloc, case, own)?;
+    Ok(text.as_slice() == wanted)
+}
+
 #[test]
 fn runs(rt: HostRuntime) -> Result<(), Fail> {
     let alloc = rt.alloc();
     for case in &CASES {
         let own = votes_of(alloc, case.own)?;
-        let text = outcome(alloc, case, &own)?;
         assert!(rt;
-            text.as_slice() == case.wanted.as_bytes(),
+            casts(alloc, case, &own, case.wanted.as_bytes())?,
             "the run {}",
             case.script
         );
@@ -132,15 +137,19 @@ fn again(
     Ok((votes, text))
 }
 
+// Whether a desk that is rebuilt after so many answers, and the front of the next if that is cut, casts what is wanted.
+fn casts_again(alloc: Global, case: &Case, answers: usize, is_cut: bool) -> Result<bool, Fail> {
+    let (own, wanted) = again(alloc, case, answers, is_cut)?;
+    casts(alloc, case, &own, wanted.as_slice())
+}
+
 #[test]
 fn rebuilt_after_each_call(rt: HostRuntime) -> Result<(), Fail> {
     let alloc = rt.alloc();
     for case in &CASES {
         for answers in 0..case.wanted.split(' ').count() {
-            let (own, wanted) = again(alloc, case, answers.saturating_add(1), false)?;
-            let text = outcome(alloc, case, &own)?;
             assert!(rt;
-                text.as_slice() == wanted.as_slice(),
+                casts_again(alloc, case, answers.saturating_add(1), false)?,
                 "{} after {answers} answers",
                 case.script
             );
@@ -157,10 +166,8 @@ fn rebuilt_before_a_closing(rt: HostRuntime) -> Result<(), Fail> {
         for (answers, answer) in case.wanted.split(' ').enumerate() {
             let (front, _) = cut(answer);
             if !front.is_empty() {
-                let (own, wanted) = again(alloc, case, answers, true)?;
-                let text = outcome(alloc, case, &own)?;
                 assert!(rt;
-                    text.as_slice() == wanted.as_slice(),
+                    casts_again(alloc, case, answers, true)?,
                     "{} after {answers} answers and {front}",
                     case.script
                 );
@@ -168,6 +175,6 @@ fn rebuilt_before_a_closing(rt: HostRuntime) -> Result<(), Fail> {
             }
         }
     }
-    assert_eq!(rt; places, 4);
+    assert!(rt; places == 4);
     Ok(())
 }

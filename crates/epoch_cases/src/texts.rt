@@ -107,6 +107,12 @@ fn vote_of(alloc: Global, text: &[u8]) -> Result<Vote, Fail> {
     }
 }
 
+// Adds an item of this lane to a list, with the batch of these letters.
+fn push_item(alloc: Global, items: &mut Items, node: u8, letters: &[u8]) -> Result<(), AllocError> {
+    let value = batch_of(alloc, letters)?;
+    items.push(Item { node, value })
+}
+
 // The items that a text tells: the digit of a lane, and letters, for each.
 fn items_of(alloc: Global, text: &[u8]) -> Result<Items, AllocError> {
     let mut items = Items::new(alloc);
@@ -116,10 +122,7 @@ fn items_of(alloc: Global, text: &[u8]) -> Result<Items, AllocError> {
     for byte in text {
         if byte.is_ascii_digit() {
             if is_begun {
-                items.push(Item {
-                    node,
-                    value: batch_of(alloc, &letters)?,
-                })?;
+                push_item(alloc, &mut items, node, &letters)?;
             }
             node = byte.saturating_sub(b'0');
             letters.clear();
@@ -129,10 +132,7 @@ fn items_of(alloc: Global, text: &[u8]) -> Result<Items, AllocError> {
         }
     }
     if is_begun {
-        items.push(Item {
-            node,
-            value: batch_of(alloc, &letters)?,
-        })?;
+        push_item(alloc, &mut items, node, &letters)?;
     }
     Ok(items)
 }

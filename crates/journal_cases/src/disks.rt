@@ -24,19 +24,19 @@ fn a_stop_leaves_old_new_or_torn(rt: HostRuntime) -> Result<(), Fail> {
         (Leave::Torn, [1, 0x5A, 3]),
     ] {
         let mut disk = MemoryDisk::new(alloc, planned(alloc, &[Stop { call: 2, leave }], &[])?);
-        assert_eq!(rt; disk.note().calls(), 0);
+        let first_calls = disk.note().calls();
         disk.write_at(Half::A, 0, &[1, 2, 3])?;
-        assert_eq!(rt; disk.stops_left(), 1);
-        assert_eq!(rt; disk.sync(), Err(DiskFault::Failed));
-        assert_eq!(rt; disk.stops_left(), 0);
-        assert_eq!(rt; disk.read(Half::A, 0, &mut [0; 3]), Err(DiskFault::Failed));
-        assert_eq!(rt; disk.note().calls(), 2);
-        assert!(rt; disk.is_off());
+        let first_stops = disk.stops_left();
+        let synced = disk.sync().err();
+        let stops = disk.stops_left();
+        let read = disk.read(Half::A, 0, &mut [0; 3]).err();
+        let counts = (first_calls, first_stops, stops, disk.note().calls());
+        let failed = Some(DiskFault::Failed);
+        assert!(rt; counts == (0, 1, 0, 2) && synced == failed && read == failed && disk.is_off());
         disk.switch_on()?;
         let mut bytes = [9; 3];
         disk.read(Half::A, 0, &mut bytes)?;
-        assert_eq!(rt; bytes, want);
-        assert_eq!(rt; disk.note().calls(), 3);
+        assert!(rt; bytes == want && disk.note().calls() == 3);
     }
     Ok(())
 }
@@ -50,18 +50,22 @@ fn a_fault_changes_nothing(rt: HostRuntime) -> Result<(), Fail> {
         leave: Leave::Torn,
     };
     let mut disk = MemoryDisk::new(alloc, planned(alloc, &[stop], &[1, 3, 4])?);
-    assert_eq!(rt; disk.write_at(Half::B, 0, &[5]), Err(DiskFault::Failed));
-    assert!(rt; !disk.is_off());
+    let written = (disk.write_at(Half::B, 0, &[5]).err(), disk.is_off());
     disk.write_at(Half::B, 0, &[1, 2, 3, 4])?;
-    assert_eq!(rt; disk.sync(), Err(DiskFault::Failed));
-    assert!(rt; !disk.is_off());
-    assert_eq!(rt; disk.sync(), Err(DiskFault::Failed));
-    assert!(rt; disk.is_off());
+    let synced = (disk.sync().err(), disk.is_off());
+    let stopped = disk.sync().err();
+    let failed = Some(DiskFault::Failed);
+    assert!(rt;
+        written == (failed, false)
+            && synced == (failed, false)
+            && stopped == failed
+            && disk.is_off()
+    );
     disk.switch_on()?;
     let mut bytes = [9; 6];
-    assert_eq!(rt; disk.read(Half::B, 0, &mut bytes)?, 4);
-    assert_eq!(rt; bytes, [1, 0x5A, 3, 0x5A, 9, 9]);
-    assert_eq!(rt; disk.read(Half::A, 0, &mut bytes)?, 0);
+    let held = disk.read(Half::B, 0, &mut bytes)?;
+    let held_by_a = disk.read(Half::A, 0, &mut [0; 6])?;
+    assert!(rt; held == 4 && bytes == [1, 0x5A, 3, 0x5A, 9, 9] && held_by_a == 0);
     Ok(())
 }
 
@@ -79,12 +83,12 @@ fn a_cut_comes_back(rt: HostRuntime) -> Result<(), Fail> {
         disk.sync()?;
         disk.cut(Half::A, 2)?;
         disk.write_at(Half::A, 2, &[6, 7])?;
-        assert_eq!(rt; disk.sync(), Err(DiskFault::Failed));
-        assert!(rt; disk.is_off());
+        let synced = disk.sync().err();
+        assert!(rt; synced == Some(DiskFault::Failed) && disk.is_off());
         disk.switch_on()?;
         let mut bytes = [9; 4];
         disk.read(Half::A, 0, &mut bytes)?;
-        assert_eq!(rt; bytes, want);
+        assert!(rt; bytes == want);
         disk.sync()?;
     }
     Ok(())

@@ -116,17 +116,20 @@ fn many_entries_are_folded_into_one(rt: HostRuntime) -> Result<(), Fail> {
     let alloc = rt.alloc();
     let (journal, before) = folded(alloc, 64)?;
     let counts = (before, (journal.entries(), journal.bytes()));
-    assert_eq!(rt; counts, ((64, 256), (1, 256)));
-    assert_eq!(rt; journal.disk().note().calls(), 6 + 4 * 64 + 9);
+    let calls = journal.disk().note().calls();
     let mut disk = journal.into_disk();
     let mut bytes = [0; 300];
     let held = (
         disk.read(Half::A, 0, &mut bytes)?,
         disk.read(Half::B, 0, &mut bytes)?,
     );
-    assert_eq!(rt; held, (9, 270));
-    assert!(rt; bytes.starts_with(b"HBVJ0002\x5A\0\0\x01\0\x07\0\x03\x01\x07"));
-    assert_eq!(rt; found_on(alloc, disk)?, (1, Some(64)));
+    let found = found_on(alloc, disk)?;
+    assert!(rt; counts == ((64, 256), (1, 256)) && calls == 6 + 4 * 64 + 9);
+    assert!(rt;
+        held == (9, 270)
+            && bytes.starts_with(b"HBVJ0002\x5A\0\0\x01\0\x07\0\x03\x01\x07")
+            && found == (1, Some(64))
+    );
     Ok(())
 }
 
@@ -290,8 +293,8 @@ fn a_recovery_that_is_stopped_is_taken_up_again(rt: HostRuntime) -> Result<(), F
                 leave,
             };
             let outcome = outcome_of(alloc, 3, &[Stop { call, leave }, next], &[])?;
-            assert_eq!(rt; (outcome.switched_on, outcome.refused), (2, 1), "at {call}");
-            assert_eq!(rt; outcome.found, Some(0), "at {call}");
+            let found = (outcome.switched_on, outcome.refused, outcome.found);
+            assert!(rt; found == (2, 1, Some(0)), "at {call}");
         }
     }
     Ok(())
@@ -315,15 +318,32 @@ fn a_recovery_of_two_halves_keeps_the_text(rt: HostRuntime) -> Result<(), Fail> 
                     leave,
                 };
                 let outcome = outcome_of(alloc, 3, &[fold_stops, Stop { call, leave }, next], &[])?;
-                assert_eq!(rt; outcome.found, Some(3), "at {call} and {later} later");
-                assert!(rt; is_off_each_time(outcome), "at {call} and {later} later");
+                let keeps_text = outcome.found == Some(3) && is_off_each_time(outcome);
+                assert!(rt; keeps_text, "at {call} and {later} later");
             }
         }
         let outcome = outcome_of(alloc, 3, &[fold_stops], &[call])?;
-        assert_eq!(rt; outcome.found, Some(3), "at {call}");
-        assert_eq!(rt; (outcome.switched_on, outcome.refused), (1, 1), "at {call}");
+        let found = (outcome.switched_on, outcome.refused, outcome.found);
+        assert!(rt; found == (1, 1, Some(3)), "at {call}");
     }
     Ok(())
+}
+
+// How many device calls so many appends of a payload take, from the recovery on, and how many bytes a half then has.
+fn cost_of(
+    alloc: Global,
+    count: u32,
+    payload: &[u8],
+    bytes: &mut [u8],
+) -> Result<(u32, usize), JournalFault>
+    requires { length payload.now < 2 ^ 32 }
+{
+    let mut journal = new_journal(alloc, &[], &[])?;
+    append_all(&mut journal, count, payload)?;
+    let mut disk = journal.into_disk();
+    let calls = disk.note().calls();
+    let held = disk.read(Half::A, 0, bytes)?;
+    Ok((calls, held))
 }
 
 // Each append of 4,000 bytes makes four device calls and adds 4,005 bytes; recovery makes six calls and begins the half
@@ -334,13 +354,9 @@ fn appends_cost_the_same(rt: HostRuntime) -> Result<(), Fail> {
     let payload = vec![in alloc; 7; 4000]?;
     let mut bytes = vec![in alloc; 0; 4_100_000]?;
     for (count, want_calls, want_held) in [(500, 2006, 2_002_509), (1000, 4006, 4_005_009)] {
-        let mut journal = new_journal(alloc, &[], &[])?;
-        append_all(&mut journal, count, &payload)?;
-        let mut disk = journal.into_disk();
-        let calls = disk.note().calls();
-        let held = disk.read(Half::A, 0, &mut bytes)?;
+        let (calls, held) = cost_of(alloc, count, &payload, &mut bytes)?;
         println!(rt; "{count} appends of 4,000 bytes: {calls} device calls, {held} bytes held")?;
-        assert_eq!(rt; (calls, held), (want_calls, want_held));
+        assert!(rt; calls == want_calls && held == want_held);
     }
     Ok(())
 }
@@ -359,10 +375,11 @@ fn calls_with(alloc: Global, len: u16) -> Result<u32, AllocError> {
 fn a_disk_is_used(rt: HostRuntime) -> Result<(), Fail> {
     let alloc = rt.alloc();
     let disk = used(alloc, new_disk(alloc, &[], &[])?, &PAYLOAD);
-    assert_eq!(rt; disk.note().calls(), 6 + 4 + 5);
-    assert_eq!(rt; found_on(alloc, disk)?, (1, Some(1)));
+    let calls = disk.note().calls();
+    let found = found_on(alloc, disk)?;
+    assert!(rt; calls == 6 + 4 + 5 && found == (1, Some(1)));
     for (len, want) in [(4081, 15), (4082, 16), (8177, 16), (8178, 17)] {
-        assert_eq!(rt; calls_with(alloc, len)?, want, "{len} bytes");
+        assert!(rt; calls_with(alloc, len)? == want, "{len} bytes");
     }
     Ok(())
 }
@@ -402,7 +419,7 @@ fn the_bytes_say_what_is_recovered(rt: HostRuntime) -> Result<(), Fail> {
         );
     }
     let refused = recovered(alloc, none, &[0xFF; 10]).err();
-    assert_eq!(rt; refused, Some(JournalFault::NotAJournal));
+    assert!(rt; refused == Some(JournalFault::NotAJournal));
     Ok(())
 }
 
@@ -448,7 +465,10 @@ fn halves_are_read_in_pieces(rt: HostRuntime) -> Result<(), Fail> {
         (12_287, 8192, 7),
         (12_288, 0, 8),
     ] {
-        assert_eq!(rt; calls_of_recovery(alloc, a, b)?, want, "{a} and {b} bytes");
+        assert!(rt;
+            calls_of_recovery(alloc, a, b)? == want,
+            "{a} and {b} bytes"
+        );
     }
     Ok(())
 }

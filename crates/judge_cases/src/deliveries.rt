@@ -130,7 +130,7 @@ fn histories(rt: HostRuntime) -> Result<(), Fail> {
     for case in 0..CASES {
         let (wanted, rows) = agreeing(case);
         let report = report_of(rt.alloc(), config, rows)?;
-        assert_eq!(rt; delivered_agree(&report), wanted, "case {case}");
+        assert!(rt; delivered_agree(&report) == wanted, "case {case}");
     }
     Ok(())
 }

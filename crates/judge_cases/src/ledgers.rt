@@ -267,7 +267,7 @@ fn report_of(alloc: Global, version: u8, history: &str) -> Result<Report, Fail> 
 fn batches(rt: HostRuntime) -> Result<(), Fail> {
     for &(wanted, history) in &LISTS {
         let report = report_of(rt.alloc(), 1, history)?;
-        assert_eq!(rt; batches_ok(&report), wanted, "the history {history}");
+        assert!(rt; batches_ok(&report) == wanted, "the history {history}");
     }
     Ok(())
 }
@@ -276,7 +276,7 @@ fn batches(rt: HostRuntime) -> Result<(), Fail> {
 fn proposals(rt: HostRuntime) -> Result<(), Fail> {
     for &(wanted, history) in &PROPOSALS {
         let report = report_of(rt.alloc(), 2, history)?;
-        assert_eq!(rt; unaltered(&report), wanted, "the history {history}");
+        assert!(rt; unaltered(&report) == wanted, "the history {history}");
     }
     Ok(())
 }
@@ -285,7 +285,7 @@ fn proposals(rt: HostRuntime) -> Result<(), Fail> {
 fn ledgers(rt: HostRuntime) -> Result<(), Fail> {
     for &(wanted, history) in &LEDGERS {
         let report = report_of(rt.alloc(), 2, history)?;
-        assert_eq!(rt; comparable(&report), wanted, "the history {history}");
+        assert!(rt; comparable(&report) == wanted, "the history {history}");
     }
     Ok(())
 }
@@ -312,12 +312,18 @@ fn ends_of(alloc: Global, at_work: [u8; 4]) -> Result<Vec<End>, AllocError> {
     Ok(ends)
 }
 
+// The report of a run with this history, and so many actors of each node at work.
+fn report_at_work(alloc: Global, at_work: [u8; 4], history: &str) -> Result<Report, Fail> {
+    let mut report = report_of(alloc, 2, history)?;
+    report.ends = ends_of(alloc, at_work)?;
+    Ok(report)
+}
+
 #[test]
 fn commons(rt: HostRuntime) -> Result<(), Fail> {
     for &(wanted, at_work, history) in &COMMONS {
-        let mut report = report_of(rt.alloc(), 2, history)?;
-        report.ends = ends_of(rt.alloc(), at_work)?;
-        assert_eq!(rt; common_epochs(&report), wanted, "the history {history}");
+        let report = report_at_work(rt.alloc(), at_work, history)?;
+        assert!(rt; common_epochs(&report) == wanted, "the history {history}");
     }
     Ok(())
 }

@@ -6,7 +6,6 @@ use accuse_text::print_accuse;
 use hb_base::MemorySink;
 use hb_rules::Report;
 use std::alloc::{AllocError, Global};
-use std::process::Abort;
 use std::test::Fail;
 
 // The number of nodes, and the version of the rules; the accusations; the status; and the text.
@@ -60,14 +59,27 @@ fn accusations(alloc: Global, told: &[(u8, u32, u32)]) -> Result<Vec<Accusation>
     Ok(found)
 }
 
+// Prints accusations where the puts of these numbers fail: whether none has failed, and whether this text was written.
+fn printed(
+    alloc: Global,
+    report: &Report,
+    told: &[(u8, u32, u32)],
+    fails: Vec<u32>,
+    text: &[u8],
+) -> Result<(bool, bool), AllocError> {
+    let found = accusations(alloc, told)?;
+    let mut out = MemorySink::new(alloc, fails);
+    let is_ok = print_accuse(report, &found, &mut out).is_ok();
+    Ok((is_ok, out.held() == text))
+}
+
 #[test]
 fn texts(rt: HostRuntime) -> Result<(), Fail> {
     for &(nodes, version, told, status, text) in &TEXTS {
         let report = report_of(rt.alloc(), nodes, version, status)?;
-        let found = accusations(rt.alloc(), told)?;
-        let mut out = MemorySink::new(rt.alloc(), Vec::new(rt.alloc()));
-        assert!(rt; print_accuse(&report, &found, &mut out).is_ok());
-        assert!(rt; out.held() == text.as_bytes(), "{text}");
+        let fails = Vec::new(rt.alloc());
+        let (is_ok, is_text) = printed(rt.alloc(), &report, told, fails, text.as_bytes())?;
+        assert!(rt; is_ok && is_text, "{text}");
     }
     Ok(())
 }
@@ -76,11 +88,10 @@ fn texts(rt: HostRuntime) -> Result<(), Fail> {
 #[test]
 fn a_put_that_fails(rt: HostRuntime) -> Result<(), Fail> {
     let report = report_of(rt.alloc(), 4, 1, 0)?;
-    let found = accusations(rt.alloc(), &[(3, 3, 4)])?;
-    let mut calls = Vec::new(rt.alloc());
-    calls.push(2u32)?;
-    let mut out = MemorySink::new(rt.alloc(), calls);
-    assert!(rt; print_accuse(&report, &found, &mut out).is_err());
-    assert!(rt; out.held() == b"accuse nodes 4 faulty 1 version 1 epochs 1\n".as_slice());
+    let mut fails = Vec::new(rt.alloc());
+    fails.push(2u32)?;
+    let text = b"accuse nodes 4 faulty 1 version 1 epochs 1\n";
+    let (is_ok, is_text) = printed(rt.alloc(), &report, &[(3, 3, 4)], fails, text)?;
+    assert!(rt; !is_ok && is_text);
     Ok(())
 }

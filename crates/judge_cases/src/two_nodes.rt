@@ -8,7 +8,6 @@ use hb_wire::{Post, To};
 use history_verdict::Judge;
 use post_judge::HistoryJudge;
 use std::alloc::Global;
-use std::process::Abort;
 use std::test::Fail;
 
 type Line = (u8, u8, To, &'static [u8]);
@@ -280,10 +279,11 @@ fn let_pass(alloc: Global, judge: &mut HistoryJudge, count: usize) -> Result<boo
 fn histories_are_let_pass(rt: HostRuntime) -> Result<(), Fail> {
     let alloc = rt.alloc();
     let mut judge = HistoryJudge::new(alloc, &two_nodes()?)?;
-    assert!(rt; let_pass(alloc, &mut judge, HISTORY.len())?);
+    let passed = let_pass(alloc, &mut judge, HISTORY.len())?;
 
     // and so is each vote that was cast before
-    assert!(rt; let_pass(alloc, &mut judge, HISTORY.len())?);
+    let passed_again = let_pass(alloc, &mut judge, HISTORY.len())?;
+    assert!(rt; passed && passed_again);
     Ok(())
 }
 
@@ -316,8 +316,9 @@ fn with_a_liar() -> Result<Config, Fail> {
 fn a_liar_says_what_it_likes(rt: HostRuntime) -> Result<(), Fail> {
     let alloc = rt.alloc();
     let mut judge = HistoryJudge::new(alloc, &with_a_liar()?)?;
-    assert!(rt; judged(alloc, &mut judge, &(3, 9, To::All, b"\xff"))?);
-    assert!(rt; judged(alloc, &mut judge, &(3, 0, To::Node(2), b"\x03"))?);
-    assert!(rt; !judged(alloc, &mut judge, &(2, 0, To::All, b"\xff"))?);
+    let to_all = judged(alloc, &mut judge, &(3, 9, To::All, b"\xff"))?;
+    let to_one = judged(alloc, &mut judge, &(3, 0, To::Node(2), b"\x03"))?;
+    let of_another = judged(alloc, &mut judge, &(2, 0, To::All, b"\xff"))?;
+    assert!(rt; to_all && to_one && !of_another);
     Ok(())
 }

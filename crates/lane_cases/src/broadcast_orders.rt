@@ -98,21 +98,35 @@ fn turned(val: &Vote, level: usize, byte: usize) -> Result<Option<Vote>, Fail>
     }
 }
 
+// Whether a node that hears the Val to node m echoes it as it is and heeds no Val with a turned bit, if that is the node itself,
+// and else heeds it not.
+fn heeds_its_own(
+    alloc: Global,
+    config: &Config,
+    node: u8,
+    val: &Vote,
+    m: usize,
+) -> Result<bool, Fail>
+    requires { node < config.now.n }
+{
+    let due = due_by_val(alloc, config, node, val)?;
+    if m == node as usize {
+        Ok(echoes(due.votes(), val) && heeds_no_turned_bit(alloc, config, node, val)?)
+    } else {
+        Ok(due.votes().is_empty())
+    }
+}
+
 #[test]
 fn a_node_echoes_its_own_shard_alone(rt: HostRuntime) -> Result<(), Fail> {
     let alloc = rt.alloc();
     for &(n, f) in &SIZES {
         let config = config_of(n, f)?;
         let vals = vals_of(alloc, &config, value_of(alloc, 5)?)?;
-        assert_eq!(rt; vals.votes().len(), n as usize);
+        assert!(rt; vals.votes().len() == n as usize);
         for node in 0..config.n() {
             for (m, val) in vals.votes().iter().enumerate() {
-                let due = due_by_val(alloc, &config, node, val)?;
-                let holds = if m == node as usize {
-                    echoes(due.votes(), val) && heeds_no_turned_bit(alloc, &config, node, val)?
-                } else {
-                    due.votes().is_empty()
-                };
+                let holds = heeds_its_own(alloc, &config, node, val, m)?;
                 assert!(rt; holds, "{n} nodes, node {node} hears the Val to node {m}");
             }
         }

@@ -107,20 +107,22 @@ pub(crate) fn vals_of(alloc: Global, config: &Config, value: Bytes) -> Result<Du
     Ok(due)
 }
 
-// Whether a vote sends shard m of these, under this root.
-fn sends(vote: &Vote, n: u8, m: u8, want: &[u8; 32], shards: &[Bytes]) -> bool
+// Whether the vote at place m of these sends shard m, under this root.
+fn sends(votes: &[Vote], n: u8, m: u8, want: &[u8; 32], shards: &[Bytes]) -> bool
     requires node { m < n }
     requires few { n ≤ most_nodes }
 {
-    match (vote, shards.get(m as usize)) {
+    match (votes.get(m as usize), shards.get(m as usize)) {
         (
-            Vote::Val {
-                epoch: 0,
-                target,
-                root,
-                shard,
-                branch,
-            },
+            Some(
+                Vote::Val {
+                    epoch: 0,
+                    target,
+                    root,
+                    shard,
+                    branch,
+                },
+            ),
             Some(wanted),
         ) => {
             *target == m
@@ -132,20 +134,24 @@ fn sends(vote: &Vote, n: u8, m: u8, want: &[u8; 32], shards: &[Bytes]) -> bool
     }
 }
 
+// The shards of the value of this length.
+fn shards_of(alloc: Global, config: &Config, len: u16) -> Result<Vec<Bytes>, Fail> {
+    let value = value_of(alloc, len)?;
+    Ok(encode(alloc, config.n(), config.k(), value.as_slice())?)
+}
+
 #[test]
 fn a_sender_sends_each_node_its_shard(rt: HostRuntime) -> Result<(), Fail> {
     let alloc = rt.alloc();
     for &(n, f) in &SIZES {
         let config = config_of(n, f)?;
         for &len in &LENGTHS {
-            let value = value_of(alloc, len)?;
-            let shards = encode(alloc, config.n(), config.k(), value.as_slice())?;
-            let due = vals_of(alloc, &config, value)?;
-            assert_eq!(rt; due.votes().len(), n as usize);
+            let shards = shards_of(alloc, &config, len)?;
+            let due = vals_of(alloc, &config, value_of(alloc, len)?)?;
+            assert!(rt; due.votes().len() == n as usize);
             for m in 0..config.n() {
-                let vote = due.votes().get(m as usize).ok_or("no vote")?;
                 assert!(rt;
-                    sends(vote, config.n(), m, root_of(n, len), &shards),
+                    sends(due.votes(), config.n(), m, root_of(n, len), &shards),
                     "{n} nodes, {len} bytes, node {m}"
                 );
             }
@@ -334,48 +340,71 @@ fn owes(
     Ok(are(echoed.votes(), is_ready, None) && are(ready.votes(), true, value))
 }
 
+// The shards of the value `hi`.
+const GOOD: [&[u8]; 4] = [b"\0\0\0", b"\x02hi", b"\x04\xd0\xd2", b"\x06\xb8\xbb"];
+
+// The same with another last byte, so no codeword.
+const BAD: [&[u8]; 4] = [b"\0\0\0", b"\x02hi", b"\x04\xd0\xd2", b"\x06\xb8\xbc"];
+
+// The same without the last byte.
+const UNEVEN: [&[u8]; 4] = [b"\0\0\0", b"\x02hi", b"\x04\xd0\xd2", b"\x06\xb8"];
+
+// A codeword, since all shards are alike, that holds no frame: the length that it begins with is too great.
+const FALSE_FRAME: [&[u8]; 4] = [
+    b"\xff\xff\xff",
+    b"\xff\xff\xff",
+    b"\xff\xff\xff",
+    b"\xff\xff\xff",
+];
+
+// The shards; the echoes; whether node 0 is ready by them, and what it delivers once all nodes are ready.
+type Owed = (
+    [&'static [u8]; 4],
+    [(u8, u8); 4],
+    bool,
+    Option<&'static [u8]>,
+);
+
+const OWED: [Owed; 6] = [
+    (GOOD, MIXED, true, Some(b"hi")),
+    // the same node again, and shards of other nodes, do not count
+    (GOOD, [(1, 1), (1, 1), (3, 3), (3, 3)], false, Some(b"hi")),
+    (GOOD, [(1, 1), (2, 3), (3, 2), (0, 1)], false, None),
+    // a tree over shards of no codeword, or of two lengths, makes no Ready by echoes, and no delivery
+    (BAD, [(0, 0), (1, 1), (2, 2), (3, 3)], false, None),
+    (UNEVEN, FALLING, false, None),
+    // a codeword that holds no frame delivers the empty value
+    (FALSE_FRAME, FALLING, true, Some(b"")),
+];
+
 #[test]
 fn shards_that_are_wrong(rt: HostRuntime) -> Result<(), Fail> {
-    let alloc = rt.alloc();
-    let good: [&[u8]; 4] = [b"\0\0\0", b"\x02hi", b"\x04\xd0\xd2", b"\x06\xb8\xbb"];
-    assert!(rt; owes(alloc, good, &MIXED, true, Some(b"hi"))?);
-
-    // The same node again, and shards of other nodes, do not count.
-    assert!(rt;
-        owes(
-            alloc,
-            good,
-            &[(1, 1), (1, 1), (3, 3), (3, 3)],
-            false,
-            Some(b"hi")
-        )?
-    );
-    assert!(rt; owes(alloc, good, &[(1, 1), (2, 3), (3, 2), (0, 1)], false, None)?);
-
-    // A tree over shards of no codeword, or of two lengths, makes no Ready by echoes, and no delivery.
-    let bad: [&[u8]; 4] = [b"\0\0\0", b"\x02hi", b"\x04\xd0\xd2", b"\x06\xb8\xbc"];
-    assert!(rt; owes(alloc, bad, &RISING[..4], false, None)?);
-    let uneven: [&[u8]; 4] = [b"\0\0\0", b"\x02hi", b"\x04\xd0\xd2", b"\x06\xb8"];
-    assert!(rt; owes(alloc, uneven, &FALLING, false, None)?);
-
-    // A codeword that holds no frame delivers the empty value.
-    let false_frame: [&[u8]; 4] = [
-        b"\xff\xff\xff",
-        b"\xff\xff\xff",
-        b"\xff\xff\xff",
-        b"\xff\xff\xff",
-    ];
-    assert!(rt; owes(alloc, false_frame, &FALLING, true, Some(b""))?);
+    for (row, owed) in OWED.iter().enumerate() {
+        let (shards, echoes, is_ready, value) = *owed;
+        assert!(rt;
+            owes(rt.alloc(), shards, &echoes, is_ready, value)?,
+            "row {row}"
+        );
+    }
     Ok(())
+}
+
+// Whether a check finds that the shards have the root, and carry this value.
+fn is_good(answer: &Check, wanted: &[u8]) -> bool {
+    matches!(answer, Check::Good(value) if value.as_slice() == wanted)
+}
+
+// Whether a check finds that the shards have another root, which is this one.
+fn is_of_root(answer: &Check, root: &[u8; 32]) -> bool {
+    matches!(answer, Check::OtherRoot { found } if *found == *root)
 }
 
 #[test]
 fn shards_and_roots(rt: HostRuntime) -> Result<(), Fail> {
     let alloc = rt.alloc();
     let shards = encode(alloc, 4, 2, value_of(alloc, 1)?.as_slice())?;
-    let answer = check(alloc, root_of(4, 1), 2, &shards)?;
-    assert!(rt; matches!(&answer, Check::Good(value) if value.as_slice() == b"\x01".as_slice()));
-    let answer = check(alloc, root_of(4, 0), 2, &shards)?;
-    assert!(rt; matches!(&answer, Check::OtherRoot { found } if *found == *root_of(4, 1)));
+    let is_good = is_good(&check(alloc, root_of(4, 1), 2, &shards)?, b"\x01");
+    let is_of_other = is_of_root(&check(alloc, root_of(4, 0), 2, &shards)?, root_of(4, 1));
+    assert!(rt; is_good && is_of_other);
     Ok(())
 }

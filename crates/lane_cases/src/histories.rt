@@ -5,7 +5,6 @@ use hb_base::{Bytes, Config, NodeSet};
 use hb_rules::Report;
 use hb_wire::{Post, To};
 use std::alloc::{AllocError, Global};
-use std::process::Abort;
 use std::test::Fail;
 
 // Each line is a history, and begins with whether its agreements agree. A post has six letters: its node, its actor, of which 4
@@ -125,7 +124,7 @@ fn histories(rt: HostRuntime) -> Result<(), Fail> {
                 count = count.saturating_add(1);
             }
         }
-        assert_eq!(rt; count, 28);
+        assert!(rt; count == 28);
     }
     Ok(())
 }

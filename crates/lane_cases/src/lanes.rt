@@ -9,7 +9,6 @@ use hb_rules::Due;
 use hb_wire::{To, Vals, Vote};
 use lane_core::LaneCore;
 use std::alloc::{AllocError, Global};
-use std::process::Abort;
 use std::sync::Arc;
 use std::test::Fail;
 
@@ -249,40 +248,69 @@ fn number_of(vals: Vals) -> u8 {
     }
 }
 
-// The lanes of a number at all nodes, after all votes were heard in their order. The sender proposes in the last epoch first.
-fn run(alloc: Global, run: (u8, u8, u8, u8, u64, u8, u8)) -> Result<Vec<Node>, Fail> {
-    let (n, f, epochs, rounds, seed, version, lane) = run;
-    let config = Config::new(n, f, epochs, rounds, 1, seed, version, NodeSet::new()).ok_or(
-        "no config",
-    )?;
+// The lanes of a number at all nodes.
+fn nodes_of(alloc: Global, config: &Config, lane: u8) -> Result<Vec<Node>, Fail> {
     let mut nodes = Vec::new(alloc);
-    for node in 0..n {
-        nodes.push(Node::new(alloc, &config, node, lane)?)?;
+    for node in 0..config.n() {
+        nodes.push(Node::new(alloc, config, node, lane)?)?;
     }
+    Ok(nodes)
+}
+
+// What the sender proposes, in the last epoch first.
+fn proposals(alloc: Global, epochs: u8, sender: u8) -> Result<Vec<Sent>, AllocError> {
     let mut posts = Vec::new(alloc);
     for epoch in 0..epochs {
         posts.push(Sent {
-            from: lane,
+            from: sender,
             vote: Vote::Propose {
                 epoch: epochs - 1 - epoch,
                 value: Bytes::copy(alloc, b"\x00\x00")?,
             },
         })?;
     }
+    Ok(posts)
+}
+
+// Lets all nodes hear a vote that comes to them.
+fn hear_all(
+    alloc: Global,
+    nodes: &mut [Node],
+    sent: &Sent,
+    posts: &mut Vec<Sent>,
+) -> Result<(), Fail> {
+    for node in nodes {
+        if reaches(&sent.vote, sent.from, node.node) {
+            node.hear(alloc, sent, posts)?;
+        }
+    }
+    Ok(())
+}
+
+// The lanes of a number at all nodes, after all votes were heard in their order.
+fn run(alloc: Global, run: (u8, u8, u8, u8, u64, u8, u8)) -> Result<Vec<Node>, Fail> {
+    let (n, f, epochs, rounds, seed, version, lane) = run;
+    let config = Config::new(n, f, epochs, rounds, 1, seed, version, NodeSet::new()).ok_or(
+        "no config",
+    )?;
+    let mut nodes = nodes_of(alloc, &config, lane)?;
+    let mut posts = proposals(alloc, epochs, lane)?;
     for k in 0..4_000usize {
         match posts.get(k) {
             Some(sent) => {
                 let sent = sent.copy()?;
-                for node in &mut nodes {
-                    if reaches(&sent.vote, sent.from, node.node) {
-                        node.hear(alloc, &sent, &mut posts)?;
-                    }
-                }
+                hear_all(alloc, &mut nodes, &sent, &mut posts)?;
             }
             None => break,
         }
     }
     Ok(nodes)
+}
+
+// Whether one of these nodes has cast this in an epoch.
+fn has_cast(alloc: Global, nodes: &[Node], at: u8, epoch: u8, text: &str) -> Result<bool, Fail> {
+    let node = nodes.get(at as usize).ok_or("no node")?;
+    Ok(node.text(alloc, epoch)?.as_str() == text)
 }
 
 #[test]
@@ -291,12 +319,12 @@ fn what_lanes_cast(rt: HostRuntime) -> Result<(), Fail> {
     for (k, numbers) in RUNS.iter().enumerate() {
         let nodes = run(alloc, *numbers)?;
         for &(of, at, epoch, text) in &WANTED {
-            if of as usize != k {
-                continue;
+            if of as usize == k {
+                assert!(rt;
+                    has_cast(alloc, &nodes, at, epoch, text)?,
+                    "run {of}, node {at}, epoch {epoch}"
+                );
             }
-            let node = nodes.get(at as usize).ok_or("no node")?;
-            let cast = node.text(alloc, epoch)?;
-            assert_eq!(rt; cast.as_str(), text);
         }
     }
     Ok(())

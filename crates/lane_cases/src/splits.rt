@@ -10,7 +10,6 @@ use coin_deal::{Deal, deal};
 use hb_base::Config;
 use hb_wire::Vote;
 use std::alloc::{AllocError, Global};
-use std::process::Abort;
 use std::test::Fail;
 
 // So many orders are drawn for each split, of which the sums of the first are known.
@@ -116,21 +115,37 @@ fn is_last_pick(vote: &Vote) -> bool {
     }
 }
 
-// What is decided in an order, if all is sound.
-fn outcome(
+// A run in an order, if all is sound.
+fn sound_run(
     alloc: Global,
     config: &Config,
     deal: &Deal,
     split: u8,
     order: Order,
-) -> Result<Vec<u8>, Fail>
+) -> Result<World, Fail>
     requires { deal.now ≡ config.now }
 {
     let world = run(alloc, config, deal, split, order)?;
     if !is_sound(&world, split) {
         return Err("the agreement is not sound".into());
     }
-    Ok(letters_of(alloc, &world)?)
+    Ok(world)
+}
+
+// Whether this is decided in an order, and all is sound.
+fn comes_to(
+    alloc: Global,
+    config: &Config,
+    deal: &Deal,
+    split: u8,
+    order: Order,
+    wanted: &str,
+) -> Result<bool, Fail>
+    requires { deal.now ≡ config.now }
+{
+    let world = sound_run(alloc, config, deal, split, order)?;
+    let found = letters_of(alloc, &world)?;
+    Ok(found.as_slice() == wanted.as_bytes())
 }
 
 // What comes of the drawn orders, if all is sound.
@@ -140,10 +155,7 @@ fn drawn(alloc: Global, config: &Config, deal: &Deal, split: u8) -> Result<Sums,
     let mut sums = Sums::new();
     for k in 0..DRAWN {
         let order = Order::Drawn(8 * k + split as u64);
-        let world = run(alloc, config, deal, split, order)?;
-        if !is_sound(&world, split) {
-            return Err("the agreement is not sound".into());
-        }
+        let world = sound_run(alloc, config, deal, split, order)?;
         sums.add(alloc, &world.nodes)?;
     }
     Ok(sums)
@@ -155,7 +167,7 @@ fn check_others(alloc: Global, config: &Config, deal: &Deal, split: u8) -> Resul
 {
     for k in DRAWN..ORDERS {
         let order = Order::Drawn(8 * k + split as u64);
-        let _letters = outcome(alloc, config, deal, split, order)?;
+        let _world = sound_run(alloc, config, deal, split, order)?;
     }
     Ok(())
 }
@@ -166,18 +178,11 @@ fn splits(rt: HostRuntime) -> Result<(), Fail> {
     for &(version, split, want_first, want_last, decided, votes) in &ROWS {
         let config = config_of(version)?;
         let deal = deal(alloc, &config)?;
-        for (order, want) in [(Order::First, want_first), (Order::Last, want_last)] {
-            let found = outcome(alloc, &config, &deal, split, order)?;
-            assert_eq!(rt;
-                found.as_slice(),
-                want.as_bytes(),
-                "version {version}, split {split}"
-            );
-        }
+        let by_first = comes_to(alloc, &config, &deal, split, Order::First, want_first)?;
+        let by_last = comes_to(alloc, &config, &deal, split, Order::Last, want_last)?;
         let sums = drawn(alloc, &config, &deal, split)?;
-        assert_eq!(rt;
-            sums,
-            Sums { decided, votes },
+        assert!(rt;
+            by_first && by_last && sums == Sums { decided, votes },
             "version {version}, split {split}"
         );
         check_others(alloc, &config, &deal, split)?;

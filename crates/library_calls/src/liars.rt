@@ -41,12 +41,12 @@ fn liar_of(alloc: Global, name: &str) -> Result<Kind, Fail> {
 #[test]
 fn whole_cast(rt: HostRuntime) -> Result<(), Fail> {
     let cast = cast(rt.alloc())?;
-    assert_eq!(rt; cast.len(), 30);
+    assert!(rt; cast.len() == 30);
     for (place, liar) in cast.iter().enumerate() {
-        assert_eq!(rt; liar.name().as_bytes(), NAMES[place % 6].as_bytes());
+        assert!(rt; liar.name().as_bytes() == NAMES[place % 6].as_bytes());
     }
     for (place, name) in all_names().iter().enumerate() {
-        assert_eq!(rt; name.as_bytes(), NAMES[place].as_bytes());
+        assert!(rt; name.as_bytes() == NAMES[place].as_bytes());
     }
     Ok(())
 }
@@ -60,6 +60,6 @@ fn boxed(rt: HostRuntime) -> Result<(), Fail> {
         let mut liar: Box<dyn Liar> = Box::new(rt.alloc(), liar)?;
         liar.start(rt.alloc(), &me, &mut lies);
     }
-    assert_eq!(rt; lies.waiting().len(), 20);
+    assert!(rt; lies.waiting().len() == 20);
     Ok(())
 }

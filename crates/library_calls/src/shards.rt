@@ -14,27 +14,60 @@ use std::alloc::{AllocError, Global};
 use std::process::Abort;
 use std::test::Fail;
 
-/// The shards of `hi` for four nodes, two of them data shards, worked out by hand.
+/// Whether shards are those of `hi` for four nodes, two of them data shards, worked out by hand.
+fn are_worked_out(shards: &[Bytes]) -> bool {
+    shards.len() == 4
+        && shards[0].as_slice() == [0, 0, 0].as_slice()
+        && shards[1].as_slice() == [0x02, 0x68, 0x69].as_slice()
+        && shards[2].as_slice() == [0x04, 0xD0, 0xD2].as_slice()
+        && shards[3].as_slice() == [0x06, 0xB8, 0xBB].as_slice()
+}
+
+/// Whether shards hold a value.
+fn hold(alloc: Global, k: u8, shards: &[Bytes], value: &[u8]) -> Result<bool, AllocError>
+    requires { k ≤ length shards.now }
+{
+    Ok(value_of(alloc, k, shards)?.as_slice() == value)
+}
+
+/// Whether some of the shards give back all.
+fn give_back(
+    alloc: Global,
+    n: u8,
+    k: u8,
+    got: &[(u8, Bytes)],
+    shards: &[Bytes],
+) -> Result<bool, RsFault>
+    requires some { 1 ≤ k }
+    requires within { k ≤ n }
+    requires few { n ≤ most_nodes }
+    requires shards { AreShards n got.now }
+    requires short { All (λ x. length x.1 < 2 ^ 32) got.now }
+{
+    Ok(are_same(&rebuild(alloc, n, k, got)?, shards))
+}
+
 #[test]
 fn worked_example(rt: HostRuntime) -> Result<(), Fail> {
     let alloc = rt.alloc();
     let shards = encode(alloc, 4, 2, b"hi")?;
-    assert_eq!(rt; shards.len(), 4);
-    assert_eq!(rt; shards[0].as_slice(), [0, 0, 0].as_slice());
-    assert_eq!(rt; shards[1].as_slice(), [0x02, 0x68, 0x69].as_slice());
-    assert_eq!(rt; shards[2].as_slice(), [0x04, 0xD0, 0xD2].as_slice());
-    assert_eq!(rt; shards[3].as_slice(), [0x06, 0xB8, 0xBB].as_slice());
-    assert_eq!(rt; value_of(alloc, 2, &shards)?.as_slice(), b"hi".as_slice());
+    assert!(rt; are_worked_out(&shards) && hold(alloc, 2, &shards, b"hi")?);
 
     let third = (2, Bytes::copy(alloc, &[0x04, 0xD0, 0xD2])?);
     let fourth = (3, Bytes::copy(alloc, &[0x06, 0xB8, 0xBB])?);
     let got = vec![in alloc; fourth, third]?;
-    assert!(rt; are_same(&rebuild(alloc, 4, 2, &got)?, &shards));
-    assert_eq!(rt;
-        restored(alloc, 4, 2, b"hi", 0b1010)?.as_slice(),
-        b"hi".as_slice()
-    );
+    assert!(rt; give_back(alloc, 4, 2, &got, &shards)?);
+    let restored = restored(alloc, 4, 2, b"hi", 0b1010)?;
+    assert!(rt; restored.as_slice() == b"hi".as_slice());
     Ok(())
+}
+
+/// Why some shards of four nodes, two of them data shards, are refused.
+fn fault_of(alloc: Global, got: &[(u8, Bytes)]) -> Option<RsFault>
+    requires shards { AreShards 4 got.now }
+    requires short { All (λ x. length x.1 < 2 ^ 32) got.now }
+{
+    rebuild(alloc, 4, 2, got).err()
 }
 
 /// What is given too few or in different lengths is refused.
@@ -44,18 +77,10 @@ fn refusals(rt: HostRuntime) -> Result<(), Fail> {
     let third = (2, Bytes::copy(alloc, &[0x04, 0xD0, 0xD2])?);
     let short = (3, Bytes::copy(alloc, &[0x06, 0xB8])?);
     let got = vec![in alloc; third, short]?;
-    assert!(rt;
-        matches!(
-            rebuild(alloc, 4, 2, &got[..1]),
-            Err(RsFault::TooFew { have: 1, need: 2 })
-        )
-    );
-    assert!(rt;
-        matches!(
-            rebuild(alloc, 4, 2, &got),
-            Err(RsFault::Lengths { a: 3, b: 2 })
-        )
-    );
+    let one = fault_of(alloc, &got[..1]);
+    let two = fault_of(alloc, &got);
+    assert!(rt; matches!(one, Some(RsFault::TooFew { have: 1, need: 2 })));
+    assert!(rt; matches!(two, Some(RsFault::Lengths { a: 3, b: 2 })));
     Ok(())
 }
 
@@ -77,7 +102,7 @@ fn every_code(rt: HostRuntime) -> Result<(), Fail> {
             assert!(rt; len <= longest.len() && len <= LONGEST_VALUE);
             hash = compare(&rt, alloc, n, k, &longest[..len], &choices, hash)?;
         }
-        assert_eq!(rt; hash, wanted, "k = {k} of n = {n}");
+        assert!(rt; hash == wanted, "k = {k} of n = {n}");
     }
     Ok(())
 }
@@ -108,10 +133,10 @@ fn compare(
     requires short { length value.now ≤ longest_value }
 {
     let shards = encode(alloc, n, k, value)?;
-    assert!(rt; value_of(alloc, k, &shards)?.as_slice() == value);
+    assert!(rt; hold(alloc, k, &shards, value)?);
     for choice in choices {
         let got = chosen(alloc, &shards, *choice)?;
-        assert!(rt; are_same(&rebuild(alloc, n, k, &got)?, &shards));
+        assert!(rt; give_back(alloc, n, k, &got, &shards)?);
     }
     Ok(
         shards

@@ -93,13 +93,12 @@ fn first_tree(alloc: Global) -> Result<Tree, AllocError>
 #[test]
 fn first_coin_of_seed_0(rt: HostRuntime) -> Result<(), Fail> {
     let tree = first_tree(rt.alloc())?;
-    assert_eq!(rt; tree.root(), ROOT);
+    assert!(rt; tree.root() == ROOT);
     let mut shares = Shares::new(4, 1, ROOT);
     for &(m, share, salt, branch, answer, coin) in &OFFERS {
         assert!(rt; m < 4 && salt < 4 && branch < 4);
         let given = shares.offer(m, share, &SALTS[salt as usize], &tree.branch(branch));
-        assert_eq!(rt; given, answer);
-        assert_eq!(rt; shares.coin(), coin);
+        assert!(rt; given == answer && shares.coin() == coin);
     }
     Ok(())
 }
@@ -130,10 +129,11 @@ fn offer_chosen(rt: &impl Abort, f: u8, coin: bool, dealt: &[u8], tree: &Tree, c
         let m = n - 1 - i;
         if chosen >> m & 1 == 1 {
             let offer = shares.offer(m, dealt[m as usize], &[m; 16], &tree.branch(m));
-            assert_eq!(rt; offer, Offer::Added);
+            assert!(rt; offer == Offer::Added);
             count += 1;
         }
-        assert_eq!(rt; shares.coin(), if count > f { Some(coin) } else { None });
+        let known = if count > f { Some(coin) } else { None };
+        assert!(rt; shares.coin() == known);
     }
 }
 
@@ -233,20 +233,20 @@ fn dealt_shares(rt: HostRuntime) -> Result<(), Fail> {
     assert!(rt; config.n() == 4 && config.f() == 1 && config.epochs() == 1 && config.rounds() == 1);
     let mut shares = Shares::new(4, 1, run.root_of(0, 0, 0));
     let coin = coin_of_two(rt.alloc(), &run, 0, &mut shares)?;
-    assert_eq!(rt; coin, Some(run.coin_of(0, 0, 0)));
+    let dealt = run.coin_of(0, 0, 0);
 
     // one of each node counts
     let mut checked = Shares::new(4, 1, run.root_of(0, 0, 0));
     add_dealt(rt.alloc(), &run, 0, 2, &mut checked)?;
     add_dealt(rt.alloc(), &run, 0, 2, &mut checked)?;
-    assert_eq!(rt; checked.coin(), None);
+    let coin_of_one = checked.coin();
     add_dealt(rt.alloc(), &run, 0, 3, &mut checked)?;
-    assert_eq!(rt; checked.coin(), coin);
+    assert!(rt; coin == Some(dealt) && coin_of_one == None && checked.coin() == coin);
     Ok(())
 }
 
 // The salts and the branches take no memory.
 #[test]
 fn size(rt: HostRuntime) {
-    assert_eq!(rt; size_of::<Shares>(), 3 + 32 + 2 * 16);
+    assert!(rt; size_of::<Shares>() == 3 + 32 + 2 * 16);
 }

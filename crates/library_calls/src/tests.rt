@@ -31,29 +31,36 @@ const COIN: &[u8] = b"\x09\x00\x00\x2b\
     \xb2\x1b\x57\x20\x31\x0a\x81\x5f\x02\xb9\xac\xc8\x6e\xe9\xb1\xd5\x7c\xf1\x39\x37\xc0\xee\x16\x9b\x72\x37\x44\x6b\x77\xf9\x5b\xc3\
     \x1b\x4c\x1f\xf9\xd8\xb2\x55\x3a\x38\x4c\x1a\x1a\xc5\x2a\x2e\x99\xb3\x2e\x63\x6b\x56\xfd\x19\x59\x37\x55\xad\x86\x51\x7f\x1a\x07";
 
+/// Whether the share of the first coin that is dealt to node 1 has the bytes `COIN`.
+fn is_coin_dealt(rt: &impl Abort, alloc: Global) -> Result<bool, AllocError> {
+    let config = four_nodes(rt);
+    let run = deal(alloc, &config)?;
+    let bytes = coin(alloc, &config, &run, 0, 0, 0, 1)?;
+    Ok(bytes.as_slice() == COIN)
+}
+
 #[test]
 fn shard_and_coin(rt: HostRuntime) -> Result<(), Fail> {
     let config = four_nodes(&rt);
     let bytes = val(rt.alloc(), &config, 5, b"hi", 2)?;
-    assert_eq!(rt; bytes.as_slice(), VAL);
-    let run = deal(rt.alloc(), &config)?;
-    let bytes = coin(rt.alloc(), &config, &run, 0, 0, 0, 1)?;
-    assert_eq!(rt; bytes.as_slice(), COIN);
+    assert!(rt; bytes.as_slice() == VAL && is_coin_dealt(&rt, rt.alloc())?);
     Ok(())
+}
+
+/// Whether the shards of the value `hi` make the Delivered of epoch 3 with that value.
+fn is_value_delivered(rt: &impl Abort, alloc: Global) -> Result<bool, AllocError> {
+    let config = four_nodes(rt);
+    let shards = encode(alloc, 4, 2, b"hi")?;
+    let bytes = delivered(alloc, &config, 3, &shards)?;
+    Ok(bytes.as_slice() == b"\x04\x03\x00\x00\x00\x02hi".as_slice())
 }
 
 #[test]
 fn value_and_batch(rt: HostRuntime) -> Result<(), Fail> {
     let config = four_nodes(&rt);
-    let alloc = rt.alloc();
-    let shards = encode(alloc, 4, 2, b"hi")?;
-    let bytes = delivered(alloc, &config, 3, &shards)?;
-    assert_eq!(rt; bytes.as_slice(), b"\x04\x03\x00\x00\x00\x02hi".as_slice());
-    let bytes = proposal(alloc, &config, 0, &[])?;
-    assert_eq!(rt;
-        bytes.as_slice(),
-        b"\x10\x00\x00\x00\x00\x02\x00\x00".as_slice()
-    );
+    let bytes = proposal(rt.alloc(), &config, 0, &[])?;
+    let is_proposed = bytes.as_slice() == b"\x10\x00\x00\x00\x00\x02\x00\x00".as_slice();
+    assert!(rt; is_proposed && is_value_delivered(&rt, rt.alloc())?);
     Ok(())
 }
 
@@ -66,9 +73,7 @@ fn aux(bit: bool) -> Vote {
 }
 
 /// A NoMore, one byte that is no vote, and an Aux of version 1.
-#[test]
-fn votes_heard(rt: HostRuntime) -> Result<(), Fail> {
-    let alloc = rt.alloc();
+fn three_posts(alloc: Global) -> Result<Vec<Post>, AllocError> {
     let mut posts = Vec::new(alloc);
     for bytes in [b"\x11\x02".as_slice(), b"\xff", b"\x07\x00\x03\x01"] {
         let bytes = Bytes::copy(alloc, bytes)?;
@@ -79,15 +84,20 @@ fn votes_heard(rt: HostRuntime) -> Result<(), Fail> {
             bytes,
         })?;
     }
-    let votes = heard(alloc, &four_nodes(&rt), &posts)?;
-    let no_more = Vote::NoMore { epoch: 2 };
-    assert_eq!(rt; votes.len(), 2);
-    assert!(rt; votes.first() == Some(&no_more) && votes.last() == Some(&aux(true)));
+    Ok(posts)
+}
+
+#[test]
+fn votes_heard(rt: HostRuntime) -> Result<(), Fail> {
+    let posts = three_posts(rt.alloc())?;
+    let votes = heard(rt.alloc(), &four_nodes(&rt), &posts)?;
+    let (no_more, aux) = (Vote::NoMore { epoch: 2 }, aux(true));
+    assert!(rt; votes.len() == 2 && votes.first() == Some(&no_more) && votes.last() == Some(&aux));
     Ok(())
 }
 
 #[test]
 fn votes_compared(rt: HostRuntime) {
-    assert!(rt; are_same(&aux(true), &aux(true)));
-    assert!(rt; !are_same(&aux(true), &aux(false)));
+    let (one, same, other) = (aux(true), aux(true), aux(false));
+    assert!(rt; are_same(&one, &same) && !are_same(&one, &other));
 }

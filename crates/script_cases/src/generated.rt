@@ -2,7 +2,7 @@
 use disk_model::Stop;
 use net_script::{ActorPlan, Order, Script, Shape, Submit};
 use scenario_gen::generate;
-use std::alloc::{AllocError, Global};
+use std::alloc::Global;
 use std::process::Abort;
 use std::test::Fail;
 
@@ -59,7 +59,7 @@ fn scenarios(rt: HostRuntime) -> Result<(), Fail> {
     for row in ROWS.lines() {
         let (number, _) = row.split_once(": ").ok_or("a row without a number")?;
         let script = generate(rt.alloc(), number.parse::<u64>()?)?;
-        assert_eq!(rt; row_of(rt.alloc(), &script)?.as_str(), row);
+        assert!(rt; row_of(rt.alloc(), &script)?.as_str() == row);
         check_rest(&rt, &script);
         check_links(&rt, &script);
     }
@@ -69,25 +69,27 @@ fn scenarios(rt: HostRuntime) -> Result<(), Fail> {
 // What the rows don't tell, since it is always so.
 fn check_rest(rt: &impl Abort, script: &Script) {
     let config = &script.config;
-    assert_eq!(rt; (config.rounds(), config.version()), (32, 1));
-    assert_eq!(rt; script.order, Order::Fifo);
-    assert_eq!(rt; script.submit.len(), 64 * config.n() as usize);
+    assert!(rt;
+        config.rounds() == 32
+            && config.version() == 1
+            && script.order == Order::Fifo
+            && script.submit.len() == 64 * config.n() as usize
+            && config.liars().count() as usize == script.liars.len()
+    );
     for (t, Submit { node, tx }) in script.submit.iter().enumerate() {
-        assert_eq!(rt; (*node as usize, tx.as_slice().len()), (t / 64, 8));
+        assert!(rt; *node as usize == t / 64 && tx.as_slice().len() == 8);
     }
     for liar in &script.liars {
-        assert_eq!(rt; liar.hears, 4_194_304);
-        assert!(rt; config.liars().has(liar.node));
+        assert!(rt; liar.hears == 4_194_304 && config.liars().has(liar.node));
     }
-    assert_eq!(rt; config.liars().count() as usize, script.liars.len());
     for entry in &script.plans {
-        assert_eq!(rt; (entry.plan.stops.len(), entry.plan.faults.len()), (1, 0));
+        assert!(rt; entry.plan.stops.len() == 1 && entry.plan.faults.is_empty());
     }
 }
 
 // A rule for each liar, and the two for all.
 fn check_links(rt: &impl Abort, script: &Script) {
-    assert_eq!(rt; script.links.len(), script.liars.len() + 2);
+    assert!(rt; script.links.len() == script.liars.len() + 2);
     for (place, link) in script.links.iter().enumerate() {
         let from = script.liars.get(place).map(|liar| liar.node);
         let (every, at, shape) = match place.checked_sub(script.liars.len()) {
@@ -95,7 +97,12 @@ fn check_links(rt: &impl Abort, script: &Script) {
             Some(0) => (5, 2, Shape::Twice),
             Some(_) => (7, 3, Shape::Late),
         };
-        assert_eq!(rt; (link.from, link.to), (from, None));
-        assert_eq!(rt; (link.every, link.at, link.shape), (every, at, shape));
+        assert!(rt;
+            link.from == from
+                && link.to.is_none()
+                && link.every == every
+                && link.at == at
+                && link.shape == shape
+        );
     }
 }

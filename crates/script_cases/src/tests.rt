@@ -34,7 +34,7 @@ fn check(rt: &impl Abort, alloc: Global, text: &str, line: &str) -> Result<(), F
         want.push_str(line)?;
         want.push_str("\n")?;
     }
-    assert_eq!(rt; sink.held(), want.as_bytes(), "{text}");
+    assert!(rt; sink.held() == want.as_bytes(), "{text}");
     Ok(())
 }
 
@@ -192,34 +192,32 @@ fn numbers_of_a_scenario(rt: HostRuntime) -> Result<(), Fail> {
             c.version(),
             script.workers,
         ];
-        assert_eq!(rt; read, numbers, "{text}");
-        assert_eq!(rt; c.seed(), seed, "{text}");
-        assert_eq!(rt; script.order, order, "{text}");
+        assert!(rt;
+            read == numbers && c.seed() == seed && script.order == order,
+            "{text}"
+        );
     }
     Ok(())
 }
 
 #[test]
 fn lists_of_a_scenario(rt: HostRuntime) -> Result<(), Fail> {
+    let [_, babble, _] = cast()?;
     let script = script(rt.alloc(), FULL)?;
     let submit = [
         (3, b"j".as_slice()),
         (0, b"hi".as_slice()),
         (0, b"hi".as_slice()),
     ];
-    assert_eq!(rt; script.submit.len(), submit.len());
+    assert!(rt; script.submit.len() == submit.len());
     for (entry, (node, tx)) in script.submit.iter().zip(submit) {
-        assert_eq!(rt; entry.node, node);
-        assert_eq!(rt; entry.tx.as_slice(), tx);
+        assert!(rt; entry.node == node && entry.tx.as_slice() == tx);
     }
-    let [_, babble, _] = cast()?;
     let liar = LiarAt {
         node: 2,
         name: babble,
         hears: 7,
     };
-    assert_eq!(rt; script.liars.as_slice(), [liar].as_slice());
-    assert!(rt; script.config.liars().has(2) && script.config.liars().count() == 1);
     let links = [
         Link {
             from: Some(1),
@@ -236,7 +234,13 @@ fn lists_of_a_scenario(rt: HostRuntime) -> Result<(), Fail> {
             shape: Shape::Twice,
         },
     ];
-    assert_eq!(rt; script.links.as_slice(), links.as_slice());
+    let liars = script.config.liars();
+    assert!(rt;
+        script.liars.as_slice() == [liar].as_slice()
+            && liars.has(2)
+            && liars.count() == 1
+            && script.links.as_slice() == links.as_slice()
+    );
     Ok(())
 }
 
@@ -263,26 +267,21 @@ fn plans_of_a_scenario(rt: HostRuntime) -> Result<(), Fail> {
         (3, 0, [].as_slice(), [5].as_slice()),
         (3, 4, last.as_slice(), [].as_slice()),
     ];
-    assert_eq!(rt; script.plans.len(), plans.len());
+    assert!(rt; script.plans.len() == plans.len());
     for (entry, (node, actor, stops, faults)) in script.plans.iter().zip(plans) {
-        assert_eq!(rt; (entry.node, entry.actor), (node, actor));
-        assert_eq!(rt;
-            entry.plan.stops.as_slice(),
-            stops,
-            "node {node}, actor {actor}"
-        );
-        assert_eq!(rt;
-            entry.plan.faults.as_slice(),
-            faults,
+        assert!(rt;
+            entry.node == node
+                && entry.actor == actor
+                && entry.plan.stops.as_slice() == stops
+                && entry.plan.faults.as_slice() == faults,
             "node {node}, actor {actor}"
         );
     }
     Ok(())
 }
 
-#[test]
-fn shapes_of_posts(rt: HostRuntime) -> Result<(), Fail> {
-    let alloc = rt.alloc();
+// A script with four rules, of which the first never holds.
+fn with_links(alloc: Global) -> Result<Script, Fail> {
     let mut script = script(alloc, r#"{"nodes":4,"faulty":0,"epochs":1}"#)?;
     script.links = vec![in alloc;
         Link {
@@ -314,6 +313,12 @@ fn shapes_of_posts(rt: HostRuntime) -> Result<(), Fail> {
             shape: Shape::Twice
         },
     ]?;
+    Ok(script)
+}
+
+#[test]
+fn shapes_of_posts(rt: HostRuntime) -> Result<(), Fail> {
+    let script = with_links(rt.alloc())?;
     for &(from, to, k, wanted) in &[
         (0, 0, 4, Shape::Once),
         (0, 1, 1, Shape::Late),
@@ -329,9 +334,8 @@ fn shapes_of_posts(rt: HostRuntime) -> Result<(), Fail> {
         (2, 3, 4_294_967_295, Shape::Once),
         (3, 3, 4, Shape::Once),
     ] {
-        assert_eq!(rt;
-            shape(&script, from, to, k),
-            wanted,
+        assert!(rt;
+            shape(&script, from, to, k) == wanted,
             "from {from} to {to}, post {k}"
         );
     }
@@ -399,25 +403,29 @@ fn deep_texts(rt: HostRuntime) -> Result<(), Fail> {
     Ok(())
 }
 
+// Whether a text is told of as no JSON.
+fn is_no_json(alloc: Global, text: &[u8]) -> Result<bool, Fail> {
+    let sink = told(alloc, text, Vec::new(alloc))?;
+    Ok(sink.held() == b"refused 2 NotJson\n".as_slice())
+}
+
 #[test]
 fn texts_that_are_cut_off(rt: HostRuntime) -> Result<(), Fail> {
     let alloc = rt.alloc();
     let full = FULL.as_bytes();
     for len in 0..full.len() {
-        let sink = told(alloc, &full[..len], Vec::new(alloc))?;
-        assert_eq!(rt;
-            sink.held(),
-            b"refused 2 NotJson\n".as_slice(),
-            "{len} bytes"
-        );
+        assert!(rt; is_no_json(alloc, &full[..len])?, "{len} bytes");
     }
-    let sink = told(
-        alloc,
-        b"{\"nodes\":1,\"faulty\":0,\"epochs\":1,\"order\":\"\xff\"}",
-        Vec::new(alloc),
-    )?;
-    assert_eq!(rt; sink.held(), b"refused 2 NotJson\n".as_slice());
+    let no_text = b"{\"nodes\":1,\"faulty\":0,\"epochs\":1,\"order\":\"\xff\"}";
+    assert!(rt; is_no_json(alloc, no_text)?);
     Ok(())
+}
+
+// What is told of a text with a word of so many bytes, where the put with this number fails.
+fn told_of_word(alloc: Global, count: usize, failing: u32) -> Result<MemorySink, Fail> {
+    let head = r#"{"nodes":1,"faulty":0,"epochs":1,"order":""#;
+    let text = repeated(alloc, head, "a", count, "\"}")?;
+    told(alloc, text.as_bytes(), vec![in alloc; failing]?)
 }
 
 // A word of up to 256 bytes is put with its line, a longer one in pieces of 256: a put that fails leaves those before it.
@@ -434,18 +442,15 @@ fn lines_of_long_words(rt: HostRuntime) -> Result<(), Fail> {
         (600, 3, 256, ""),
         (600, 2, 0, ""),
     ] {
-        let head = r#"{"nodes":1,"faulty":0,"epochs":1,"order":""#;
-        let text = repeated(alloc, head, "a", count, "\"}")?;
-        let sink = told(alloc, text.as_bytes(), vec![in alloc; failing]?)?;
+        let sink = told_of_word(alloc, count, failing)?;
         let head = if count == 256 && failing == 1 {
             ""
         } else {
             words
         };
         let want = repeated(alloc, head, "61", shown, end)?;
-        assert_eq!(rt;
-            sink.held(),
-            want.as_bytes(),
+        assert!(rt;
+            sink.held() == want.as_bytes(),
             "{count} bytes, put {failing} fails"
         );
     }

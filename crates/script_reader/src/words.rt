@@ -14,7 +14,7 @@ use hb_base::{Bytes, LiarName};
 use net_script::{Order, Shape};
 use script_fault::{Place, ScriptFault};
 use serde_json::Value;
-use std::alloc::{AllocError, Global};
+use std::alloc::Global;
 
 // What a text names, at a place that takes no other words.
 fn known_word<W>(

@@ -6,6 +6,7 @@ use hb_rules::Report;
 use hb_wire::{Post, To};
 use ledger_text::print_run;
 use std::alloc::{AllocError, Global};
+use std::process::Abort;
 use std::test::Fail;
 
 // Adds the bytes of a batch of 64 transactions, told by the epoch, the node and their numbers.
@@ -65,13 +66,17 @@ fn hash_of(bytes: &[u8]) -> u64 {
     hash
 }
 
+// Checks the length of the text of a run, and its hash.
+fn check_text(rt: &impl Abort, alloc: Global, report: &Report, length: usize, hash: u64) {
+    let mut out = MemorySink::new(alloc, Vec::new(alloc));
+    let done = print_run(report, &mut out);
+    assert!(rt; done.is_ok() && out.held().len() == length && hash_of(out.held()) == hash);
+}
+
 #[test]
 fn full_ledger(rt: HostRuntime) -> Result<(), Fail> {
     let report = full_report(rt.alloc())?;
-    let mut out = MemorySink::new(rt.alloc(), Vec::new(rt.alloc()));
-    assert!(rt; print_run(&report, &mut out).is_ok());
-    assert_eq!(rt; out.held().len(), 336_444);
-    assert_eq!(rt; hash_of(out.held()), 3_914_617_066_968_027_258);
+    check_text(&rt, rt.alloc(), &report, 336_444, 3_914_617_066_968_027_258);
     Ok(())
 }
 
@@ -81,9 +86,6 @@ fn more_than_full(rt: HostRuntime) -> Result<(), Fail> {
     let mut report = full_report(rt.alloc())?;
     let more = Bytes::copy(rt.alloc(), MORE)?;
     report.history.push(post(more))?;
-    let mut out = MemorySink::new(rt.alloc(), Vec::new(rt.alloc()));
-    assert!(rt; print_run(&report, &mut out).is_ok());
-    assert_eq!(rt; out.held().len(), 336_501);
-    assert_eq!(rt; hash_of(out.held()), 5_344_042_125_893_538_723);
+    check_text(&rt, rt.alloc(), &report, 336_501, 5_344_042_125_893_538_723);
     Ok(())
 }

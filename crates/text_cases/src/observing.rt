@@ -1,12 +1,12 @@
 //! Texts of observers.
 
 use crate::observers::{EVERY_TO_TWO, run_of};
-use crate::reports::{failing, lines};
+use crate::reports::{failing_sink, lines};
 use hb_base::{Bytes, Config, MemorySink, NodeSet};
 use hb_rules::Report;
 use hb_wire::{Post, To};
 use observer_text::{ObserveFault, print_observe};
-use std::alloc::Global;
+use std::alloc::{AllocError, Global};
 use std::test::Fail;
 
 // What is printed of an observer without an epoch, and of one with the batches of a, b and c.
@@ -81,13 +81,29 @@ fn text_of(alloc: Global, observers: [&str; 4]) -> Result<String, Fail> {
 fn observed(rt: HostRuntime) -> Result<(), Fail> {
     for &(history, drops, observers) in &OBSERVED {
         let report = run_of(rt.alloc(), history, drops)?;
+        let text = text_of(rt.alloc(), observers)?;
         let mut out = MemorySink::new(rt.alloc(), Vec::new(rt.alloc()));
         let done = print_observe(rt.alloc(), &report, &mut out);
-        assert!(rt; done.is_ok(), "the history {history}");
-        let text = text_of(rt.alloc(), observers)?;
-        assert!(rt; out.held() == text.as_bytes(), "the history {history}");
+        assert!(rt;
+            done.is_ok() && out.held() == text.as_bytes(),
+            "the history {history}"
+        );
     }
     Ok(())
+}
+
+// Whether the lines before the put with this number are written, and the fault of the sink is answered exactly where lines are
+// missing.
+fn is_right_at(alloc: Global, report: &Report, text: &str, call: u32) -> Result<bool, AllocError> {
+    let mut out = failing_sink(alloc, call)?;
+    let done = print_observe(alloc, report, &mut out);
+    let front = lines(text.as_bytes(), call.saturating_sub(1));
+    let wanted = if front.len() == text.len() {
+        Ok(())
+    } else {
+        Err(ObserveFault::Sink)
+    };
+    Ok(out.held() == front && done == wanted)
 }
 
 // Where a put fails, the lines before it have been written.
@@ -97,16 +113,8 @@ fn puts_fail(rt: HostRuntime) -> Result<(), Fail> {
         let report = run_of(rt.alloc(), history, drops)?;
         let text = text_of(rt.alloc(), observers)?;
         for call in 1..80u32 {
-            let mut out = MemorySink::new(rt.alloc(), failing(rt.alloc(), call)?);
-            let done = print_observe(rt.alloc(), &report, &mut out);
-            let front = lines(text.as_bytes(), call - 1);
-            assert!(rt; out.held() == front, "put {call} of {history}");
-            let wanted = if front.len() == text.len() {
-                Ok(())
-            } else {
-                Err(ObserveFault::Sink)
-            };
-            assert!(rt; done == wanted, "put {call} of {history}");
+            let is_right = is_right_at(rt.alloc(), &report, text.as_str(), call)?;
+            assert!(rt; is_right, "put {call} of {history}");
         }
     }
     Ok(())
@@ -128,9 +136,9 @@ fn one_node(alloc: Global) -> Result<Report, Fail> {
 
 #[test]
 fn one_observer(rt: HostRuntime) -> Result<(), Fail> {
+    let report = one_node(rt.alloc())?;
     let mut out = MemorySink::new(rt.alloc(), Vec::new(rt.alloc()));
-    let done = print_observe(rt.alloc(), &one_node(rt.alloc())?, &mut out);
-    assert!(rt; done.is_ok());
+    let done = print_observe(rt.alloc(), &report, &mut out);
     let text = "observe nodes 1 faulty 0 version 1 epochs 1
 observer 0 epochs 1
 epoch 0 batches 1
@@ -138,6 +146,6 @@ batch 0 txs 1
 tx 6869
 end 0
 ";
-    assert!(rt; out.held() == text.as_bytes());
+    assert!(rt; done.is_ok() && out.held() == text.as_bytes());
     Ok(())
 }

@@ -25,24 +25,37 @@ fn broken_line(alloc: Global, text: &str) -> Result<Option<u32>, Fail> {
 }
 
 fn check_posts(rt: &impl Abort, trace: &Trace, rows: &[Row]) {
-    assert_eq!(rt; trace.posts.len(), rows.len());
+    assert!(rt; trace.posts.len() == rows.len());
     for (post, (from, actor, to, bytes)) in trace.posts.iter().zip(rows) {
-        assert_eq!(rt; post.from, *from);
-        assert_eq!(rt; post.actor, *actor);
-        assert!(rt; post.to == *to);
-        assert_eq!(rt; post.bytes.as_slice(), *bytes);
+        assert!(rt;
+            post.from == *from
+                && post.actor == *actor
+                && post.to == *to
+                && post.bytes.as_slice() == *bytes
+        );
     }
+}
+
+// Checks that a text is a trace with this configuration and these posts.
+fn check_trace(
+    rt: &impl Abort,
+    alloc: Global,
+    text: &str,
+    config: Config,
+    rows: &[Row],
+) -> Result<(), Fail> {
+    let Ok(trace) = read(alloc, text)? else {
+        return Err("no trace")?;
+    };
+    assert!(rt; trace.config == config);
+    check_posts(rt, &trace, rows);
+    Ok(())
 }
 
 #[test]
 fn a_text_of_25_lines(rt: HostRuntime) -> Result<(), Fail> {
-    let Ok(trace) = read(rt.alloc(), TEXT)? else {
-        return Err("no trace")?;
-    };
     let config = Config::new(1, 0, 1, 3, 64, 0, 1, NodeSet::new()).ok_or("no config")?;
-    assert!(rt; trace.config == config);
-    check_posts(&rt, &trace, &POSTS);
-    Ok(())
+    check_trace(&rt, rt.alloc(), TEXT, config, &POSTS)
 }
 
 // Sixteen nodes, of which 0, 3 and 15 lie, and no post.
@@ -50,17 +63,12 @@ fn a_text_of_25_lines(rt: HostRuntime) -> Result<(), Fail> {
 fn the_greatest_numbers(rt: HostRuntime) -> Result<(), Fail> {
     let text =
         "trace nodes 16 faulty 5 version 2 epochs 32 rounds 32 batch 64 seed 18446744073709551615 liars 32777\nend 0\n";
-    let Ok(trace) = read(rt.alloc(), text)? else {
-        return Err("no trace")?;
-    };
     let mut liars = NodeSet::new();
     for node in [0, 3, 15] {
         liars.add(node);
     }
     let config = Config::new(16, 5, 32, 32, 64, u64::MAX, 2, liars).ok_or("no config")?;
-    assert!(rt; trace.config == config);
-    check_posts(&rt, &trace, &[]);
-    Ok(())
+    check_trace(&rt, rt.alloc(), text, config, &[])
 }
 
 #[test]
@@ -166,7 +174,7 @@ fn first_lines(rt: HostRuntime) -> Result<(), Fail> {
         ),
     ] {
         let text = format!(in rt.alloc(); "{head}end 0\n")?;
-        assert_eq!(rt; broken_line(rt.alloc(), text.as_str())?, wanted, "{head}");
+        assert!(rt; broken_line(rt.alloc(), text.as_str())? == wanted, "{head}");
     }
     Ok(())
 }
@@ -184,6 +192,22 @@ fn with_line(alloc: Global, place: u32, line: &str) -> Result<String, AllocError
     }
     text.push_str("end 3\n")?;
     Ok(text)
+}
+
+// Checks the line that the text of three posts is refused for, or that it is none, with this line in the place of one of them.
+fn check_line(
+    rt: &impl Abort,
+    alloc: Global,
+    place: u32,
+    line: &str,
+    wanted: Option<u32>,
+) -> Result<(), Fail> {
+    let text = with_line(alloc, place, line)?;
+    assert!(rt;
+        broken_line(alloc, text.as_str())? == wanted,
+        "{line} for post {place}"
+    );
+    Ok(())
 }
 
 // What stands behind the number of a post, the first, the second or the third.
@@ -213,28 +237,27 @@ fn lines_of_posts(rt: HostRuntime) -> Result<(), Fail> {
     ] {
         for place in 0..3 {
             let line = format!(in rt.alloc(); "post {place} {rest}")?;
-            let text = with_line(rt.alloc(), place, line.as_str())?;
             let wanted = if is_read { None } else { Some(place + 2) };
-            assert_eq!(rt; broken_line(rt.alloc(), text.as_str())?, wanted, "{line}");
+            check_line(&rt, rt.alloc(), place, line.as_str(), wanted)?;
         }
     }
     Ok(())
 }
 
-fn check_broken(
+// Checks that a post with this number is refused where it stands in the place of another.
+fn check_number(
     rt: &impl Abort,
     alloc: Global,
     place: u32,
-    line: &str,
+    number: &str,
     broken: u32,
 ) -> Result<(), Fail> {
-    let text = with_line(alloc, place, line)?;
-    assert_eq!(rt;
-        broken_line(alloc, text.as_str())?,
-        Some(broken),
-        "{line} for post {place}"
-    );
-    Ok(())
+    let own = format!(in alloc; "{place}")?;
+    if number == own.as_str() {
+        return Ok(());
+    }
+    let wrong = format!(in alloc; "post {number} from 0 actor 1 to home 1100\n")?;
+    check_line(rt, alloc, place, wrong.as_str(), Some(broken))
 }
 
 // A line that is missing or empty, or has the number of another post or one that is spelled otherwise; and one that ends the text
@@ -244,17 +267,13 @@ fn numbers_of_posts(rt: HostRuntime) -> Result<(), Fail> {
     let alloc = rt.alloc();
     for place in 0..3u32 {
         let line = place + 2;
-        check_broken(&rt, alloc, place, "", line)?;
-        check_broken(&rt, alloc, place, "\n", line)?;
+        check_line(&rt, alloc, place, "", Some(line))?;
+        check_line(&rt, alloc, place, "\n", Some(line))?;
         for number in ["0", "1", "2", "3", "00", "01", "02"] {
-            let own = format!(in alloc; "{place}")?;
-            if number != own.as_str() {
-                let wrong = format!(in alloc; "post {number} from 0 actor 1 to home 1100\n")?;
-                check_broken(&rt, alloc, place, wrong.as_str(), line)?;
-            }
+            check_number(&rt, alloc, place, number, line)?;
         }
         let end = format!(in alloc; "end {place}\n")?;
-        check_broken(&rt, alloc, place, end.as_str(), line + 1)?;
+        check_line(&rt, alloc, place, end.as_str(), Some(line + 1))?;
     }
     Ok(())
 }
@@ -278,10 +297,18 @@ fn last_lines(rt: HostRuntime) -> Result<(), Fail> {
         ("end 1\nend 1", Some(4)),
     ] {
         let text = format!(in rt.alloc(); "{NUMBERS}post 0 from 0 actor 1 to home 1100\n{end}")?;
-        assert_eq!(rt; broken_line(rt.alloc(), text.as_str())?, wanted, "{end}");
+        assert!(rt; broken_line(rt.alloc(), text.as_str())? == wanted, "{end}");
     }
-    assert_eq!(rt; broken_line(rt.alloc(), NUMBERS)?, Some(2));
+    assert!(rt; broken_line(rt.alloc(), NUMBERS)? == Some(2));
     Ok(())
+}
+
+// The fault for which a source gives no trace, and none where it gives one.
+fn fault_of(alloc: Global, source: &mut MemorySource) -> Option<TraceFault> {
+    match read_trace(alloc, source) {
+        Ok(_) => None,
+        Err(fault) => Some(fault),
+    }
 }
 
 #[test]
@@ -290,27 +317,27 @@ fn a_take_that_fails(rt: HostRuntime) -> Result<(), Fail> {
     for call in [1, 2, 100] {
         let bytes = Bytes::copy(alloc, TEXT.as_bytes())?;
         let mut source = MemorySource::new(bytes, 7, vec![in alloc; call]?);
-        assert!(rt; matches!(read_trace(alloc, &mut source), Err(TraceFault::ReadFault)));
+        assert!(rt; fault_of(alloc, &mut source) == Some(TraceFault::ReadFault));
     }
     Ok(())
+}
+
+// A source of so many ends of lines.
+fn ends_of_lines(alloc: Global, count: usize) -> Result<MemorySource, AllocError> {
+    let bytes = Bytes::from_vec(vec![in alloc; b'\n'; count]?)?;
+    Ok(MemorySource::new(bytes, 65536, Vec::new(alloc)))
 }
 
 // Bytes that are one too many are told of as such, and those behind them stay; as many as may be are read.
 #[test]
 fn the_longest_text(rt: HostRuntime) -> Result<(), Fail> {
     let alloc = rt.alloc();
-    let bytes = vec![in alloc; b'\n'; LONGEST_TRACE + 3]?;
-    let mut source = MemorySource::new(Bytes::from_vec(bytes)?, 65536, Vec::new(alloc));
-    assert!(rt; matches!(read_trace(alloc, &mut source), Err(TraceFault::TooLong)));
+    let mut longer = ends_of_lines(alloc, LONGEST_TRACE + 3)?;
+    let fault = fault_of(alloc, &mut longer);
     let mut rest = [0u8; 8];
-    assert_eq!(rt; source.take(&mut rest).ok(), Some(2));
-    let bytes = vec![in alloc; b'\n'; LONGEST_TRACE]?;
-    let mut source = MemorySource::new(Bytes::from_vec(bytes)?, 65536, Vec::new(alloc));
-    assert!(rt;
-        matches!(
-            read_trace(alloc, &mut source),
-            Err(TraceFault::NotATrace { line: 1 })
-        )
-    );
+    let taken = longer.take(&mut rest).ok();
+    assert!(rt; fault == Some(TraceFault::TooLong) && taken == Some(2));
+    let mut longest = ends_of_lines(alloc, LONGEST_TRACE)?;
+    assert!(rt; fault_of(alloc, &mut longest) == Some(TraceFault::NotATrace { line: 1 }));
     Ok(())
 }

@@ -1,7 +1,7 @@
 //! Reports, told by words.
 
 use disk_model::{MemoryDisk, Note, Plan, Power};
-use hb_base::{Bytes, Config, NodeSet};
+use hb_base::{Bytes, Config, MemorySink, NodeSet};
 use hb_rules::{End, Fate, Report};
 use hb_wire::{Post, To};
 use std::alloc::{AllocError, Global};
@@ -172,11 +172,9 @@ pub(crate) fn report_of(alloc: Global, told: Told) -> Result<Report, Fail> {
     Ok(report)
 }
 
-// The number of the call that fails.
-pub(crate) fn failing(alloc: Global, call: u32) -> Result<Vec<u32>, AllocError> {
-    let mut calls = Vec::new(alloc);
-    calls.push(call)?;
-    Ok(calls)
+// A sink whose call with this number fails.
+pub(crate) fn failing_sink(alloc: Global, call: u32) -> Result<MemorySink, AllocError> {
+    Ok(MemorySink::new(alloc, vec![in alloc; call]?))
 }
 
 // So many lines of a text, from its front.

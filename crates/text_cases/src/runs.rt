@@ -1,6 +1,6 @@
 //! Texts of runs.
 
-use crate::reports::{Told, failing, lines, report_of};
+use crate::reports::{Told, failing_sink, lines, report_of};
 use hb_base::MemorySink;
 use ledger_text::print_run;
 use std::test::Fail;
@@ -365,9 +365,9 @@ fn runs(rt: HostRuntime) -> Result<(), Fail> {
     for &(told, text) in &RUNS {
         let report = report_of(rt.alloc(), told)?;
         let mut out = MemorySink::new(rt.alloc(), Vec::new(rt.alloc()));
-        assert!(rt; print_run(&report, &mut out).is_ok());
+        let done = print_run(&report, &mut out);
         assert!(rt;
-            out.held() == text.as_bytes(),
+            done.is_ok() && out.held() == text.as_bytes(),
             "the history {history}",
             history = told.history
         );
@@ -381,15 +381,14 @@ fn puts_that_fail(rt: HostRuntime) -> Result<(), Fail> {
     for &(told, text) in &RUNS {
         let report = report_of(rt.alloc(), told)?;
         for call in 1..60u32 {
-            let mut out = MemorySink::new(rt.alloc(), failing(rt.alloc(), call)?);
+            let mut out = failing_sink(rt.alloc(), call)?;
             let is_whole = print_run(&report, &mut out).is_ok();
             let front = lines(text.as_bytes(), call - 1);
             assert!(rt;
-                out.held() == front,
+                out.held() == front && is_whole == (front.len() == text.len()),
                 "put {call} of {history}",
                 history = told.history
             );
-            assert!(rt; is_whole == (front.len() == text.len()));
         }
     }
     Ok(())

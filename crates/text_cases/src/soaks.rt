@@ -1,6 +1,6 @@
 //! Texts of generated runs.
 
-use crate::reports::{Told, failing, lines, report_of};
+use crate::reports::{Told, failing_sink, lines, report_of};
 use hb_base::MemorySink;
 use ledger_text::print_soak;
 use std::test::Fail;
@@ -91,8 +91,11 @@ fn soaks(rt: HostRuntime) -> Result<(), Fail> {
     for &(history, status, text) in &SOAKS {
         let report = report_of(rt.alloc(), told(history, status))?;
         let mut out = MemorySink::new(rt.alloc(), Vec::new(rt.alloc()));
-        assert!(rt; print_soak(u64::MAX, &report, &mut out).is_ok());
-        assert!(rt; out.held() == text.as_bytes(), "the history {history}");
+        let done = print_soak(u64::MAX, &report, &mut out);
+        assert!(rt;
+            done.is_ok() && out.held() == text.as_bytes(),
+            "the history {history}"
+        );
     }
     Ok(())
 }
@@ -103,10 +106,10 @@ fn puts_that_fail(rt: HostRuntime) -> Result<(), Fail> {
     for &(history, status, text) in &SOAKS {
         let report = report_of(rt.alloc(), told(history, status))?;
         for call in 1..6u32 {
-            let mut out = MemorySink::new(rt.alloc(), failing(rt.alloc(), call)?);
-            assert!(rt; print_soak(u64::MAX, &report, &mut out).is_err());
+            let mut out = failing_sink(rt.alloc(), call)?;
+            let done = print_soak(u64::MAX, &report, &mut out);
             assert!(rt;
-                out.held() == lines(text.as_bytes(), call - 1),
+                done.is_err() && out.held() == lines(text.as_bytes(), call - 1),
                 "put {call} of {history}"
             );
         }

@@ -6,6 +6,7 @@ use hb_rules::{End, Fate, Report};
 use hb_wire::{Post, To};
 use run_status::status;
 use std::alloc::{AllocError, Global};
+use std::process::Abort;
 use std::test::Fail;
 
 // A run of so many nodes, epochs and rounds, of which these lie, its ends and its history, and the status that is wanted.
@@ -323,6 +324,18 @@ fn report_of(alloc: Global, case: &Case) -> Result<Report, Fail> {
     Ok(report)
 }
 
+// Checks the status of a run.
+fn check_status(rt: &impl Abort, alloc: Global, case: &Case) -> Result<(), Fail> {
+    let report = report_of(alloc, case)?;
+    assert!(rt;
+        status(&report) == case.status,
+        "the ends {}, the history {}",
+        case.ends,
+        case.history
+    );
+    Ok(())
+}
+
 #[test]
 fn statuses(rt: HostRuntime) -> Result<(), Fail> {
     for &(wanted, ends, history) in &CASES {
@@ -333,14 +346,7 @@ fn statuses(rt: HostRuntime) -> Result<(), Fail> {
             history,
             status: wanted,
         };
-        let report = report_of(rt.alloc(), &case)?;
-        assert_eq!(rt;
-            status(&report),
-            case.status,
-            "the ends {}, the history {}",
-            case.ends,
-            case.history
-        );
+        check_status(&rt, rt.alloc(), &case)?;
     }
     Ok(())
 }
@@ -348,14 +354,7 @@ fn statuses(rt: HostRuntime) -> Result<(), Fail> {
 #[test]
 fn extremes(rt: HostRuntime) -> Result<(), Fail> {
     for case in &EXTREMES {
-        let report = report_of(rt.alloc(), case)?;
-        assert_eq!(rt;
-            status(&report),
-            case.status,
-            "the ends {}, the history {}",
-            case.ends,
-            case.history
-        );
+        check_status(&rt, rt.alloc(), case)?;
     }
     Ok(())
 }

@@ -1,10 +1,11 @@
 //! Texts of histories.
 
-use crate::reports::{failing, lines};
+use crate::reports::{failing_sink, lines};
 use hb_base::{Bytes, Config, MemorySink, NodeSet};
 use hb_rules::Report;
 use hb_wire::{Post, To};
 use std::alloc::Global;
+use std::process::Abort;
 use std::test::Fail;
 use trace_text::print_trace;
 
@@ -84,18 +85,21 @@ fn sixteen(alloc: Global, posts: &[(u8, u8, To, &[u8])]) -> Result<Report, Fail>
     report_of(alloc, config, posts)
 }
 
+// Checks that the trace of this report is this text.
+fn check_text(rt: &impl Abort, alloc: Global, report: &Report, wanted: &str) {
+    let mut out = MemorySink::new(alloc, Vec::new(alloc));
+    let done = print_trace(report, &mut out);
+    assert!(rt;
+        done.is_ok() && out.held() == wanted.as_bytes(),
+        "the text {wanted}"
+    );
+}
+
 #[test]
 fn traces(rt: HostRuntime) -> Result<(), Fail> {
     let alloc = rt.alloc();
-    for (report, wanted) in [
-        (one_node(alloc)?, ONE_NODE_TEXT),
-        (sixteen(alloc, &ADDRESSES)?, ADDRESSES_TEXT),
-    ] {
-        let mut out = MemorySink::new(alloc, Vec::new(alloc));
-        let done = print_trace(&report, &mut out);
-        assert!(rt; done.is_ok());
-        assert!(rt; out.held() == wanted.as_bytes(), "the text {wanted}");
-    }
+    check_text(&rt, alloc, &one_node(alloc)?, ONE_NODE_TEXT);
+    check_text(&rt, alloc, &sixteen(alloc, &ADDRESSES)?, ADDRESSES_TEXT);
     Ok(())
 }
 
@@ -118,24 +122,25 @@ fn long_bytes(alloc: Global, count: u32) -> Result<Vec<u8>, Fail> {
     Ok(bytes)
 }
 
+// The report of a run with one post of so many bytes A5.
+fn long_report(alloc: Global, count: u32) -> Result<Report, Fail> {
+    let bytes = long_bytes(alloc, count)?;
+    sixteen(alloc, &[(1, 2, To::All, bytes.as_slice())])
+}
+
 #[test]
 fn long_posts(rt: HostRuntime) -> Result<(), Fail> {
     let alloc = rt.alloc();
     for count in [1, 255, 256, 257, 511, 512, 513, 20_000] {
-        let bytes = long_bytes(alloc, count)?;
-        let report = sixteen(alloc, &[(1, 2, To::All, bytes.as_slice())])?;
+        let report = long_report(alloc, count)?;
+        let text = long_text(alloc, count)?;
         let mut out = MemorySink::new(alloc, Vec::new(alloc));
         let done = print_trace(&report, &mut out);
-        assert!(rt; done.is_ok(), "a post of {count} bytes");
-        let text = long_text(alloc, count)?;
         let front = lines(out.held(), 1).len();
         assert!(rt;
-            out.held().ends_with(text.as_slice()),
-            "a post of {count} bytes"
-        );
-        assert_eq!(rt;
-            out.held().len(),
-            front.saturating_add(text.len()),
+            done.is_ok()
+                && out.held().ends_with(text.as_slice())
+                && out.held().len() == front.saturating_add(text.len()),
             "a post of {count} bytes"
         );
     }
@@ -144,12 +149,12 @@ fn long_posts(rt: HostRuntime) -> Result<(), Fail> {
 
 #[test]
 fn a_put_fails(rt: HostRuntime) -> Result<(), Fail> {
+    let report = one_node(rt.alloc())?;
     for call in 1..6u32 {
-        let mut out = MemorySink::new(rt.alloc(), failing(rt.alloc(), call)?);
-        let done = print_trace(&one_node(rt.alloc())?, &mut out);
-        assert!(rt; done.is_err(), "put {call}");
+        let mut out = failing_sink(rt.alloc(), call)?;
+        let done = print_trace(&report, &mut out);
         assert!(rt;
-            out.held() == lines(ONE_NODE_TEXT.as_bytes(), call.saturating_sub(1)),
+            done.is_err() && out.held() == lines(ONE_NODE_TEXT.as_bytes(), call.saturating_sub(1)),
             "put {call}"
         );
     }

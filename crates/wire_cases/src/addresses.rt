@@ -2,7 +2,18 @@
 
 use hb_base::Bytes;
 use hb_wire::*;
+use std::alloc::{AllocError, Global};
 use std::test::*;
+
+// A post of node 1.
+fn post(alloc: Global, actor: u8, to: To) -> Result<Post, AllocError> {
+    Ok(Post {
+        from: 1,
+        actor,
+        to,
+        bytes: Bytes::copy(alloc, b"")?,
+    })
+}
 
 #[test]
 fn addresses(rt: HostRuntime) -> Result<(), Fail> {
@@ -22,14 +33,8 @@ fn addresses(rt: HostRuntime) -> Result<(), Fail> {
         (To::Node(3), 2, 3, 4, false),
     ];
     for (to, actor, node, hearer, expected) in rows {
-        let bytes = Bytes::copy(rt.alloc(), b"")?;
-        let post = Post {
-            from: 1,
-            actor,
-            to,
-            bytes,
-        };
-        assert_eq!(rt; reaches(4, &post, node, hearer), expected);
+        let post = post(rt.alloc(), actor, to)?;
+        assert!(rt; reaches(4, &post, node, hearer) == expected);
     }
     Ok(())
 }

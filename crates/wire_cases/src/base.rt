@@ -1,5 +1,9 @@
 //! What no clause of hb_base says: that calls find memory and succeed, and that the limits are those that were meant.
+
+ghost use Rattle.std.specs.Prelude.{◌≡◌, ◌≤◌, length, IfOk};
+
 use hb_base::{Bytes, Config, LiarName, MemorySink, MemorySource, NodeSet, OpenGate, Sink, Source};
+use std::alloc::{AllocError, Global};
 use std::test::Fail;
 
 #[test]
@@ -24,7 +28,7 @@ fn configs_at_their_limits(rt: HostRuntime) {
         (4, 1, 1, 32, 64, 3, false),
     ] {
         let config = Config::new(n, f, epochs, rounds, batch, 7, version, NodeSet::new());
-        assert_eq!(rt; config.is_some(), wanted, "n {n}, f {f}, epochs {epochs}");
+        assert!(rt; config.is_some() == wanted, "n {n}, f {f}, epochs {epochs}");
     }
 }
 
@@ -35,7 +39,15 @@ fn liars_of_a_config(rt: HostRuntime) {
         liars.add(first);
         liars.add(second);
         let config = Config::new(4, 1, 1, 32, 64, 0, 1, liars);
-        assert_eq!(rt; config.is_some(), wanted, "liars {first} and {second}");
+        assert!(rt; config.is_some() == wanted, "liars {first} and {second}");
+    }
+}
+
+// Whether a text is a name exactly where that is wanted, and the name then has the bytes of the text.
+fn is_as_wanted(text: &str, wanted: bool) -> bool {
+    match LiarName::of(text) {
+        Some(name) => wanted && name.as_bytes() == text.as_bytes(),
+        None => !wanted,
     }
 }
 
@@ -53,63 +65,95 @@ fn names_of_liars(rt: HostRuntime) {
         ("a-b", false),
         ("é", false),
     ] {
-        let name = LiarName::of(text);
-        assert_eq!(rt; name.is_some(), wanted, "{text}");
-        if let Some(name) = name {
-            assert_eq!(rt; name.as_bytes(), text.as_bytes(), "{text}");
-        }
+        assert!(rt; is_as_wanted(text, wanted), "{text}");
     }
+}
+
+// The bytes `bad`, taken over from a vector.
+fn bad(alloc: Global) -> Result<Bytes, AllocError> {
+    Bytes::from_vec(vec![in alloc; 98, 97, 100]?)
 }
 
 #[test]
 fn byte_strings(rt: HostRuntime) -> Result<(), Fail> {
+    let bad = bad(rt.alloc())?;
     let honey = Bytes::copy(rt.alloc(), b"honey")?;
-    let badger = Bytes::from_vec(vec![in rt.alloc(); 98, 97, 100]?)?;
-    assert_eq!(rt; badger.as_slice(), b"bad".as_slice());
     let again = honey.clone()?;
-    assert_eq!(rt; again.as_slice(), b"honey".as_slice());
-    assert!(rt; again == honey && badger < honey);
+    let are_read = bad.as_slice() == b"bad".as_slice() && again.as_slice() == b"honey".as_slice();
+    assert!(rt; are_read && again == honey && bad < honey);
     Ok(())
+}
+
+// So many bytes.
+fn long_bytes(alloc: Global, len: u32) -> Result<Vec<u8>, AllocError> {
+    let mut bytes = Vec::new(alloc);
+    let mut byte = 0u8;
+    for _ in 0..len {
+        bytes.push(byte)?;
+        byte = byte.wrapping_add(7);
+    }
+    Ok(bytes)
+}
+
+// Whether the bytes are copied, and taken over.
+fn are_kept(alloc: Global, bytes: Vec<u8>) -> Result<bool, AllocError> {
+    let copy = Bytes::copy(alloc, bytes.as_slice())?;
+    let are_copied = copy.as_slice() == bytes.as_slice();
+    let taken = Bytes::from_vec(bytes)?;
+    let again = taken.clone()?;
+    Ok(are_copied && again == copy)
 }
 
 #[test]
 fn long_byte_strings(rt: HostRuntime) -> Result<(), Fail> {
     for len in [65_536, 65_537, 1_000_000] {
-        let mut bytes = Vec::new(rt.alloc());
-        let mut byte = 0u8;
-        for _ in 0..len {
-            bytes.push(byte)?;
-            byte = byte.wrapping_add(7);
-        }
-        let copy = Bytes::copy(rt.alloc(), bytes.as_slice())?;
-        assert!(rt;
-            copy.as_slice() == bytes.as_slice(),
-            "{len} bytes are copied"
-        );
-        let taken = Bytes::from_vec(bytes)?;
-        assert!(rt; taken.clone()? == copy, "{len} bytes are taken");
+        let bytes = long_bytes(rt.alloc(), len)?;
+        assert!(rt; are_kept(rt.alloc(), bytes)?, "{len} bytes");
     }
     Ok(())
 }
 
+// Bytes, and the part of them that spells `badger`.
+fn badger(alloc: Global) -> Result<(Bytes, Bytes), AllocError>
+    ensures { IfOk result (λ both. length both.1 ≡ 6) }
+{
+    let whole = Bytes::copy(alloc, b"honey badger")?;
+    let part = whole.part(6, 6)?;
+    Ok((whole, part))
+}
+
+// Whether the third byte, as a part of a clone, is this one.
+fn is_third(bytes: &Bytes, third: u8) -> Result<bool, AllocError>
+    requires { 3 ≤ length bytes.now }
+{
+    let clone = bytes.clone()?;
+    let part = clone.part(2, 1)?;
+    Ok(part.as_slice() == [third].as_slice())
+}
+
 #[test]
 fn parts_of_byte_strings(rt: HostRuntime) -> Result<(), Fail> {
-    let whole = Bytes::copy(rt.alloc(), b"honey badger")?;
-    let badger = whole.part(6, 6)?;
+    let (whole, badger) = badger(rt.alloc())?;
     let middle = badger.part(1, 3)?;
     let end = badger.part(6, 0)?;
     drop(whole);
     drop(badger);
-    assert_eq!(rt; middle.as_slice(), b"adg".as_slice());
-    assert_eq!(rt; middle.clone()?.part(2, 1)?.as_slice(), b"g".as_slice());
-    assert!(rt; end.as_slice().is_empty() && end < middle);
+    assert!(rt; is_third(&middle, b'g')?);
+    assert!(rt;
+        middle.as_slice() == b"adg".as_slice() && end.as_slice().is_empty() && end < middle
+    );
     Ok(())
+}
+
+// Bytes that come two at a time, of which the second time fails.
+fn source(alloc: Global) -> Result<MemorySource, AllocError> {
+    let failing = vec![in alloc; 2]?;
+    Ok(MemorySource::new(Bytes::copy(alloc, b"honey")?, 2, failing))
 }
 
 #[test]
 fn a_source_in_pieces(rt: HostRuntime) -> Result<(), Fail> {
-    let alloc = rt.alloc();
-    let mut source = MemorySource::new(Bytes::copy(alloc, b"honey")?, 2, vec![in alloc; 2]?);
+    let mut source = source(rt.alloc())?;
     let mut buf = *b"____";
     for &(wanted, whole) in &[
         (Some(2), b"ho__"),
@@ -119,8 +163,7 @@ fn a_source_in_pieces(rt: HostRuntime) -> Result<(), Fail> {
         (Some(0), b"ye__"),
     ] {
         let count = source.take(&mut buf).ok();
-        assert_eq!(rt; count, wanted);
-        assert_eq!(rt; buf, *whole);
+        assert!(rt; count == wanted && buf == *whole);
     }
     Ok(())
 }
@@ -130,9 +173,9 @@ fn a_sink_that_fails_once(rt: HostRuntime) -> Result<(), Fail> {
     let alloc = rt.alloc();
     let mut sink = MemorySink::new(alloc, vec![in alloc; 2]?);
     for (piece, wanted) in [(b"ho", true), (b"xx", false), (b"ny", true)] {
-        assert_eq!(rt; sink.put(piece).is_ok(), wanted);
+        assert!(rt; sink.put(piece).is_ok() == wanted);
     }
-    assert_eq!(rt; sink.held(), b"hony".as_slice());
+    assert!(rt; sink.held() == b"hony".as_slice());
     Ok(())
 }
 

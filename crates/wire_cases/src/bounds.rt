@@ -131,8 +131,9 @@ fn is_bounded(alloc: Global, kind: u8, n: u8, large: bool) -> Result<bool, Fail>
 fn bounds(rt: HostRuntime) -> Result<(), Fail> {
     for &kind in &KINDS {
         for n in [1, 4, 16] {
-            assert!(rt; is_bounded(rt.alloc(), kind, n, false)?);
-            assert!(rt; is_bounded(rt.alloc(), kind, n, true)?);
+            let is_small = is_bounded(rt.alloc(), kind, n, false)?;
+            let is_large = is_bounded(rt.alloc(), kind, n, true)?;
+            assert!(rt; is_small && is_large);
         }
     }
     Ok(())

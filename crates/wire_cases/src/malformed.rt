@@ -238,18 +238,28 @@ fn row(alloc: Global, line: &str) -> Result<(u8, Vec<u8>), Fail> {
     Ok((n.parse::<u8>()?, hex::decode(alloc, text)?))
 }
 
+// Whether the bytes of a row are refused under each version.
+fn is_refused_always(alloc: Global, line: &str) -> Result<bool, Fail> {
+    let (n, bytes) = row(alloc, line)?;
+    if n < 1 || n > 16 {
+        return Ok(false);
+    }
+    for version in 0..4 {
+        if !is_refused(alloc, n, version, &bytes) {
+            return Ok(false);
+        }
+    }
+    Ok(true)
+}
+
 #[test]
 fn malformed(rt: HostRuntime) -> Result<(), Fail> {
     let mut count = 0u32;
     for line in MALFORMED.lines() {
-        let (n, bytes) = row(rt.alloc(), line)?;
-        assert!(rt; 1 <= n && n <= 16);
-        for version in 0..4 {
-            assert!(rt; is_refused(rt.alloc(), n, version, &bytes), "{line}");
-        }
+        assert!(rt; is_refused_always(rt.alloc(), line)?, "{line}");
         count = count.saturating_add(1);
     }
-    assert_eq!(rt; count, 211);
+    assert!(rt; count == 211);
     Ok(())
 }
 

@@ -65,13 +65,24 @@ const ECHO: &str = "\
 0e499a4a9d825bc005ca4f69060d97389053380614914f0f4c0cb8e510426229\
 68a248824822164e879ca777d46284c1235e1b0bde89ca303898bb2c2fd15922";
 
+// Whether `ready` makes the bytes `READY` of a root.
+fn is_ready_made(alloc: Global) -> Result<bool, Fail> {
+    let config = config()?;
+    let bytes = ready(alloc, &config, [0x33; 32])?;
+    is_spelled(alloc, &bytes, READY)
+}
+
+// Whether `show` makes the bytes `COIN` of a share of node 2.
+fn is_coin_made(alloc: Global) -> Result<bool, Fail> {
+    let config = config()?;
+    let tree = tree(alloc)?;
+    let bytes = show(alloc, &config, &tree, 2, 0xFE, [0x44; 16])?;
+    is_spelled(alloc, &bytes, COIN)
+}
+
 #[test]
 fn made(rt: HostRuntime) -> Result<(), Fail> {
-    let config = config()?;
-    let bytes = ready(rt.alloc(), &config, [0x33; 32])?;
-    assert!(rt; is_spelled(rt.alloc(), &bytes, READY)?);
-    let bytes = show(rt.alloc(), &config, &tree(rt.alloc())?, 2, 0xFE, [0x44; 16])?;
-    assert!(rt; is_spelled(rt.alloc(), &bytes, COIN)?);
+    assert!(rt; is_ready_made(rt.alloc())? && is_coin_made(rt.alloc())?);
     Ok(())
 }
 
@@ -104,14 +115,22 @@ fn post(alloc: Global, text: &str) -> Result<Post, Fail> {
     })
 }
 
+// Whether the bytes are an Echo of node 2, whether they are one of node 1, and whether a vote is heard.
+fn findings(alloc: Global, text: &str) -> Result<[bool; 3], Fail> {
+    let config = config()?;
+    let post = post(alloc, text)?;
+    let vote = hear(alloc, &config, &post)?;
+    Ok([
+        is_echo(&config, &post, 2),
+        is_echo(&config, &post, 1),
+        vote.is_some(),
+    ])
+}
+
 #[test]
 fn heard(rt: HostRuntime) -> Result<(), Fail> {
-    let config = config()?;
-    let echo = post(rt.alloc(), ECHO)?;
-    assert!(rt; is_echo(&config, &echo, 2) && !is_echo(&config, &echo, 1));
-    assert!(rt; hear(rt.alloc(), &config, &echo)?.is_some());
-    let nothing = post(rt.alloc(), "0202")?;
-    assert!(rt; !is_echo(&config, &nothing, 2));
-    assert!(rt; hear(rt.alloc(), &config, &nothing)?.is_none());
+    let echo = findings(rt.alloc(), ECHO)?;
+    let nothing = findings(rt.alloc(), "0202")?;
+    assert!(rt; echo == [true, false, true] && nothing == [false, false, false]);
     Ok(())
 }

@@ -2,7 +2,7 @@
 
 ghost use Rattle.std.specs.Prelude.{IfOk, IsTrue};
 
-use merkle_branch::{Branch, Leaves, Tree, height, is_branch};
+use merkle_branch::{Branch, Leaves, Tree, is_branch};
 use std::alloc::{AllocError, Global};
 use std::test::*;
 
@@ -111,14 +111,28 @@ fn is_accepted(alloc: Global, first: &[u8], second: &[u8]) -> Result<bool, Alloc
     Ok(is_branch(&tree.root(), 2, 1, second, &tree.branch(1)))
 }
 
+// Whether a digest has this text in hexadecimal.
+fn is_spelled(alloc: Global, digest: [u8; 32], text: &str) -> Result<bool, AllocError> {
+    Ok(hex::encode(alloc, digest)?.as_str() == text)
+}
+
+// Whether a branch has these siblings and no more.
+fn has_siblings(alloc: Global, branch: &Branch, siblings: &[&str]) -> Result<bool, AllocError> {
+    for (digest, sibling) in branch.digests.iter().zip(siblings) {
+        if !is_spelled(alloc, *digest, sibling)? {
+            return Ok(false);
+        }
+    }
+    Ok(branch.len as usize == siblings.len())
+}
+
 #[test]
 fn roots(rt: HostRuntime) -> Result<(), Fail> {
     for &(n, root) in &ROOTS {
         let leaves = leaves_of(n);
-        assert!(rt; !leaves.is_empty());
-        assert_eq!(rt; leaves.len(), n);
+        assert!(rt; !leaves.is_empty() && leaves.len() == n, "{n} leaves");
         let tree = Tree::build(rt.alloc(), &leaves)?;
-        assert_eq!(rt; hex::encode(rt.alloc(), tree.root())?.as_str(), root);
+        assert!(rt; is_spelled(rt.alloc(), tree.root(), root)?, "{n} leaves");
     }
     Ok(())
 }
@@ -128,22 +142,25 @@ fn branches(rt: HostRuntime) -> Result<(), Fail> {
     assert!(rt; is_accepted(rt.alloc(), b"a", b"ab")?);
     for &(n, m, siblings) in &BRANCHES {
         let leaves = leaves_of(n);
-        assert!(rt; m < leaves.len() && n <= 16 && m < n);
+        assert!(rt; m < leaves.len() && n <= 16 && m < n, "leaf {m} of {n}");
         let tree = Tree::build(rt.alloc(), &leaves)?;
         let root = tree.root();
         let branch = tree.branch(m);
-        assert_eq!(rt; branch.len as usize, siblings.len());
-        for (digest, sibling) in branch.digests.iter().zip(siblings) {
-            assert_eq!(rt; hex::encode(rt.alloc(), *digest)?.as_str(), *sibling);
-        }
+        assert!(rt;
+            has_siblings(rt.alloc(), &branch, siblings)?,
+            "leaf {m} of {n}"
+        );
         let leaf = &TEXT[..m as usize + 1];
-        assert!(rt; is_branch(&root, n, m, leaf, &branch));
-        assert!(rt; !is_branch(&root, n, m, b"another leaf", &branch));
         let lower = Branch {
             len: branch.len.saturating_sub(1),
             ..branch
         };
-        assert!(rt; n == 1 || !is_branch(&root, n, m, leaf, &lower));
+        assert!(rt;
+            is_branch(&root, n, m, leaf, &branch)
+                && !is_branch(&root, n, m, b"another leaf", &branch)
+                && (n == 1 || !is_branch(&root, n, m, leaf, &lower)),
+            "leaf {m} of {n}"
+        );
     }
     Ok(())
 }

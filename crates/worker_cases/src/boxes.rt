@@ -2,9 +2,9 @@
 
 ghost use Rattle.std.specs.Prelude.{codes};
 
-use crate::calls::{check_any, run_with};
-use crate::texts::{FOUR, with_workers};
-use hb_base::{LiarName, OpenGate};
+use crate::calls::{Answer, Host, run_workers_with};
+use crate::texts::FOUR;
+use hb_base::LiarName;
 use hb_rules::Report;
 use hb_wire::{Post, To, reaches};
 use liar_cast::{Liar, LiarSeat, Lies};
@@ -18,6 +18,15 @@ use std::test::Fail;
 struct Counts {
     asked: Arc<AtomicU64, Global>,
     dropped: Arc<AtomicU64, Global>,
+}
+
+impl Counts {
+    fn new(alloc: Global) -> Result<Counts, AllocError> {
+        Ok(Counts {
+            asked: Arc::new(alloc, AtomicU64::new(0))?,
+            dropped: Arc::new(alloc, AtomicU64::new(0))?,
+        })
+    }
 }
 
 // A liar that says one byte at its start, and one each time it is asked to hear, and counts that, and its end.
@@ -63,6 +72,22 @@ fn liars(alloc: Global, counts: &Counts, many: u32) -> Result<Vec<Box<dyn Liar>>
     Ok(liars)
 }
 
+// Runs the four nodes to three liars that count together, with so many workers at each node, and checks what every schedule has
+// to leave. The liar of node 3 is asked to hear so often, if so many posts reach it.
+fn run_counting(
+    rt: &impl Host,
+    alloc: Global,
+    counts: &Counts,
+    hears: u32,
+    workers: u8,
+) -> Result<Answer, AllocError> {
+    let keys = format!(in alloc;
+        ",\"liars\":[{{\"node\":3,\"name\":\"counting\",\"hears\":{hears}}}]"
+    )?;
+    let cast = liars(alloc, counts, 3)?;
+    run_workers_with(rt, alloc, FOUR, keys.as_str(), workers, cast, &[0])
+}
+
 // How many posts of a history reach an actor of node 3, and how many are of it.
 fn count_posts(report: &Report) -> (u64, u64) {
     let n = report.config.n();
@@ -94,24 +119,18 @@ fn boxes_are_asked_and_dropped(rt: HostRuntime) -> Result<(), Fail> {
         (100, 1),
         (100, 4),
     ] {
-        let counts = Counts {
-            asked: Arc::new(alloc, AtomicU64::new(0))?,
-            dropped: Arc::new(alloc, AtomicU64::new(0))?,
-        };
-        let keys = format!(in alloc;
-            ",\"liars\":[{{\"node\":3,\"name\":\"counting\",\"hears\":{hears}}}]"
-        )?;
-        let scenario = with_workers(alloc, FOUR, keys.as_str(), workers)?;
-        let cast = liars(alloc, &counts, 3)?;
-        let answer = run_with(&rt, alloc, scenario.as_str(), cast, &OpenGate)?;
-        check_any(&rt, alloc, &answer, &[0], keys.as_str())?;
+        let counts = Counts::new(alloc)?;
+        let answer = run_counting(&rt, alloc, &counts, hears, workers)?;
         let (reaching, own) = count_posts(&answer.report);
         let asked = counts.asked.load(Ordering::SeqCst);
-        assert_eq!(rt; asked, reaching.min(u64::from(hears)), "{hears}");
-        assert!(rt; reaching > 3, "{hears}");
-        assert_eq!(rt; own, asked.saturating_add(1), "{hears}");
-        assert_eq!(rt; counts.dropped.load(Ordering::SeqCst), 3, "{hears}");
-        assert_eq!(rt; Arc::strong_count(&counts.asked), 1, "{hears}");
+        assert!(rt;
+            asked == reaching.min(u64::from(hears))
+                && reaching > 3
+                && own == asked.saturating_add(1)
+                && counts.dropped.load(Ordering::SeqCst) == 3
+                && Arc::strong_count(&counts.asked) == 1,
+            "{hears}"
+        );
     }
     Ok(())
 }

@@ -1,6 +1,7 @@
 //! Calls over memory, and what no schedule may change of what they leave.
 
 use crate::run_gated;
+use crate::texts::with_workers;
 use acs_world::{batches_ok, comparable, unaltered};
 use hb_app::hb_main;
 use hb_base::{Bytes, Gate, MemorySink, MemorySource, OpenGate};
@@ -90,10 +91,12 @@ pub(crate) fn call(
     })
 }
 
-// Checks that there was a run, with this status and this text.
+// Checks the status and the text of a call.
 pub(crate) fn check_text(rt: &impl Abort, answer: &Answer, status: u8, text: &str, name: &str) {
-    assert_eq!(rt; answer.status, status, "{name}");
-    assert!(rt; answer.out.held() == text.as_bytes(), "{name}");
+    assert!(rt;
+        answer.status == status && answer.out.held() == text.as_bytes(),
+        "{name}"
+    );
 }
 
 // Checks what every schedule has to leave: one of these statuses, ledgers of which one begins with the other, with batches enough
@@ -105,11 +108,88 @@ pub(crate) fn check_any(
     statuses: &[u8],
     name: &str,
 ) -> Result<(), AllocError> {
-    assert!(rt; statuses.contains(&answer.status), "{name}");
-    assert_eq!(rt; answer.report.status, answer.status, "{name}");
-    assert!(rt; comparable(&answer.report), "{name}");
-    assert!(rt; batches_ok(&answer.report), "{name}");
-    assert!(rt; unaltered(&answer.report), "{name}");
-    assert!(rt; is_quiet(alloc, &answer.report)?, "{name}");
+    let has_nothing_to_do = is_quiet(alloc, &answer.report)?;
+    assert!(rt;
+        statuses.contains(&answer.status)
+            && answer.report.status == answer.status
+            && comparable(&answer.report)
+            && batches_ok(&answer.report)
+            && unaltered(&answer.report)
+            && has_nothing_to_do,
+        "{name}"
+    );
+    Ok(())
+}
+
+// Runs a scenario that has these keys besides, with so many workers at each node, to these liars, and checks what every schedule
+// has to leave, with one of these statuses.
+pub(crate) fn run_workers_with(
+    rt: &impl Host,
+    alloc: Global,
+    front: &str,
+    keys: &str,
+    workers: u8,
+    liars: Vec<Box<dyn Liar>>,
+    statuses: &[u8],
+) -> Result<Answer, AllocError> {
+    let scenario = with_workers(alloc, front, keys, workers)?;
+    let answer = run_with(rt, alloc, scenario.as_str(), liars, &OpenGate)?;
+    check_any(rt, alloc, &answer, statuses, scenario.as_str())?;
+    Ok(answer)
+}
+
+// Runs such a scenario to the cast of the program, and checks the same.
+pub(crate) fn run_workers(
+    rt: &impl Host,
+    alloc: Global,
+    front: &str,
+    keys: &str,
+    workers: u8,
+    statuses: &[u8],
+) -> Result<Answer, AllocError> {
+    let liars = cast_of(alloc)?;
+    run_workers_with(rt, alloc, front, keys, workers, liars, statuses)
+}
+
+// Runs a scenario with these keys besides, with one worker and with four. It has this status and this text, whatever the schedule.
+pub(crate) fn check_whole(
+    rt: &impl Host,
+    alloc: Global,
+    front: &str,
+    keys: &str,
+    status: u8,
+    text: &str,
+) -> Result<(), AllocError> {
+    for workers in [1, 4] {
+        let answer = run_workers(rt, alloc, front, keys, workers, &[status])?;
+        let name = format!(in alloc; "{front}{keys}, {workers} workers")?;
+        check_text(rt, &answer, status, text, name.as_str());
+    }
+    Ok(())
+}
+
+// Whether a text has a line, or several, that stand behind another.
+pub(crate) fn has_lines(text: &[u8], lines: &str) -> bool {
+    text.windows(lines.len().max(1))
+        .any(|part| part == lines.as_bytes())
+}
+
+// Runs a scenario with these keys besides, with one worker and with four. It has one of these statuses, and its text has these lines,
+// whatever the schedule.
+pub(crate) fn check_lines(
+    rt: &impl Host,
+    alloc: Global,
+    front: &str,
+    keys: &str,
+    statuses: &[u8],
+    lines: &str,
+) -> Result<(), AllocError> {
+    for workers in [1, 4] {
+        let answer = run_workers(rt, alloc, front, keys, workers, statuses)?;
+        assert!(rt;
+            has_lines(answer.out.held(), lines),
+            "{front}{keys}, {workers} workers"
+        );
+    }
     Ok(())
 }

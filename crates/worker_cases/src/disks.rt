@@ -1,20 +1,13 @@
 //! Runs with workers in which a disk of node 1 loses its power once, or fails once.
 
-use crate::calls::{Host, check_any, run};
-use crate::rows::has_lines;
-use crate::texts::{FOUR, with_workers};
-use std::alloc::Global;
+use crate::calls::{Host, check_lines};
+use crate::texts::FOUR;
+use std::alloc::{AllocError, Global};
 use std::test::Fail;
 
 // Runs the four nodes with these keys besides, with one worker and with four. The text has this line, whatever the schedule.
-fn check(rt: &impl Host, alloc: Global, keys: &str, line: &str) -> Result<(), Fail> {
-    for workers in [1, 4] {
-        let scenario = with_workers(alloc, FOUR, keys, workers)?;
-        let answer = run(rt, alloc, scenario.as_str())?;
-        check_any(rt, alloc, &answer, &[0, 5], scenario.as_str())?;
-        assert!(rt; has_lines(answer.out.held(), line), "{scenario}");
-    }
-    Ok(())
+fn check(rt: &impl Host, alloc: Global, keys: &str, line: &str) -> Result<(), AllocError> {
+    check_lines(rt, alloc, FOUR, keys, &[0, 5], line)
 }
 
 // However early or late the stop comes, and whatever the crash leaves, the actor begins again.

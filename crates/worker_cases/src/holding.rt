@@ -1,9 +1,10 @@
 //! Schedules that no run on one thread can have: gates hold actors of node 0 until others have entered. Another gate sees in which order
 //! a worker serves the lanes of a node.
 
-use crate::calls::{check_any, check_text, run_with};
+use crate::calls::{Answer, Host, check_any, check_text, run_with};
 use crate::texts::{FOUR, text_without, with_workers};
 use hb_base::Gate;
+use std::alloc::{AllocError, Global};
 use std::sync::atomic::{AtomicU64, Ordering};
 use std::test::Fail;
 use std::thread;
@@ -31,6 +32,29 @@ fn is_first(count: &AtomicU64) -> bool {
 
 fn is_at_least(count: &AtomicU64, least: u64) -> bool {
     count.load(Ordering::SeqCst) >= least
+}
+
+// Runs the four nodes through this gate, with no liars and so many workers at each node.
+fn run_four<G: Gate>(
+    rt: &impl Host,
+    alloc: Global,
+    workers: u8,
+    gate: &G,
+) -> Result<Answer, AllocError> {
+    let scenario = with_workers(alloc, FOUR, "", workers)?;
+    run_with(rt, alloc, scenario.as_str(), Vec::new(alloc), gate)
+}
+
+// Checks that the batch of node 0 is in no ledger, its own among them.
+fn check_without_node_0(
+    rt: &impl Host,
+    alloc: Global,
+    answer: &Answer,
+    name: &str,
+) -> Result<(), AllocError> {
+    let want = text_without(alloc, 0, "running")?;
+    check_text(rt, answer, 0, want.as_str(), name);
+    check_any(rt, alloc, answer, &[0], name)
 }
 
 // How often the desks of nodes 1, 2 and 3 have entered.
@@ -106,13 +130,9 @@ fn lane_0_is_late(rt: HostRuntime) -> Result<(), Fail> {
         desks: Desks::new(),
         given_up: AtomicU64::new(0),
     };
-    let alloc = rt.alloc();
-    let scenario = with_workers(alloc, FOUR, "", 4)?;
-    let answer = run_with(&rt, alloc, scenario.as_str(), Vec::new(alloc), &gate)?;
-    assert_eq!(rt; gate.given_up.load(Ordering::SeqCst), 0);
-    let want = text_without(alloc, 0, "running")?;
-    check_text(&rt, &answer, 0, want.as_str(), "lane 0 is late");
-    check_any(&rt, alloc, &answer, &[0], "lane 0 is late")?;
+    let answer = run_four(&rt, rt.alloc(), 4, &gate)?;
+    assert!(rt; gate.given_up.load(Ordering::SeqCst) == 0);
+    check_without_node_0(&rt, rt.alloc(), &answer, "lane 0 is late")?;
     Ok(())
 }
 
@@ -156,14 +176,10 @@ fn one_worker_for_each_node(rt: HostRuntime) -> Result<(), Fail> {
         desks: Desks::new(),
         given_up: AtomicU64::new(0),
     };
-    let alloc = rt.alloc();
-    let scenario = with_workers(alloc, FOUR, "", 1)?;
-    let answer = run_with(&rt, alloc, scenario.as_str(), Vec::new(alloc), &gate)?;
-    assert_eq!(rt; gate.given_up.load(Ordering::SeqCst), 0);
-    assert_eq!(rt; gate.others.load(Ordering::SeqCst), 0);
-    let want = text_without(alloc, 0, "running")?;
-    check_text(&rt, &answer, 0, want.as_str(), "node 0 is late");
-    check_any(&rt, alloc, &answer, &[0], "node 0 is late")?;
+    let answer = run_four(&rt, rt.alloc(), 1, &gate)?;
+    let given_up = gate.given_up.load(Ordering::SeqCst);
+    assert!(rt; given_up == 0 && gate.others.load(Ordering::SeqCst) == 0);
+    check_without_node_0(&rt, rt.alloc(), &answer, "node 0 is late")?;
     Ok(())
 }
 
@@ -216,12 +232,10 @@ impl Gate for FourLanes {
 #[test]
 fn four_lanes_at_once(rt: HostRuntime) -> Result<(), Fail> {
     let gate = FourLanes::new();
-    let alloc = rt.alloc();
-    let scenario = with_workers(alloc, FOUR, "", 4)?;
-    let answer = run_with(&rt, alloc, scenario.as_str(), Vec::new(alloc), &gate)?;
-    assert_eq!(rt; gate.given_up.load(Ordering::SeqCst), 0);
-    assert_eq!(rt; gate.met.load(Ordering::SeqCst), 4);
-    check_any(&rt, alloc, &answer, &[0, 5], "four lanes")?;
+    let answer = run_four(&rt, rt.alloc(), 4, &gate)?;
+    let given_up = gate.given_up.load(Ordering::SeqCst);
+    assert!(rt; given_up == 0 && gate.met.load(Ordering::SeqCst) == 4);
+    check_any(&rt, rt.alloc(), &answer, &[0, 5], "four lanes")?;
     Ok(())
 }
 
@@ -250,11 +264,9 @@ fn actors_in_their_order(rt: HostRuntime) -> Result<(), Fail> {
         entered: AtomicU64::new(0),
         astray: AtomicU64::new(0),
     };
-    let alloc = rt.alloc();
-    let scenario = with_workers(alloc, FOUR, "", 1)?;
-    let answer = run_with(&rt, alloc, scenario.as_str(), Vec::new(alloc), &gate)?;
-    assert!(rt; gate.entered.load(Ordering::SeqCst) > 4);
-    assert_eq!(rt; gate.astray.load(Ordering::SeqCst), 0);
-    check_any(&rt, alloc, &answer, &[0, 5], "actors in their order")?;
+    let answer = run_four(&rt, rt.alloc(), 1, &gate)?;
+    let entered = gate.entered.load(Ordering::SeqCst);
+    assert!(rt; entered > 4 && gate.astray.load(Ordering::SeqCst) == 0);
+    check_any(&rt, rt.alloc(), &answer, &[0, 5], "actors in their order")?;
     Ok(())
 }

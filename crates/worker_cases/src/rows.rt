@@ -1,9 +1,11 @@
 //! Runs that one thread makes too, with one worker and with four.
 
-use crate::calls::{Answer, Host, check_any, check_text, run, run_with};
+use crate::calls::{
+    Answer, Host, check_any, check_lines, check_whole, has_lines, run, run_workers,
+    run_workers_with,
+};
 use crate::texts::{FOUR, text_without, with_workers};
 use app_cases::FalseFrame;
-use hb_base::OpenGate;
 use liar_cast::Liar;
 use std::alloc::{AllocError, Global};
 use std::test::Fail;
@@ -81,18 +83,13 @@ end 0
 fn one_node(rt: HostRuntime) -> Result<(), Fail> {
     let alloc = rt.alloc();
     for &(scenario, text, status) in &ALONE {
-        for workers in [1, 4] {
-            let scenario = with_workers(alloc, scenario, "", workers)?;
-            let answer = run(&rt, alloc, scenario.as_str())?;
-            check_text(&rt, &answer, status, text, scenario.as_str());
-            check_any(&rt, alloc, &answer, &[status], scenario.as_str())?;
-        }
+        check_whole(&rt, alloc, scenario, "", status, text)?;
     }
     Ok(())
 }
 
-// Fourteen epochs, in which the journals of the node fold, and each batch is empty, with these keys besides.
-fn check_long(rt: &impl Host, alloc: Global, keys: &str) -> Result<(), Fail> {
+// The text of one node over fourteen epochs, in which each batch is empty.
+fn long_text(alloc: Global) -> Result<String, AllocError> {
     let front = "run nodes 1 faulty 0 version 1 epochs 14\nnode 0 running\n";
     let mut text = String::from_str(alloc, front)?;
     for epoch in 0..14u32 {
@@ -100,23 +97,24 @@ fn check_long(rt: &impl Host, alloc: Global, keys: &str) -> Result<(), Fail> {
         text.push_str(lines.as_str())?;
     }
     text.push_str("end 0\n")?;
+    Ok(text)
+}
+
+// Fourteen epochs, in which the journals of the node fold, with these keys besides.
+fn check_long(rt: &impl Host, alloc: Global, keys: &str) -> Result<(), AllocError> {
+    let text = long_text(alloc)?;
     let node = r#"{"nodes":1,"faulty":0,"epochs":14,"rounds":12,"seed":58"#;
-    for workers in [1, 4] {
-        let scenario = with_workers(alloc, node, keys, workers)?;
-        let answer = run(rt, alloc, scenario.as_str())?;
-        check_text(rt, &answer, 0, text.as_str(), scenario.as_str());
-        check_any(rt, alloc, &answer, &[0], scenario.as_str())?;
-    }
-    Ok(())
+    check_whole(rt, alloc, node, keys, 0, text.as_str())
 }
 
 #[test]
 fn one_node_for_long(rt: HostRuntime) -> Result<(), Fail> {
-    check_long(&rt, rt.alloc(), "")
+    check_long(&rt, rt.alloc(), "")?;
+    Ok(())
 }
 
 // The node stops at a call, and once more at the third call of the restart, and begins again.
-fn check_stops(rt: &impl Host, alloc: Global, actor: u8, call: u32) -> Result<(), Fail> {
+fn check_stops(rt: &impl Host, alloc: Global, actor: u8, call: u32) -> Result<(), AllocError> {
     let again = call.saturating_add(3);
     for leave in ["old", "new", "torn"] {
         let keys = format!(in alloc;
@@ -152,16 +150,10 @@ const KINDS: [&str; 6] = [
 
 // Beside a liar whose broadcast nobody delivers, a node wants no more lanes only where it has accepted those of the three correct
 // nodes. So each of these begins with 1, at every correct node, and the liar's with 0, and no schedule can change a ledger.
-fn check_kind(rt: &impl Host, alloc: Global, node: u8, name: &str) -> Result<(), Fail> {
+fn check_kind(rt: &impl Host, alloc: Global, node: u8, name: &str) -> Result<(), AllocError> {
     let want = text_without(alloc, node, "liar")?;
     let keys = format!(in alloc; ",\"liars\":[{{\"node\":{node},\"name\":\"{name}\"}}]")?;
-    for workers in [1, 4] {
-        let scenario = with_workers(alloc, FOUR, keys.as_str(), workers)?;
-        let answer = run(rt, alloc, scenario.as_str())?;
-        check_text(rt, &answer, 0, want.as_str(), scenario.as_str());
-        check_any(rt, alloc, &answer, &[0], scenario.as_str())?;
-    }
-    Ok(())
+    check_whole(rt, alloc, FOUR, keys.as_str(), 0, want.as_str())
 }
 
 #[test]
@@ -265,22 +257,11 @@ const ROWS: [Row; 15] = [
     ),
 ];
 
-// Whether a text has a line, or several, that stand behind another.
-pub(crate) fn has_lines(text: &[u8], lines: &str) -> bool {
-    text.windows(lines.len().max(1))
-        .any(|part| part == lines.as_bytes())
-}
-
 #[test]
 fn rows_of_one_thread(rt: HostRuntime) -> Result<(), Fail> {
     let alloc = rt.alloc();
     for &(scenario, keys, statuses, lines) in &ROWS {
-        for workers in [1, 4] {
-            let scenario = with_workers(alloc, scenario, keys, workers)?;
-            let answer = run(&rt, alloc, scenario.as_str())?;
-            check_any(&rt, alloc, &answer, statuses, scenario.as_str())?;
-            assert!(rt; has_lines(answer.out.held(), lines), "{scenario}");
-        }
+        check_lines(&rt, alloc, scenario, keys, statuses, lines)?;
     }
     Ok(())
 }
@@ -303,18 +284,16 @@ fn two_liars(rt: HostRuntime) -> Result<(), Fail> {
     let alloc = rt.alloc();
     let keys =
         r#","liars":[{"node":5,"name":"equivocate","hears":0},{"node":6,"name":"babble","hears":1}]"#;
+    let seven = r#"{"nodes":7,"faulty":2,"epochs":1"#;
     for workers in [1, 4] {
-        let seven = r#"{"nodes":7,"faulty":2,"epochs":1"#;
-        let scenario = with_workers(alloc, seven, keys, workers)?;
-        let answer = run(&rt, alloc, scenario.as_str())?;
-        check_any(&rt, alloc, &answer, &[0, 5], scenario.as_str())?;
-        assert_eq!(rt;
-            first_bytes(alloc, &answer, 5)?.as_slice(),
-            [1u8; 7].as_slice()
-        );
+        let answer = run_workers(&rt, alloc, seven, keys, workers, &[0, 5])?;
+        let vals = first_bytes(alloc, &answer, 5)?;
         let answers = first_bytes(alloc, &answer, 6)?;
-        assert_eq!(rt; answers.len(), 2);
-        assert_eq!(rt; answers.first(), Some(&0xff));
+        assert!(rt;
+            vals.as_slice() == [1u8; 7].as_slice()
+                && answers.len() == 2
+                && answers.first() == Some(&0xff)
+        );
     }
     Ok(())
 }
@@ -322,36 +301,33 @@ fn two_liars(rt: HostRuntime) -> Result<(), Fail> {
 // Sixteen nodes, of which five may be faulty: 272 actors, and 64 workers.
 #[test]
 fn sixteen_nodes(rt: HostRuntime) -> Result<(), Fail> {
-    let alloc = rt.alloc();
-    let scenario = with_workers(
-        alloc,
-        r#"{"nodes":16,"faulty":5,"epochs":1,"submit":[{"node":0,"tx":"61"},{"node":15,"tx":"62"}]"#,
-        "",
-        4,
-    )?;
-    let answer = run(&rt, alloc, scenario.as_str())?;
-    check_any(&rt, alloc, &answer, &[0, 5], "sixteen nodes")?;
-    assert_eq!(rt; answer.report.ends.len(), 272);
+    let sixteen =
+        r#"{"nodes":16,"faulty":5,"epochs":1,"submit":[{"node":0,"tx":"61"},{"node":15,"tx":"62"}]"#;
+    let answer = run_workers(&rt, rt.alloc(), sixteen, "", 4, &[0, 5])?;
+    assert!(rt; answer.report.ends.len() == 272);
     Ok(())
+}
+
+// Runs the four nodes, of which node 3 sends a false frame, with so many workers at each, and checks what every schedule has to
+// leave.
+fn run_false_frame(rt: &impl Host, alloc: Global, workers: u8) -> Result<Answer, AllocError> {
+    let keys = r#","liars":[{"node":3,"name":"false_frame"}]"#;
+    let mut liars: Vec<Box<dyn Liar>> = Vec::new(alloc);
+    liars.push(Box::new(alloc, FalseFrame)?)?;
+    run_workers_with(rt, alloc, FOUR, keys, workers, liars, &[0, 5])
 }
 
 // A frame that is false stands for no bytes, in every schedule: where the liar's lane is accepted its batch is empty.
 #[test]
 fn false_frames(rt: HostRuntime) -> Result<(), Fail> {
-    let alloc = rt.alloc();
-    let keys = r#","liars":[{"node":3,"name":"false_frame"}]"#;
     for workers in [1, 4] {
-        let scenario = with_workers(alloc, FOUR, keys, workers)?;
-        let mut liars: Vec<Box<dyn Liar>> = Vec::new(alloc);
-        liars.push(Box::new(alloc, FalseFrame)?)?;
-        let answer = run_with(&rt, alloc, scenario.as_str(), liars, &OpenGate)?;
-        check_any(&rt, alloc, &answer, &[0, 5], scenario.as_str())?;
-        assert!(rt; has_lines(answer.out.held(), "node 3 liar\n"));
-        assert!(rt; !has_lines(answer.out.held(), "tx 6133\n"));
-        let is_accepted = has_lines(answer.out.held(), "batch 3 ");
-        assert_eq!(rt;
-            has_lines(answer.out.held(), "batch 3 txs 0\n"),
-            is_accepted
+        let answer = run_false_frame(&rt, rt.alloc(), workers)?;
+        let text = answer.out.held();
+        let is_accepted = has_lines(text, "batch 3 ");
+        assert!(rt;
+            has_lines(text, "node 3 liar\n")
+                && !has_lines(text, "tx 6133\n")
+                && has_lines(text, "batch 3 txs 0\n") == is_accepted
         );
     }
     Ok(())

@@ -1,7 +1,8 @@
 //! The other texts of runs with workers, and puts that fail.
 
-use crate::calls::call;
+use crate::calls::{Host, call, check_text};
 use crate::texts::{FOUR, with_workers};
+use std::alloc::{AllocError, Global};
 use std::test::Fail;
 
 // One node with one transaction, up to its workers, and the lines of its observer. It casts the same votes in every schedule.
@@ -17,6 +18,17 @@ const OBSERVED: [&str; 6] = [
     "end 0\n",
 ];
 
+// The lines before the put that fails, all if none does.
+fn observed(alloc: Global, put: u32) -> Result<String, AllocError> {
+    let mut text = String::new(alloc);
+    for (number, line) in OBSERVED.iter().enumerate() {
+        if put == 0 || number + 1 < put as usize {
+            text.push_str(line)?;
+        }
+    }
+    Ok(text)
+}
+
 // Each line is put by itself. Where one can't be put, those before it stand, and the answer is 7.
 #[test]
 fn an_observer_and_puts_that_fail(rt: HostRuntime) -> Result<(), Fail> {
@@ -25,16 +37,25 @@ fn an_observer_and_puts_that_fail(rt: HostRuntime) -> Result<(), Fail> {
         let scenario = with_workers(alloc, ONE, "", workers)?;
         for put in 0..7u32 {
             let answer = call(&rt, alloc, "observe", scenario.as_bytes(), put)?;
-            let mut want = String::new(alloc);
-            for (number, line) in OBSERVED.iter().enumerate() {
-                if put == 0 || number + 1 < put as usize {
-                    want.push_str(line)?;
-                }
-            }
-            assert_eq!(rt; answer.status, if put == 0 { 0 } else { 7 }, "{put}");
-            assert_eq!(rt; answer.out.held(), want.as_bytes(), "{put}");
+            let want = observed(alloc, put)?;
+            let status = if put == 0 { 0 } else { 7 };
+            assert!(rt;
+                answer.status == status && answer.out.held() == want.as_bytes(),
+                "{put}"
+            );
         }
     }
+    Ok(())
+}
+
+// Checks that the history of a run is found legal, with as many posts as the report has.
+fn check_legal(rt: &impl Host, alloc: Global, scenario: &str) -> Result<(), AllocError> {
+    let traced = call(rt, alloc, "trace", scenario.as_bytes(), 0)?;
+    assert!(rt; traced.status == 0 || traced.status == 5, "{scenario}");
+    let audited = call(rt, alloc, "audit", traced.out.held(), 0)?;
+    let posts = traced.report.history.len();
+    let want = format!(in alloc; "legal {posts}\n")?;
+    check_text(rt, &audited, 0, want.as_str(), scenario);
     Ok(())
 }
 
@@ -50,13 +71,7 @@ fn histories_are_legal(rt: HostRuntime) -> Result<(), Fail> {
     ] {
         for workers in [1, 4] {
             let scenario = with_workers(alloc, FOUR, keys, workers)?;
-            let traced = call(&rt, alloc, "trace", scenario.as_bytes(), 0)?;
-            assert!(rt; traced.status == 0 || traced.status == 5, "{scenario}");
-            let audited = call(&rt, alloc, "audit", traced.out.held(), 0)?;
-            let posts = traced.report.history.len();
-            let want = format!(in alloc; "legal {posts}\n")?;
-            assert_eq!(rt; audited.status, 0, "{scenario}");
-            assert_eq!(rt; audited.out.held(), want.as_bytes(), "{scenario}");
+            check_legal(&rt, alloc, scenario.as_str())?;
         }
     }
     Ok(())

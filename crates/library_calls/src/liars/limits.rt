@@ -37,9 +37,10 @@ fn answers(rt: HostRuntime) -> Result<(), Fail> {
     for call in calls() {
         assert!(rt; is_answer(rt.alloc(), &mut lies, call)?, "{call:?}");
     }
-    assert_eq!(rt; lies.waiting().len(), 4_096);
+    let count = lies.waiting().len();
     lies.clear();
-    assert_eq!(rt; lies.say(rt.alloc(), 2, To::All, &[]), Said::Spent);
+    let said = lies.say(rt.alloc(), 2, To::All, &[]);
+    assert!(rt; count == 4_096 && said == Said::Spent);
     Ok(())
 }
 
@@ -109,7 +110,7 @@ fn told_of(alloc: Global, me: &LiarSeat, name: &str) -> Result<u32, Fail> {
 fn many_posts(rt: HostRuntime) -> Result<(), Fail> {
     let me = seat(16, 5, 32, 1, 2)?;
     for (name, want) in told() {
-        assert_eq!(rt; told_of(rt.alloc(), &me, name)?, *want, "{name}");
+        assert!(rt; told_of(rt.alloc(), &me, name)? == *want, "{name}");
     }
     Ok(())
 }

@@ -260,7 +260,7 @@ fn all_that_is_said(rt: HostRuntime) -> Result<(), Fail> {
     for row in DIGESTS.lines() {
         assert!(rt; is_said(rt.alloc(), row)?, "{row}");
     }
-    assert_eq!(rt; DIGESTS.lines().count(), 42);
+    assert!(rt; DIGESTS.lines().count() == 42);
     Ok(())
 }
 
