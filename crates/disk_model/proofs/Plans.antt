@@ -20,7 +20,7 @@ use Rattle.disk_model.specs.Area.{after_write, after_cut}
 use Rattle.disk_model.specs.Faults.{is_failed}
 use Rattle.disk_model.specs.Supply.{Draws, IsNamed}
 use Rattle.disk_model.specs.Halves.{HalvesMayLeave, content_of, on_half, settled}
-use Rattle.disk_model.specs.Memory.{MemoryState, one_more, stop_at, met_at, met_by, met_of, IsDisk, AnswersAs, AnswersOrMemory, stops_after, supply_of}
+use Rattle.disk_model.specs.Memory.{MemoryState, one_more, stop_at, met_at, met_by, met_of, IsDisk, AnswersAs, AnswersOrMemory, is_done, stops_after, supply_of}
 use Rattle.disk_model.proofs.Images.{only_settled, half_write_follows, half_write_grows, half_write_same, half_cut_follows, half_cut_grows, half_cut_same}
 
 -- whether a stop is at a call after this one
@@ -183,6 +183,11 @@ off_met : (off : Option Leave) (call : ℕ) (stops : List Stop) (planned : List 
 off_met (Some leave) call stops planned met = refl
 off_met None call stops planned met = absurd (not_off _ _ _ met)
 
+-- a disk that is off meets just that
+on_met : (off : Option Leave) (call : ℕ) (stops : List Stop) (planned : List ℕ) → is_some off ≡ true → met_by off call stops planned ≡ Off
+on_met (Some leave) call stops planned is = refl
+on_met None call stops planned is = absurd (cc (is))
+
 -- a fault that the test finds is among them
 named_among : (planned : List ℕ) (call : ℕ) → list_any (λ fault. fault == call) planned ≡ true → Contains planned call
 named_among [] call found = absurd (cc)
@@ -200,10 +205,18 @@ explained_by Nothing done cut_off old new (Err e) is answers failed = absurd (cc
 explained_by Fault done cut_off old new result is answers failed =
     let met = fault_met old.off (one_more old.calls) old.stops old.planned is in
     subst (λ (d : MemoryState). IsNamed (supply_of d)) (sym answers.1)
-    (inr (one_more old.calls, named_among old.planned (one_more old.calls) met.1, omega (arith, met.0)))
+    (inr (subst (λ (call : ℕ). Contains old.planned call) (omega (arith, met.0)) (named_among old.planned (one_more old.calls) met.1)))
 explained_by (Stops leave) done cut_off old new result is answers failed = subst (λ (d : MemoryState). IsNamed (supply_of d)) (sym answers.1) (inl refl)
 explained_by Off done cut_off old new result is answers failed =
     subst (λ (d : MemoryState). IsNamed (supply_of d)) (sym answers.1) (inl (off_met old.off (one_more old.calls) old.stops old.planned is))
+
+-- while the power is off every call fails
+pub fails_by : {T : Type 0} (met : Met) (done cut_off : Halves) (old new : MemoryState) (result : Result T DiskFault) → met_of old ≡ met
+    → AnswersAs met done cut_off old new result → (supply_of old).off ≡ true → IsErrOf result Failed
+fails_by Nothing done cut_off old new result is answers off = absurd (cc (is, on_met old.off (one_more old.calls) old.stops old.planned off))
+fails_by Fault done cut_off old new result is answers off = answers.0
+fails_by (Stops leave) done cut_off old new result is answers off = answers.0
+fails_by Off done cut_off old new result is answers off = answers.0
 
 pub draws_by : {T : Type 0} (met : Met) (done cut_off : Halves) (old new : MemoryState) (result : Result T DiskFault) → met_of old ≡ met → old.calls < 2 ^ 64
     → AnswersAs met done cut_off old new result → Draws (supply_of old) (supply_of new)
@@ -308,7 +321,7 @@ cut_kept_by met half len old new result kept fits answers = λ c left.
 written_halves : {T : Type 0} (done : Halves) (old new : MemoryState) (result : Result T DiskFault) → AnswersOrMemory done done old new result
     → (new.halves ≡ done) ⊎ (new.halves ≡ old.halves)
 written_halves done old new result (inl answers) = halves_by (met_of old) done old new result answers
-written_halves done old new result (inr none) = inr (ap (λ (d : MemoryState). d.halves) none.1)
+written_halves done old new result (inr none) = inr (ap (λ (d : MemoryState). d.halves) none.2)
 
 pub write_by : {T : Type 0} (half : Half) (at : ℕ) (bytes : List ℕ) (old new : MemoryState) (result : Result T DiskFault)
     → at ≤ length (half_of half (content_of old.halves))
@@ -333,21 +346,27 @@ write_kept_by half at bytes old new result kept fits answers = λ c left.
 pub write_explained : {T : Type 0} (done : Halves) (old new : MemoryState) (result : Result T DiskFault) → AnswersOrMemory done done old new result
     → IsErrOf result Failed → IsNamed (supply_of new)
 write_explained done old new result (inl answers) failed = explained_by (met_of old) done done old new result refl answers failed
-write_explained done old new result (inr none) failed = absurd (cc (none.0, failed))
+write_explained done old new result (inr none) failed = absurd (cc (none.1, failed))
+
+pub write_fails : {T : Type 0} (done : Halves) (old new : MemoryState) (result : Result T DiskFault) → AnswersOrMemory done done old new result
+    → (supply_of old).off ≡ true → IsErrOf result Failed
+write_fails done old new result (inl answers) off = fails_by (met_of old) done done old new result refl answers off
+write_fails done old new result (inr none) off =
+    absurd (cc (none.0, ap is_done (on_met old.off (one_more old.calls) old.stops old.planned off)))
 
 pub write_cause : {T : Type 0} (done : Halves) (old new : MemoryState) (result : Result T DiskFault) → old.faults < 2 ^ 64
     → AnswersOrMemory done done old new result → IsCounted old new result
 write_cause done old new result small (inl answers) = cause_by (met_of old) done done old new result small answers
-write_cause done old new (Ok x) small (inr none) = absurd (cc (none.0))
-write_cause done old new (Err Failed) small (inr none) = absurd (cc (none.0))
+write_cause done old new (Ok x) small (inr none) = absurd (cc (none.1))
+write_cause done old new (Err Failed) small (inr none) = absurd (cc (none.1))
 write_cause done old new (Err Memory) small (inr none) =
-    let same : new.faults ≡ old.faults = ap (λ (d : MemoryState). d.faults) none.1 in
+    let same : new.faults ≡ old.faults = ap (λ (d : MemoryState). d.faults) none.2 in
     record { later = omega (arith, same); failed = same; quiet = tt }
 
 pub write_draws : {T : Type 0} (done : Halves) (old new : MemoryState) (result : Result T DiskFault) → old.calls < 2 ^ 64
     → AnswersOrMemory done done old new result → Draws (supply_of old) (supply_of new)
 write_draws done old new result small (inl answers) = draws_by (met_of old) done done old new result refl small answers
-write_draws done old new result small (inr none) = subst (λ (d : MemoryState). Draws (supply_of old) (supply_of d)) (sym none.1) (record {
+write_draws done old new result small (inr none) = subst (λ (d : MemoryState). Draws (supply_of old) (supply_of d)) (sym none.2) (record {
   stays_off = λ h. h;
   no_more = omega arith;
   uses_up = λ on off. absurd (both_ways _ on off);
@@ -380,4 +399,4 @@ power_by Off done cut_off old new result answers well = absurd (well answers.0)
 pub write_power : {T : Type 0} (done : Halves) (old new : MemoryState) (result : Result T DiskFault)
     → AnswersOrMemory done done old new result → (IsErrOf result Failed → ⊥) → (supply_of new).off ≡ (supply_of old).off
 write_power done old new result (inl answers) well = power_by (met_of old) done done old new result answers well
-write_power done old new result (inr none) well = ap (λ (d : MemoryState). (supply_of d).off) none.1
+write_power done old new result (inr none) well = ap (λ (d : MemoryState). (supply_of d).off) none.2

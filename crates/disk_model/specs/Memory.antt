@@ -15,8 +15,8 @@ use Rattle.disk_model.specs.Supply.{Supply}
 use Rattle.disk_model.specs.Area.{at_rest, IsKept}
 use Rattle.disk_model.specs.Halves.{HalvesMayLeave, restored}
 
--- the halves now and before each call since the disk was made, the newest first; its plan; how many calls were numbered
--- and how many failed; and what the stop that was met last leaves, while the disk is off
+-- the halves now, and before each call that was done or stopped and each switching on, the newest first; its plan; how many
+-- calls were numbered and how many failed; and what the stop that was met last leaves, while the disk is off
 pub record MemoryState : Type 0 where
   pub halves : Halves
   pub past : List Halves
@@ -120,9 +120,16 @@ AnswersAs Off done cut_off old new result = IsErrOf result Failed × (new ≡ re
 abbrev pub Answers : {T : Type 0} → Halves → Halves → MemoryState → MemoryState → Result T DiskFault → Type 0
 Answers done cut_off old new result = AnswersAs (met_of old) done cut_off old new result
 
--- or it finds no memory and changes nothing
+-- whether a write that meets this is done: one that is stopped counts as done, and no other needs memory
+abbrev pub is_done : Met → Bool
+is_done Nothing = true
+is_done Fault = false
+is_done (Stops leave) = true
+is_done Off = false
+
+-- or it finds no memory for what it does, and changes nothing
 abbrev pub AnswersOrMemory : {T : Type 0} → Halves → Halves → MemoryState → MemoryState → Result T DiskFault → Type 0
-AnswersOrMemory done cut_off old new result = Answers done cut_off old new result ⊎ (IsErrOf result Memory × (new ≡ old))
+AnswersOrMemory done cut_off old new result = Answers done cut_off old new result ⊎ ((is_done (met_of old) ≡ true) × IsErrOf result Memory × (new ≡ old))
 
 -- some state since that one might have left this
 abbrev pub LeftIn : ℕ → List Halves → Image → Type 0

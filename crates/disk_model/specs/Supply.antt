@@ -21,6 +21,6 @@ pub record Draws (before now : Supply) : Type 0 where
   pub planned : now.planned ≡ before.planned
   pub calls : before.calls ≤ now.calls
 
--- the disk is off, or a call up to the last one is named in the faults of the plan
+-- the disk is off, or the last numbered call is named in the faults of the plan
 abbrev pub IsNamed : Supply → Type 0
-IsNamed supply = (supply.off ≡ true) ⊎ ((call : ℕ) × Contains supply.planned call × (call ≤ supply.calls))
+IsNamed supply = (supply.off ≡ true) ⊎ Contains supply.planned supply.calls

@@ -89,6 +89,7 @@ impl Area {
         ensures ok { OnOk result (self.new ≡ after_write at bytes.now self.old) }
         ensures small { OnOk result (at + length bytes.now < 2 ^ 63) }
         ensures err { OnErr result (self.new ≡ self.old) }
+        ensures wanting { OnErr result (0 < length bytes.now) }
     {
         self.bytes.kept();
         if bytes.is_empty() {

@@ -9,7 +9,7 @@ ghost use Rattle.disk_model.specs.Faults.{is_failed};
 ghost use Rattle.disk_model.specs.Supply.{Supply, mains, Draws, IsNamed};
 
 use crate::Note;
-use std::alloc::{AllocError, AllocFailed};
+use std::alloc::AllocError;
 use thiserror::Error;
 
 /// One of the two halves of a disk, each a file of its own length.
@@ -38,20 +38,13 @@ impl From<AllocError> for DiskFault {
     }
 }
 
-impl<T: Drop> From<AllocFailed<T>> for DiskFault {
-    ghost from_gives = { λ _ fault. fault ≡ Memory };
-
-    fn from(_: AllocFailed<T>) -> Self {
-        DiskFault::Memory
-    }
-}
-
 /// A disk of two halves.
 ///
 /// Between two syncs each range that was written or cut off, and all past the old end, may hold any bytes after a
 /// crash, and the length may be any between the least and the greatest since the sync. Other bytes stay. After a sync
 /// that succeeded a crash leaves what a read gives. After a call that failed a crash leaves what one during that call
-/// may leave, so nothing that might have been left before is lost. The power goes off only at a call that answers `Failed`.
+/// may leave, so nothing that might have been left before is lost. The power goes off only at a call that answers `Failed`,
+/// and while it is off every call answers so.
 pub trait Disk {
     /// The bytes that a read gives.
     ghost seen: { Self → Image };
@@ -84,6 +77,7 @@ pub trait Disk {
         ensures time { Elapses (moment self.old) (moment self.new) (left_since self.old) (left_since self.new) (may_leave self.new) }
         ensures cause { HasCauseOf is_failed (faults self.old) (faults self.new) result }
         ensures explained { IsErrOf result DiskFault.Failed → explains self.new }
+        ensures off { (supply self.old).off ≡ true → IsErrOf result DiskFault.Failed }
         ensures power { (IsErrOf result DiskFault.Failed → ⊥) → (supply self.new).off ≡ (supply self.old).off }
         ensures supply { Draws (supply self.old) (supply self.new) };
 
@@ -98,6 +92,7 @@ pub trait Disk {
         ensures time { Elapses (moment self.old) (moment self.new) (left_since self.old) (left_since self.new) (may_leave self.new) }
         ensures cause { HasCauseOf is_failed (faults self.old) (faults self.new) result }
         ensures explained { IsErrOf result DiskFault.Failed → explains self.new }
+        ensures off { (supply self.old).off ≡ true → IsErrOf result DiskFault.Failed }
         ensures power { (IsErrOf result DiskFault.Failed → ⊥) → (supply self.new).off ≡ (supply self.old).off }
         ensures supply { Draws (supply self.old) (supply self.new) };
 
@@ -110,6 +105,7 @@ pub trait Disk {
         ensures time { Elapses (moment self.old) (moment self.new) (left_since self.old) (left_since self.new) (may_leave self.new) }
         ensures cause { HasCauseOf is_failed (faults self.old) (faults self.new) result }
         ensures explained { IsErrOf result DiskFault.Failed → explains self.new }
+        ensures off { (supply self.old).off ≡ true → IsErrOf result DiskFault.Failed }
         ensures power { (IsErrOf result DiskFault.Failed → ⊥) → (supply self.new).off ≡ (supply self.old).off }
         ensures supply { Draws (supply self.old) (supply self.new) };
 
@@ -122,6 +118,7 @@ pub trait Disk {
         ensures time { Elapses (moment self.old) (moment self.new) (left_since self.old) (left_since self.new) (may_leave self.new) }
         ensures cause { HasCauseOf is_failed (faults self.old) (faults self.new) result }
         ensures explained { IsErrOf result DiskFault.Failed → explains self.new }
+        ensures off { (supply self.old).off ≡ true → IsErrOf result DiskFault.Failed }
         ensures power { (IsErrOf result DiskFault.Failed → ⊥) → (supply self.new).off ≡ (supply self.old).off }
         ensures supply { Draws (supply self.old) (supply self.new) };
 
@@ -161,6 +158,6 @@ pub trait Power: Disk {
         ensures supply { OnOk result (Self.supply self.new ≡ record (Self.supply self.old) { off = false }) }
         ensures refused { OnErr result (self.new ≡ self.old) };
 
-    /// Where the disk has answered `Failed` it is off, or its plan names a call up to the last one.
+    /// Where a call has answered `Failed` the disk is off, or its plan names that call.
     ghost named: { (disk : Self) → Self.explains disk → IsNamed (Self.supply disk) };
 }

@@ -49,6 +49,7 @@ impl Halves {
         ensures ok { OnOk result (self.new ≡ on_half half (after_write at bytes.now) self.old) }
         ensures small { OnOk result (at + length bytes.now < 2 ^ 63) }
         ensures err { OnErr result (self.new ≡ self.old) }
+        ensures wanting { OnErr result (0 < length bytes.now) }
     {
         match half {
             Half::A => self.a.write(at, bytes),

@@ -138,6 +138,7 @@ impl MemoryDisk {
 
     fn read_as_planned(&mut self, half: Half, at: u64, buf: &mut [u8]) -> Result<usize, DiskFault>
         ensures bytes { IfOk result (λ n. Reads (half_of half (content_of self.old.halves)) at buf.old buf.new n) }
+        ensures same { OnErr result (buf.new ≡ buf.old) }
         ensures exact { Answers self.old.halves self.old.halves self.old self.new result }
     {
         match self.met() {
@@ -158,6 +159,7 @@ impl MemoryDisk {
     fn write_as_planned(&mut self, half: Half, at: u64, bytes: &[u8]) -> Result<(), DiskFault>
         requires { at ≤ length (half_of half (content_of self.old.halves)) }
         ensures small { OnOk result (at + length bytes.now < 2 ^ 63) }
+        ensures wanting { IsErrOf result DiskFault.Memory → 0 < length bytes.now }
         ensures exact { let done = on_half half (after_write at bytes.now) self.old.halves in AnswersOrMemory done done self.old self.new result }
     {
         match self.met() {
@@ -248,10 +250,12 @@ impl Disk for MemoryDisk {
         ensures time { Elapses (length self.old.past) (length self.new.past) (LeftSince self.old) (LeftSince self.new) (HalvesMayLeave self.new.halves) }
         ensures cause { HasCauseOf is_failed self.old.faults self.new.faults result }
         ensures explained { IsErrOf result DiskFault.Failed → IsNamed (supply_of self.new) }
+        ensures off { (supply_of self.old).off ≡ true → IsErrOf result DiskFault.Failed }
         ensures power { (IsErrOf result DiskFault.Failed → ⊥) → (supply_of self.new).off ≡ (supply_of self.old).off }
         ensures supply { Draws (supply_of self.old) (supply_of self.new) }
 
-        // It fails exactly where the plan names the call or the power is off.
+        // It fails exactly where the plan names the call or the power is off, and leaves the buffer then.
+        ensures same { OnErr result (buf.new ≡ buf.old) }
         ensures exact { Answers self.old.halves self.old.halves self.old self.new result }
     {
         self.kept();
@@ -268,10 +272,12 @@ impl Disk for MemoryDisk {
         ensures time { Elapses (length self.old.past) (length self.new.past) (LeftSince self.old) (LeftSince self.new) (HalvesMayLeave self.new.halves) }
         ensures cause { HasCauseOf is_failed self.old.faults self.new.faults result }
         ensures explained { IsErrOf result DiskFault.Failed → IsNamed (supply_of self.new) }
+        ensures off { (supply_of self.old).off ≡ true → IsErrOf result DiskFault.Failed }
         ensures power { (IsErrOf result DiskFault.Failed → ⊥) → (supply_of self.new).off ≡ (supply_of self.old).off }
         ensures supply { Draws (supply_of self.old) (supply_of self.new) }
 
-        // The same, unless no memory is left. A write that is stopped counts as done.
+        // The same, unless no memory is left for a write that is done, of one byte at least. One that is stopped counts as done.
+        ensures wanting { IsErrOf result DiskFault.Memory → 0 < length bytes.now }
         ensures exact { let done = on_half half (after_write at bytes.now) self.old.halves in AnswersOrMemory done done self.old self.new result }
     {
         self.kept();
@@ -287,6 +293,7 @@ impl Disk for MemoryDisk {
         ensures time { Elapses (length self.old.past) (length self.new.past) (LeftSince self.old) (LeftSince self.new) (HalvesMayLeave self.new.halves) }
         ensures cause { HasCauseOf is_failed self.old.faults self.new.faults result }
         ensures explained { IsErrOf result DiskFault.Failed → IsNamed (supply_of self.new) }
+        ensures off { (supply_of self.old).off ≡ true → IsErrOf result DiskFault.Failed }
         ensures power { (IsErrOf result DiskFault.Failed → ⊥) → (supply_of self.new).off ≡ (supply_of self.old).off }
         ensures supply { Draws (supply_of self.old) (supply_of self.new) }
 
@@ -305,6 +312,7 @@ impl Disk for MemoryDisk {
         ensures time { Elapses (length self.old.past) (length self.new.past) (LeftSince self.old) (LeftSince self.new) (HalvesMayLeave self.new.halves) }
         ensures cause { HasCauseOf is_failed self.old.faults self.new.faults result }
         ensures explained { IsErrOf result DiskFault.Failed → IsNamed (supply_of self.new) }
+        ensures off { (supply_of self.old).off ≡ true → IsErrOf result DiskFault.Failed }
         ensures power { (IsErrOf result DiskFault.Failed → ⊥) → (supply_of self.new).off ≡ (supply_of self.old).off }
         ensures supply { Draws (supply_of self.old) (supply_of self.new) }
 

@@ -5,10 +5,10 @@ use crate::plan::Leave;
 pub(crate) enum Met {
     /// Nothing: it goes well.
     Nothing,
-    /// A fault of the plan: it fails and changes nothing.
+    /// A fault of the plan: it fails, and changes nothing but the counts of calls and of faults.
     Fault,
     /// A stop of the plan: it fails and the power goes off.
     Stops(Leave),
-    /// The power is off: it fails and has no number.
+    /// The power is off: it fails, has no number, and changes nothing but the count of faults.
     Off,
 }

@@ -6,7 +6,8 @@ ghost use Rattle.disk_model.specs.declared.halves.Halves.{Halves as Held};
 use crate::halves::Halves;
 use std::marker::Model;
 
-/// The states of the halves before each call, the newest first. It takes no bytes: only clauses read it.
+/// The states of the halves before each call that was done or stopped, and before each switching on, the newest first. It
+/// takes no bytes: only clauses read it.
 #[derive(Drop)]
 pub(crate) struct Past {
     pub ghost states: { List Held },

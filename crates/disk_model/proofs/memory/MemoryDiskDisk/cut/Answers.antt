@@ -2,7 +2,7 @@ use Rattle.std.proofs.Common.{refl}
 use Rattle.disk_model.specs.Area.{after_cut}
 use Rattle.disk_model.specs.Halves.{on_half}
 use Rattle.disk_model.specs.Memory.{met_of}
-use Rattle.disk_model.proofs.Plans.{cause_by, explained_by, power_by, draws_by, cut_by, cut_kept_by}
+use Rattle.disk_model.proofs.Plans.{cause_by, explained_by, fails_by, power_by, draws_by, cut_by, cut_kept_by}
 use Rattle.disk_model.proofs.memory.MemoryDiskDisk.cut.Goals as goal
 
 pub returns-clause-crash : goal.returns-clause-crash
@@ -32,3 +32,8 @@ pub returns-clause-cause : goal.returns-clause-cause
 returns-clause-cause c = cause_by (met_of c.args.self.now) (on_half c.args.half (after_cut c.args.len) c.args.self.now.halves)
     (on_half c.args.half (after_cut c.args.len) c.args.self.now.halves) c.args.self.now c.cut_as_planned.new.self c.cut_as_planned.result
     c.kept.ensures.faults c.cut_as_planned.ensures.exact
+
+pub returns-clause-off : goal.returns-clause-off
+returns-clause-off c = fails_by (met_of c.args.self.now) (on_half c.args.half (after_cut c.args.len) c.args.self.now.halves)
+    (on_half c.args.half (after_cut c.args.len) c.args.self.now.halves) c.args.self.now c.cut_as_planned.new.self c.cut_as_planned.result refl
+    c.cut_as_planned.ensures.exact

@@ -1,7 +1,7 @@
 use Rattle.std.proofs.Common.{refl}
 use Rattle.disk_model.specs.Halves.{settled}
 use Rattle.disk_model.specs.Memory.{met_of}
-use Rattle.disk_model.proofs.Plans.{cause_by, explained_by, power_by, draws_by, durable_by}
+use Rattle.disk_model.proofs.Plans.{cause_by, explained_by, fails_by, power_by, draws_by, durable_by}
 use Rattle.disk_model.proofs.memory.MemoryDiskDisk.sync.Goals as goal
 
 pub returns-clause-durable : goal.returns-clause-durable
@@ -24,3 +24,8 @@ pub returns-clause-cause : goal.returns-clause-cause
 returns-clause-cause c = cause_by (met_of c.args.self.now) (settled c.args.self.now.halves)
     c.args.self.now.halves c.args.self.now c.sync_as_planned.new.self c.sync_as_planned.result
     c.kept.ensures.faults c.sync_as_planned.ensures.exact
+
+pub returns-clause-off : goal.returns-clause-off
+returns-clause-off c = fails_by (met_of c.args.self.now) (settled c.args.self.now.halves)
+    c.args.self.now.halves c.args.self.now c.sync_as_planned.new.self c.sync_as_planned.result refl
+    c.sync_as_planned.ensures.exact

@@ -1,6 +1,6 @@
 use Rattle.disk_model.specs.Area.{after_write}
 use Rattle.disk_model.specs.Halves.{on_half}
-use Rattle.disk_model.proofs.Plans.{write_cause, write_explained, write_power, write_draws, write_by, write_kept_by}
+use Rattle.disk_model.proofs.Plans.{write_cause, write_explained, write_fails, write_power, write_draws, write_by, write_kept_by}
 use Rattle.disk_model.proofs.memory.MemoryDiskDisk.write_at.Goals as goal
 
 pub returns-clause-crash : goal.returns-clause-crash
@@ -26,3 +26,7 @@ returns-clause-supply c = write_draws (on_half c.args.half (after_write c.args.a
 pub returns-clause-cause : goal.returns-clause-cause
 returns-clause-cause c = write_cause (on_half c.args.half (after_write c.args.at c.args.bytes.now) c.args.self.now.halves) c.args.self.now
     c.write_as_planned.new.self c.write_as_planned.result c.kept.ensures.faults c.write_as_planned.ensures.exact
+
+pub returns-clause-off : goal.returns-clause-off
+returns-clause-off c = write_fails (on_half c.args.half (after_write c.args.at c.args.bytes.now) c.args.self.now.halves) c.args.self.now
+    c.write_as_planned.new.self c.write_as_planned.result c.write_as_planned.ensures.exact
