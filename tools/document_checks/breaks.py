@@ -4,7 +4,6 @@ A break has the name of the check that has to tell it, a file, what is done to i
 the place of that part says that the change is harmless, and nothing may be told.
 """
 import pathlib
-import shutil
 import tempfile
 from collections import namedtuple
 
@@ -100,43 +99,50 @@ SCHEMAS = [
 ALL = GENERAL + DOCUMENT + SCHEMAS
 
 
-def open_folder(folder):
-    """Puts a folder of links to what it has in the place of a link to a folder."""
-    if folder.is_symlink():
-        target = folder.resolve()
-        folder.unlink()
-        folder.mkdir()
-        for path in target.iterdir():
+def link_all(folder, target):
+    """Makes a folder of links to all that another has."""
+    folder.mkdir(exist_ok=True)
+    for path in target.iterdir():
+        if path.name != ".git":
             (folder / path.name).symlink_to(path)
 
 
+def own(root, name):
+    """Puts folders of links in the place of the links on the way to a file, so that it can be changed without its original."""
+    for parent in list(reversed(pathlib.PurePosixPath(name).parents))[1:]:
+        folder = root / parent
+        if folder.is_symlink():
+            target = folder.resolve()
+            folder.unlink()
+            link_all(folder, target)
+
+
 def change(root, broken):
-    """Makes a break in a folder of links to the repository, whose files stay as they are. The answer is what hinders it."""
+    """Makes a break in a folder of links. The answer is what hinders it."""
     path = root / broken.file
-    for parent in list(reversed(pathlib.PurePosixPath(broken.file).parents))[1:]:
-        open_folder(root / parent)
+    own(root, broken.file)
     text = path.read_text(encoding="utf-8") if path.exists() else ""
-    if path.is_symlink():
-        path.unlink()
-    if broken.new is GONE:
-        return None
     if broken.old is not END and broken.old not in text:
-        return f"self-test: {broken.file} does not have {broken.old!r}"
-    path.write_text(text + broken.new if broken.old is END else text.replace(broken.old, broken.new), encoding="utf-8")
-    return None
+        return [f"self-test: {broken.file} does not have {broken.old!r}"]
+    path.unlink(missing_ok=True)
+    if broken.new is not GONE:
+        path.write_text(text + broken.new if broken.old is END else text.replace(broken.old, broken.new), encoding="utf-8")
+    return []
 
 
-def hinders(top, broken, before, scratch):
+def restore(root, top, name):
+    """Puts the link to the original in its place again."""
+    (root / name).unlink(missing_ok=True)
+    if (top / name).exists():
+        (root / name).symlink_to(top / name)
+
+
+def hinders(root, broken, before):
     """What is wrong with a break: it cannot be made, nothing tells it, or it is harmless and told all the same."""
-    root = pathlib.Path(tempfile.mkdtemp(dir=scratch))
-    for path in top.iterdir():
-        if path.name != ".git":
-            (root / path.name).symlink_to(path)
     hindrance = change(root, broken)
     if hindrance:
-        return [hindrance]
+        return hindrance
     told = [line for line in checks.run(broken.check, root) if line not in before]
-    shutil.rmtree(root)
     what = f"self-test: '{broken.check}' on {broken.file} with {(broken.new or 'nothing').strip()[:50]!r}"
     if broken.told is None:
         return [f"{what} tells {line}" for line in told]
@@ -147,8 +153,11 @@ def self_test(top):
     """What the checks do not tell, of all breaks. Each check has to have one."""
     broken_ones = {broken.check for broken in ALL if broken.told is not None}
     wrong = [f"self-test: nothing breaks what '{name}' checks" for name in checks.CHECKS if name not in broken_ones]
-    before = {name: set(checks.run(name, top)) for name in checks.CHECKS}
     with tempfile.TemporaryDirectory() as scratch:
+        root = pathlib.Path(scratch)
+        link_all(root, top)
+        before = {name: set(checks.run(name, root)) for name in checks.CHECKS}
         for broken in ALL:
-            wrong += hinders(top, broken, before[broken.check], scratch)
+            wrong += hinders(root, broken, before[broken.check])
+            restore(root, top, broken.file)
     return wrong

@@ -1,5 +1,6 @@
 """Holds all documents to their limits and to the files that they name. Each check answers what it found wrong."""
 import fnmatch
+import functools
 import os
 import pathlib
 import re
@@ -107,29 +108,31 @@ def is_there(path, folder, there, short):
     return all(stands(form) for form in forms_of(path))
 
 
+@functools.cache
 def named_paths(text, tops):
     """The paths that a text names, with their lines. In prose only what begins with a folder of the top counts, in code all that
     has the form of one."""
-    found = []
+    found, named = [], []
     outside, blocks = markdown.split_code(text)
     for number, line in outside:
-        codes = [word for span in markdown.spans(line) for word in span.split()]
+        found += [(number, word, True) for span in markdown.spans(line) for word in span.split()]
         rest = markdown.LINK.sub(r" \1 ", markdown.SPAN.sub(" ", line)).split()
-        found += [(number, word, True) for word in codes] + [(number, word, False) for word in rest]
+        found += [(number, word, False) for word in rest if "/" in word]
     for block in blocks:
-        found += [(block.line, word, False) for word in block.text.split()]
+        found += [(block.line, word, False) for word in block.text.split() if "/" in word]
     for number, word, is_code in found:
         word = word.lstrip("\"'([").rstrip("\"')],;:!?.").removeprefix("./")
-        is_whole = PATH.fullmatch(word) and "/out" not in word
-        if is_whole and ("/" in word and (is_code or word.split("/")[0] in tops) or is_code and word.endswith(ENDINGS)):
-            yield number, word
+        counts = is_code or word.split("/")[0] in tops if "/" in word else is_code and word.endswith(ENDINGS)
+        if counts and "/out" not in word and PATH.fullmatch(word):
+            named.append((number, word))
+    return named
 
 
 def paths(root):
     """Each path that a document names is there."""
     there = files(root)
     short = short_names(there)
-    tops = {path for path in there if "/" not in path and (pathlib.Path(root) / path).is_dir()}
+    tops = frozenset(path for path in there if "/" not in path and (pathlib.Path(root) / path).is_dir())
     wrong, seen = [], 0
     for name, text in documents(root).items():
         for line, word in named_paths(text, tops):

@@ -111,4 +111,4 @@ def breaks(rule, schema, value, root):
 def accepts(schema, value, root=None):
     """Whether a schema accepts a value."""
     root = schema if root is None else root
-    return not any([breaks(rule, schema, value, root) for rule in schema])
+    return not any(breaks(rule, schema, value, root) for rule in schema)
