@@ -1,0 +1,256 @@
+"""What lanes, agreements and desks cast. Each check yields a place, what the test wants, and what is made here."""
+import multiprocessing
+
+import codes
+import coins
+import votes
+from desk_rules import Desk
+from lane_rules import Agreement, Lane, Numbers
+
+LANES = "crates/lane_cases/src/"
+DESKS = "crates/epoch_cases/src/"
+CORRECT, LIAR, SEED, EPOCH, LANE, ROUNDS = 3, 3, 7, 1, 2, 3
+
+
+# ---- agreements of three correct nodes and a liar that says both bits and shows false shares
+
+def letters_of(vote, share):
+    letter, r, value = vote
+    return f"{letter}{r % 10}{share(r) % 10 if letter == 'S' else value}"
+
+
+class World:
+    """A run of one agreement, by inputs that are the bits of a number, and an order: 'first', 'last', or a number that draws."""
+
+    def __init__(self, version, split, order):
+        self.version, self.order, self.envelopes, self.lied, self.shown = version, order, [], set(), set()
+        deal = coins.Deal(SEED, CORRECT + 1, 1, 2, ROUNDS)
+        numbers = Numbers(CORRECT + 1, 1, ROUNDS, version, [deal.coin(EPOCH, LANE, r) for r in range(ROUNDS)])
+        self.deal, self.nodes = deal, [Agreement(numbers) for _ in range(CORRECT)]
+        self.fronts = [set() for _ in range(CORRECT)]
+        for number in range(CORRECT):
+            self.say(number, self.nodes[number].input(split >> number & 1))
+        while self.envelopes:
+            node, vote, to = self.envelopes.pop(self.next())
+            self.say(to, self.nodes[to].hear(node, vote))
+
+    def next(self):
+        if isinstance(self.order, str):
+            return 0 if self.order == "first" else len(self.envelopes) - 1
+        self.order = (self.order * 6364136223846793005 + 1442695040888963407) % 2**64
+        return (self.order >> 33) % len(self.envelopes)
+
+    def send(self, node, vote):
+        self.envelopes.extend((node, vote, to) for to in range(CORRECT))
+
+    def lies(self, r):
+        yield from ((letter, r, b) for letter in "BA" for b in (0, 1))
+        if self.version == 2:
+            yield from (("C", r, bits) for bits in (1, 2, 3))
+        yield "S", r, False
+
+    def say(self, node, cast):
+        self.fronts[node].add(len(self.nodes[node].own))
+        for vote in cast:
+            letter, r, _ = vote
+            if letter in "BACS":
+                self.send(node, vote)
+            if letter == "B" and r not in self.lied:
+                self.lied.add(r)
+                for lie in self.lies(r):
+                    self.send(LIAR, lie)
+            if letter == "S" and r not in self.shown:
+                self.shown.add(r)
+                self.send(LIAR, ("S", r, False))
+
+    def text(self, number):
+        share = lambda r: self.deal.share(EPOCH, LANE, r, number)
+        return "".join(letters_of(vote, share) for vote in self.nodes[number].own)
+
+    def decided(self):
+        return "".join(node.decided() for node in self.nodes)
+
+
+def split_row(asked):
+    """What one row of the table tells, made anew."""
+    version, split, orders = asked
+    first, last = (World(version, split, order).decided() for order in ("first", "last"))
+    found, total = dict.fromkeys("01-", 0), codes.fnv64(b"")
+    for k in range(orders):
+        world = World(version, split, 8 * k + split)
+        for number, bit in enumerate(world.decided()):
+            found[bit] += 1
+            total = codes.fnv64(world.text(number).encode(), total)
+    return first, last, list(found.values()), total
+
+
+def splits(sources):
+    rows = sources.constant(LANES + "splits.rt", "ROWS")
+    orders = sources.constant(LANES + "splits.rt", "DRAWN")
+    with multiprocessing.Pool() as pool:
+        found = pool.map(split_row, [(version, split, orders) for version, split, *_ in rows], chunksize=1)
+    for (version, split, *wanted), made in zip(rows, found):
+        yield f"version {version}, split {split}", tuple(wanted), made
+
+
+def fronts(sources):
+    for version, counts in sources.constant(LANES + "again.rt", "FRONTS"):
+        made = [sum(len(found - {0}) for found in World(version, split, split).fronts) for split in range(8)]
+        yield f"fronts under version {version}", counts, made
+
+
+def alone(sources):
+    for version, is_one, wanted in sources.constant(LANES + "alone.rt", "ROWS"):
+        deal = coins.Deal(0, 1, 0, 1, 3)
+        node = Agreement(Numbers(1, 0, 3, version, [deal.coin(0, 0, r) for r in range(3)]))
+        waiting = node.input(int(is_one))
+        while waiting:
+            vote = waiting.pop(0)
+            if vote[0] in "BACS":
+                waiting += node.hear(0, vote)
+        made = "".join(letters_of(vote, lambda r: deal.share(0, 0, r, 0)) for vote in node.own)
+        yield f"a node alone, version {version}, input {is_one}", wanted, made
+
+
+# ---- lanes of correct nodes, in which each vote is heard by all before the next
+
+def cast_by_lanes(n, f, epochs, rounds, seed, version, lane):
+    """The text of what each node casts in each epoch."""
+    deal, lanes = coins.Deal(seed, n, f, epochs, rounds), {}
+    for epoch in range(epochs):
+        numbers = Numbers(n, f, rounds, version, [deal.coin(epoch, lane, r) for r in range(rounds)])
+        lanes.update({(node, epoch): Lane(numbers, node, node == lane) for node in range(n)})
+    posts = [(lane, epoch, ("p", 0, 0)) for epoch in reversed(range(epochs))]
+    for sender, epoch, vote in posts:
+        for node in range(n):
+            is_for = {"p": node == sender, "V": node == vote[1]}.get(vote[0], vote[0] in "ORBACS")
+            if is_for:
+                posts += [(node, epoch, made) for made in lanes[node, epoch].hear(sender, vote)]
+    return {(node, epoch): "".join(letters_of(vote, lambda r: deal.share(epoch, lane, r, node)) for vote in found.own)
+            for (node, epoch), found in lanes.items()}
+
+
+def lanes(sources):
+    texts = [cast_by_lanes(*run) for run in sources.constant(LANES + "lanes.rt", "RUNS")]
+    for run, node, epoch, wanted in sources.constant(LANES + "lanes.rt", "WANTED"):
+        yield f"run {run}, node {node}, epoch {epoch}", wanted, texts[run][node, epoch]
+
+
+# ---- desks
+
+def value_of(letters):
+    return b"\xff" if letters == "?" else votes.batch([letter.encode() for letter in letters])
+
+
+def letters_in(value):
+    return "?" if len(value) == 1 else "".join(chr(letter) for tx in votes.transactions(value) for letter in tx)
+
+
+def told(made):
+    """Votes of a desk as a text, or a dot for none."""
+    def one(kind, epoch, value):
+        if kind == "P":
+            return f"P{epoch}{letters_in(value)}"
+        return f"{kind}{epoch}" + "".join(f"{lane}{letters_in(item)}" for lane, item in value)
+    return "+".join(one(*vote) for vote in made) or "."
+
+
+def cast_before(desk, text):
+    """Takes in the votes that a text tells as cast."""
+    for part in text.split("+") if text else []:
+        kind, epoch, rest = part[0], int(part[1]), part[2:]
+        items, letters = [], rest
+        while kind == "C" and letters:
+            size = next((i for i in range(1, len(letters)) if letters[i].isdigit()), len(letters))
+            items.append((int(letters[0]), value_of(letters[1:size])))
+            letters = letters[size:]
+        desk.own[kind, epoch] = value_of(rest) if kind == "P" else tuple(items)
+
+
+def desks(sources):
+    for case in sources.constant(DESKS + "cases.rt", "CASES"):
+        submitted = [letter.encode() for letter in case["submitted"]]
+        desk = Desk(case["nodes"], case["faulty"], 3, case["batch"], submitted)
+        cast_before(desk, case["own"])
+        answers = [told(desk.settle())]
+        for word in case["script"].split(" "):
+            lane, epoch = int(word[1]), int(word[2])
+            if epoch >= 3:
+                answers.append(".")
+            elif word[0] == "=":
+                answers.append(told(desk.hear(lane, epoch, delivered=value_of(word[3:]))))
+            else:
+                answers.append(told(desk.hear(lane, epoch, decided=int(word[0] == "+"))))
+        yield f"the run {case['script']}", case["wanted"], " ".join(answers)
+
+
+def subsets(sources):
+    for n, f, is_cast, script, wanted, listed in sources.constant(DESKS + "subsets.rt", "CASES"):
+        desk, text = Desk(n, f, 1, 1, []), ""
+        desk.own["P", 0] = b""
+        if is_cast:
+            desk.own["N", 0] = ()
+        for place, letter in enumerate(script):
+            if letter.isdigit():
+                made = desk.hear(int(letter), 0, delivered=bytes([ord("a") + place]))
+            else:
+                made = desk.hear(ord(letter.lower()) - ord("a"), 0, decided=int(letter.isupper()))
+            is_due, is_closed = any(vote[0] == "N" for vote in made), ("C", 0) in desk.own
+            text += "b" if is_due and is_closed else "n" if is_due else "c" if is_closed else "."
+        made = "".join(f"{lane}{value.decode()}" for lane, value in desk.own["C", 0])
+        yield f"the subset {script}", (wanted, listed), (text, made)
+
+
+# ---- a node that is alone, with its lane, its desk and their journals
+
+def run_of_one(epochs, rounds, seed):
+    """How many votes and entries a lane and a desk write, where each post is heard before the next."""
+    deal = coins.Deal(seed, 1, 0, epochs, rounds)
+    lanes = [Lane(Numbers(1, 0, rounds, 1, [deal.coin(e, 0, r) for r in range(rounds)]), 0, True) for e in range(epochs)]
+    desk, counts, posts = Desk(1, 0, epochs, 64, []), {"lane": [0, 0], "desk": [0, 0]}, []
+
+    def write(actor, made):
+        counts[actor][0] += len(made)
+        counts[actor][1] += bool(made)
+        posts.extend((actor, vote) for vote in made)
+
+    write("desk", desk.settle())
+    for actor, (letter, at, value) in posts:
+        if actor == "desk" and letter in "PN":
+            made = lanes[at].hear(0, ("p" if letter == "P" else "n", 0, 0))
+            write("lane", [(vote[0], at, vote) for vote in made])
+        elif actor == "lane" and letter in "LD":
+            heard = {"delivered": votes.batch([])} if letter == "L" else {"decided": value[2]}
+            write("desk", desk.hear(0, at, **heard))
+        elif actor == "lane" and letter in "VORBACS":
+            write("lane", [(vote[0], at, vote) for vote in lanes[at].hear(0, value)])
+    return counts
+
+
+def calls_of(entries):
+    """The calls of a disk: 6 open a journal, 4 write an entry, and 9 fold 64 entries into one before the next."""
+    kept, calls, folds = 0, 6, []
+    for _ in range(entries):
+        if kept == 64:
+            folds.append((calls + 1, calls + 9))
+            kept, calls = 1, calls + 9
+        kept, calls = kept + 1, calls + 4
+    return calls, folds
+
+
+def journals_of_one(sources):
+    text = sources.text("crates/app_cases/src/alone.rt").split("use crate", 1)[0].replace("\n//! ", " ")
+    numbers = sources.constant("crates/app_cases/src/alone.rt", "COINS")
+    counts = run_of_one(numbers["epochs"], numbers["rounds"], numbers["seed"])
+    (lane_votes, lane_entries), (desk_votes, desk_entries) = counts["lane"], counts["desk"]
+    calls, folds = calls_of(lane_entries)
+    told_here = (f"its lane casts {lane_votes} votes, in {lane_entries} entries of its journal, and its desk {desk_votes} votes, "
+                 f"in {desk_entries} entries.")
+    yield "what is said of votes and entries", True, told_here in text
+    (first, first_end), (second, second_end) = folds
+    told_calls = (f"is called {calls} times, with folds at calls {first} to {first_end} and {second} to {second_end}, "
+                  f"and the desk's {calls_of(desk_entries)[0]} times.")
+    yield "what is said of calls and folds", True, told_calls in text
+
+
+CHECKS = [splits, fronts, alone, lanes, desks, subsets, journals_of_one]
