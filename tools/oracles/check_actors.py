@@ -1,6 +1,4 @@
 """What lanes, agreements and desks cast. Each check yields a place, what the test wants, and what is made here."""
-import multiprocessing
-
 import codes
 import coins
 import votes
@@ -71,9 +69,8 @@ class World:
         return "".join(node.decided() for node in self.nodes)
 
 
-def split_row(asked):
+def split_row(version, split, orders):
     """What one row of the table tells, made anew."""
-    version, split, orders = asked
     first, last = (World(version, split, order).decided() for order in ("first", "last"))
     found, total = dict.fromkeys("01-", 0), codes.fnv64(b"")
     for k in range(orders):
@@ -87,10 +84,8 @@ def split_row(asked):
 def splits(sources):
     rows = sources.constant(LANES + "splits.rt", "ROWS")
     orders = sources.constant(LANES + "splits.rt", "DRAWN")
-    with multiprocessing.Pool() as pool:
-        found = pool.map(split_row, [(version, split, orders) for version, split, *_ in rows], chunksize=1)
-    for (version, split, *wanted), made in zip(rows, found):
-        yield f"version {version}, split {split}", tuple(wanted), made
+    for version, split, *wanted in rows:
+        yield f"version {version}, split {split}", tuple(wanted), split_row(version, split, orders)
 
 
 def fronts(sources):

@@ -24,8 +24,9 @@ class Agreement:
 
     def __init__(self, numbers):
         self.numbers, self.own, self.has, self.heard, self.inputs = numbers, [], set(), {}, set()
+        self.entered = -1
         self.rows = list(self.all_rows())
-        self.rows_of = [[row for row in self.rows if row[1][:1] == (r,)] for r in range(numbers.rounds)]
+        self.rows_by = {(letter, r): self.rows_that_read(letter, r) for letter in "BACS" for r in range(numbers.rounds)}
 
     def count(self, *claims):
         """How many nodes were heard with one of these votes at least."""
@@ -97,6 +98,12 @@ class Agreement:
         is_due = coin is not None and ("P", r, coin + 1) in self.has and ("D", 0) not in self.has
         return ("D", 0, coin) if is_due else None
 
+    def rows_that_read(self, letter, r):
+        """The rows of a round that look at votes of this letter that are heard."""
+        left = (self.confirm, self.pick) if self.numbers.version == 2 else (self.pick, self.pick)
+        readers = {"B": (self.support, self.accept, *left), "A": left[:1], "C": left[1:], "S": (self.go_on, self.decide)}
+        return [(row, at) for row, at in self.rows if row in readers[letter] and at[0] == r]
+
     def all_rows(self):
         rounds = range(self.numbers.rounds)
         yield from ((self.support, (r, b)) for r in rounds for b in (0, 1))
@@ -111,14 +118,18 @@ class Agreement:
     def cast(self, vote):
         self.own.append(vote)
         self.has |= {vote, vote[:2]}
+        if vote[0] == "E":
+            self.entered = max(self.entered, vote[1])
         return vote
 
     def settle(self):
+        """The votes of all rows, until none gives one more. No row of a round gives a vote before its estimate is cast."""
         made, last = [], None
         while last != len(made):
             last = len(made)
-            for row, at in [(self.begin, (1,)), (self.begin, (0,)), *self.rows]:
-                vote = row(*at)
+            made += [self.cast(vote) for vote in map(self.begin, (1, 0)) if vote is not None]
+            for row, at in self.rows:
+                vote = row(*at) if at[0] <= self.entered else None
                 if vote is not None:
                     made.append(self.cast(vote))
         return made
@@ -128,11 +139,13 @@ class Agreement:
         return self.settle()
 
     def hear(self, node, vote):
-        """What becomes owed. Where no row of the vote's round gives a vote, no other does: those look at no such vote."""
+        """What becomes owed. Where no row that looks at such a vote gives one, no other does: nothing has changed for it."""
         self.heard[vote] = self.heard.get(vote, 0) | 1 << node
-        if all(row(*at) is None for row, at in self.rows_of[vote[1]]):
-            return []
-        return self.settle()
+        if vote[1] <= self.entered:
+            for row, at in self.rows_by[vote[:2]]:
+                if row(*at) is not None:
+                    return self.settle()
+        return []
 
     def decided(self):
         return next((str(vote[2]) for vote in self.own if vote[0] == "D"), "-")

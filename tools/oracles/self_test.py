@@ -16,7 +16,7 @@ CHANGES = {
     "shares_of_coins": (LIBRARIES, "shares", "0x25, 0xCD", "0x25, 0xCC"),
     "votes_of_libraries": (LIBRARIES, "tests", r"\x00\x00\x00\x03\x04\xd0\xd2", r"\x00\x00\x00\x03\x04\xd0\xd3"),
     "said_by_liars": (LIBRARIES, "liars/said", "2 babble 26 3 All ff", "2 babble 26 3 All fe"),
-    "splits": (LANES, "splits", "0x1457_f9ea_043b_c21f", "0x1457_f9ea_043b_c21e"),
+    "splits": (LANES, "splits", "0x2cec_2566_01ed_b238", "0x2cec_2566_01ed_b239"),
     "fronts": (LANES, "again", "36, 37, 30]", "36, 37, 31]"),
     "alone": (LANES, "alone", "E00B00A00C01P01", "E00B00A00C02P01"),
     "lanes": (LANES, "lanes", "P32S33D01\"", "P32S34D01\""),
