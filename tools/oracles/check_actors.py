@@ -81,11 +81,30 @@ def split_row(version, split, orders):
     return first, last, list(found.values()), total
 
 
-def splits(sources):
-    rows = sources.constant(LANES + "splits.rt", "ROWS")
+def splits_of(sources, version, splits):
     orders = sources.constant(LANES + "splits.rt", "DRAWN")
-    for version, split, *wanted in rows:
-        yield f"version {version}, split {split}", tuple(wanted), split_row(version, split, orders)
+    wanted = {row[:2]: row[2:] for row in sources.constant(LANES + "splits.rt", "ROWS")}
+    for split in splits:
+        yield f"version {version}, split {split}", wanted.get((version, split)), split_row(version, split, orders)
+
+
+# in four parts, which run side by side, as they take most of the time of all checks
+
+def splits_1_low(sources):
+    yield from splits_of(sources, 1, range(4))
+
+
+def splits_1_high(sources):
+    yield from splits_of(sources, 1, range(4, 8))
+
+
+def splits_2_low(sources):
+    yield from splits_of(sources, 2, range(4))
+
+
+def splits_2_high(sources):
+    yield "the number of rows", 16, len(sources.constant(LANES + "splits.rt", "ROWS"))
+    yield from splits_of(sources, 2, range(4, 8))
 
 
 def fronts(sources):
@@ -248,4 +267,4 @@ def journals_of_one(sources):
     yield "what is said of calls and folds", True, told_calls in text
 
 
-CHECKS = [splits, fronts, alone, lanes, desks, subsets, journals_of_one]
+CHECKS = [splits_1_low, splits_1_high, splits_2_low, splits_2_high, fronts, alone, lanes, desks, subsets, journals_of_one]
