@@ -264,7 +264,7 @@ IsSound-fate c s p fate sound = record {
 
 met_of : (v : ActorView) → v.supply.off ≡ false → IsNamed v.supply → HasMetFault v
 met_of v on (inl off) = absurd (cc (on, off))
-met_of v on (inr named) = record { call = named.0; planned = named.1; met = named.2 }
+met_of v on (inr named) = record { call = v.supply.calls; planned = named; met = omega arith }
 
 pub HasFate-fault : (fault : ActorFault) (p : PlayerView) → may_restart fault p.view.supply.off ≡ false → Explains fault p.seat p.view → HasFate true (fate_of fault) p.seat p.view
 HasFate-fault faults.Journal p not cause = met_of p.view not cause
