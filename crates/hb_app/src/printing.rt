@@ -51,7 +51,7 @@ pub fn print<O: Sink>(
     ensures { Prints text report.now (sink_view O.held O.faults out.old) (sink_view O.held O.faults out.new) result }
 {
     match text {
-        Text::Ledgers => Ok(print_run(report, out)?),
+        Text::Ledgers => Ok(print_run(alloc, report, out)?),
         Text::Trace => Ok(print_trace(report, out)?),
         Text::Observed => match print_observe(alloc, report, out) {
             Ok(()) => Ok(()),

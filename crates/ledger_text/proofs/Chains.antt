@@ -1,13 +1,14 @@
 -- Chains of transactions.
-use Rattle.std.proofs.Common.{◌≡◌, ℕ, zero, suc, ◌-◌, ◌<◌, ◌≤◌, ◌==◌, ◌||◌, ◌⊎◌, nat_lt, Bool, true, false, inl, inr, bytes_eq, List, [], ◌∷◌, ◌++◌, length, get_or, map, set, Bor, if◌then◌else◌, refl, sym, ap, ◌∙◌, arith, get_or-set_other}
+use Rattle.std.proofs.Common.{◌≡◌, ℕ, zero, suc, ◌-◌, ◌<◌, ◌≤◌, ◌==◌, ◌||◌, ◌⊎◌, nat_lt, Bool, true, false, ◌↔◌, inl, inr, Result, Ok, Err, replicate, bytes_eq, List, [], ◌∷◌, ◌++◌, length, get_or, map, set, Bor, if◌then◌else◌, refl, sym, ap, ◌∙◌, arith, get_or-set_other}
+use Rattle.std.specs.Prelude.{IsTrue, IfOk}
 use Rattle.std.specs.Cmp.Lexicographic.{bytes_decides}
 use Rattle.std.proofs.lemmas.Bool.{cases_lt, both_ways, false_from_ne_true, eqb-true, eq-eqb, ltb-true, lt-ltb}
 use Rattle.std.proofs.lemmas.Grind.{get_or-set_at}
-use Rattle.std.proofs.lemmas.List.{length_push, get_or_push, get_or-map, length-map, map-append}
+use Rattle.std.proofs.lemmas.List.{length_push, get_or_push, get_or-map, get_or-replicate, length-map, map-append}
 use Rattle.std.proofs.lemmas.List.Folds.{list_any-append, list_any_at}
 use Rattle.hb_rules.proofs.Among.{any_stands}
 use Rattle.tx_pool.specs.Pool.{is_among}
-use Rattle.ledger_text.specs.Chains.{chains, most_seen, chain_of, last_of, IsChained, HasSeen}
+use Rattle.ledger_text.specs.Chains.{chains, chain_of, last_of, IsChained, HasSeen}
 
 -- ---- the last of a chain
 
@@ -154,7 +155,6 @@ pub chained_none : (txs : List (List ℕ)) (earlier latest : List ℕ) → txs �
     → IsChained txs earlier latest
 chained_none txs earlier latest none no_links no_starts = rw none (rw no_links (record {
   same = refl;
-  few = omega arith;
   starts = no_starts;
   leads = λ k inside. absurd (omega (arith, inside));
 }))
@@ -165,12 +165,11 @@ txs_added xs items tx added =
     ap (map (λ (x : Bor (List ℕ)). x.now)) added ∙ map-append (λ (x : Bor (List ℕ)). x.now) items (tx ∷ [])
 
 pub chains_add : (txs : List (List ℕ)) (tx : List ℕ) (earlier latest : List ℕ) (before now : ℕ) → IsChained txs earlier latest
-    → length latest ≡ chains → chain_of tx < chains → length txs < most_seen
+    → length latest ≡ chains → chain_of tx < chains
     → before ≡ get_or latest (chain_of tx) 0 → now ≡ suc (length txs)
     → IsChained (txs ++ tx ∷ []) (earlier ++ before ∷ []) (set latest (chain_of tx) now)
-chains_add txs tx earlier latest before now chained wide low room is last = record {
+chains_add txs tx earlier latest before now chained wide low is last = record {
   same = omega (arith, length_push txs tx, length_push earlier before, chained.same);
-  few = omega (arith, length_push txs tx, room);
   starts = λ chain inside. lately chain inside (chain_of tx == chain) refl;
   leads = λ k inside. earlier_at k (omega (arith, inside, length_push txs tx));
 }
@@ -241,40 +240,56 @@ among_cases txs tx other among = by (is_among txs other) refl (bytes_eq other tx
         absurd (both_ways (is_among txs other || (bytes_eq other tx || false))
         (ap (λ (b : Bool). b || (bytes_eq other tx || false)) none ∙ ap (λ (b : Bool). b || false) is) parts)
 
-pub seen_known : (seen before : List (List ℕ)) (tx : List ℕ) → HasSeen seen before → is_among before tx ≡ true → HasSeen seen (before ++ tx ∷ [])
-seen_known seen before tx has known = record {
+pub seen_known : (room : ℕ) (seen before : List (List ℕ)) (tx : List ℕ) → HasSeen room seen before → is_among before tx ≡ true
+    → HasSeen room seen (before ++ tx ∷ [])
+seen_known room seen before tx has known = record {
   stands = λ other among. among_front before tx other (has.stands other among);
-  all = λ room other among. elim (among_cases before tx other among) [
-    | inl stands ↦ has.all room other stands
-    | inr same ↦ has.all room other (ap (is_among before) same ∙ known)
+  all = λ more other among. elim (among_cases before tx other among) [
+    | inl stands ↦ has.all more other stands
+    | inr same ↦ has.all more other (ap (is_among before) same ∙ known)
   ];
 }
 
-pub seen_new : (seen before : List (List ℕ)) (tx : List ℕ) → HasSeen seen before
-    → HasSeen (if nat_lt (length seen) most_seen then seen ++ tx ∷ [] else seen) (before ++ tx ∷ [])
-seen_new seen before tx has = by (nat_lt (length seen) most_seen) refl
-  where
-    by : (b : Bool) → nat_lt (length seen) most_seen ≡ b → HasSeen (if b then seen ++ tx ∷ [] else seen) (before ++ tx ∷ [])
-    by true room = record {
-      stands = λ other among. elim (among_cases seen tx other among) [
-        | inl stands ↦ among_front before tx other (has.stands other stands)
-        | inr same ↦ among_last before tx other same
-      ];
-      all = λ more other among. elim (among_cases before tx other among) [
-        | inl stands ↦ among_front seen tx other (has.all (ltb-true (length seen) most_seen room) other stands)
-        | inr same ↦ among_last seen tx other same
-      ];
-    }
-    by false full = record {
-      stands = λ other among. among_front before tx other (has.stands other among);
-      all = λ room other among. absurd (both_ways (nat_lt (length seen) most_seen) full (lt-ltb (length seen) most_seen room));
-    }
+-- one that was added
+pub seen_more : (room : ℕ) (seen before : List (List ℕ)) (tx : List ℕ) → HasSeen room seen before → HasSeen room (seen ++ tx ∷ []) (before ++ tx ∷ [])
+seen_more room seen before tx has = record {
+  stands = λ other among. elim (among_cases seen tx other among) [
+    | inl stands ↦ among_front before tx other (has.stands other stands)
+    | inr same ↦ among_last before tx other same
+  ];
+  all = λ more other among. elim (among_cases before tx other among) [
+    | inl stands ↦ among_front seen tx other (has.all (omega (arith, more, length_push seen tx)) other stands)
+    | inr same ↦ among_last seen tx other same
+  ];
+}
 
-pub seen_none : HasSeen [] []
-seen_none = record { stands = λ tx among. among; all = λ room tx among. among }
+-- one that no longer fits
+pub seen_full : (room now : ℕ) (seen before : List (List ℕ)) (tx : List ℕ) → HasSeen room seen before → length seen ≡ now
+    → HasSeen now seen (before ++ tx ∷ [])
+seen_full room now seen before tx has full = record {
+  stands = λ other among. among_front before tx other (has.stands other among);
+  all = λ more other among. absurd (omega (arith, more, full));
+}
 
-pub room_left : {X : Type 0} (txs : List X) → length txs ≤ most_seen → (length txs == most_seen) ≡ false → length txs < most_seen
-room_left txs few short = elim (cases_lt (length txs) most_seen) [
+pub seen_none : (room : ℕ) → HasSeen room [] []
+seen_none room = record { stands = λ tx among. among; all = λ more tx among. among }
+
+-- what is read at a place that is there
+pub read_at : {X : Type 0} (xs : List X) (k : ℕ) (d x : X) → k < length xs → x ≡ get_or xs k x → get_or xs k d ≡ x
+read_at [] k d x inside is = absurd (omega (arith, inside))
+read_at (y ∷ ys) zero d x inside is = sym is
+read_at (y ∷ ys) (suc k) d x inside is = read_at ys k d x (omega (arith, inside)) is
+
+-- there is room where a test of it answers no
+pub room_left : (seen room : ℕ) (full : Bool) → (IsTrue full ↔ (room ≤ seen)) → full ≡ false → seen < room
+room_left seen room full exact none = elim (cases_lt seen room) [
   | inl less ↦ less
-  | inr full ↦ absurd (both_ways (length txs == most_seen) short (eq-eqb (length txs) most_seen (omega (arith, few, full))))
+  | inr over ↦ absurd (both_ways full none (exact.1 over))
 ]
+
+-- no chain has begun where all starts are 0
+pub starts_none : {V E : Type 0} (items : V → List ℕ) (made : Result V E) (P : Type 0) → P
+    → IfOk made (λ starts. P → items starts ≡ replicate chains 0)
+    → IfOk made (λ starts. (chain : ℕ) → chain < chains → get_or (items starts) chain 0 ≡ 0)
+starts_none items (Ok starts) P p is = λ chain low. ap (λ (xs : List ℕ). get_or xs chain 0) (is p) ∙ get_or-replicate chains chain 0 0 low
+starts_none items (Err e) P p is = tt

@@ -4,15 +4,15 @@ use Rattle.tx_pool.specs.Pool.{is_among}
 
 -- how many chains there are: a prime
 abbrev pub chains : ℕ
-chains = 65521
+chains = 8191
 
--- how many transactions fit
+-- how many transactions fit at most
 abbrev pub most_seen : ℕ
 most_seen = 32768
 
 -- one byte more
 abbrev pub hash_step : ℕ → ℕ → ℕ
-hash_step hash byte = (hash * 257 + byte) % 65521
+hash_step hash byte = (hash * 257 + byte) % 8191
 
 -- the chain of a transaction
 unfoldable pub chain_of : List ℕ → ℕ
@@ -26,11 +26,10 @@ last_of chain txs (suc k) = if chain_of (slice_index_or txs k []) == chain then 
 -- each chain leads from its last transaction to the one before, and so on
 pub record IsChained (txs : List (List ℕ)) (earlier latest : List ℕ) : Type 0 where
   pub same : length earlier ≡ length txs
-  pub few : length txs ≤ most_seen
   pub starts : (chain : ℕ) → chain < chains → slice_index_or latest chain 0 ≡ last_of chain txs (length txs)
   pub leads : (k : ℕ) → k < length txs → slice_index_or earlier k 0 ≡ last_of (chain_of (slice_index_or txs k [])) txs k
 
--- what was seen stands before, and all that does was seen, unless no more fits
-pub record HasSeen (seen before : List (List ℕ)) : Type 0 where
+-- what was seen stands before, and all that does was seen, unless no more than so many fit
+pub record HasSeen (room : ℕ) (seen before : List (List ℕ)) : Type 0 where
   pub stands : (tx : List ℕ) → is_among seen tx ≡ true → is_among before tx ≡ true
-  pub all : length seen < most_seen → (tx : List ℕ) → is_among before tx ≡ true → is_among seen tx ≡ true
+  pub all : length seen < room → (tx : List ℕ) → is_among before tx ≡ true → is_among seen tx ≡ true

@@ -17,13 +17,19 @@ use crate::seen::Seen;
 use acs_world::{Closing, count_of};
 use hb_base::{Failed, Sink};
 use hb_wire::{batch_at, batch_len, item};
+use std::alloc::Global;
 
 /// Prints a ledger, each line by one put: each list with its epoch, each batch of it, and each transaction where it stands for
-/// the first time. It takes no memory. After an error a front of the text was written, and the sink's count of faults rose.
-pub fn put_ledger<'a, L: Ledger, O: Sink>(ledger: &'a L, out: &mut O) -> Result<(), Failed>
+/// the first time. It remembers those that it has printed; where memory is wanting for that, it looks for them in the ledger,
+/// so that it prints the same. After an error a front of the text was written, and the sink's count of faults rose.
+pub fn put_ledger<'a, L: Ledger, O: Sink>(
+    alloc: Global,
+    ledger: &'a L,
+    out: &mut O,
+) -> Result<(), Failed>
     ensures { Writes (O.held out.old) (O.held out.new) (O.faults out.old) (O.faults out.new) result (lists_text (L.lists ledger.now)) }
 {
-    let mut seen: Seen<'a> = Seen::new();
+    let mut seen: Seen<'a> = Seen::new(alloc);
     for place in 0..ledger.count() {
         let Some(closing) = ledger.at(place) else {
             return Ok(());

@@ -11,15 +11,16 @@ use crate::lists::NodeLedger;
 use acs_world::LedgerFinder;
 use hb_base::{Failed, Sink};
 use hb_rules::{End, Fate, Report, running};
+use std::alloc::Global;
 
 /// Prints the nodes in order.
-pub(crate) fn put_nodes<O: Sink>(report: &Report, out: &mut O) -> Result<(), Failed>
+pub(crate) fn put_nodes<O: Sink>(alloc: Global, report: &Report, out: &mut O) -> Result<(), Failed>
     ensures { Writes (O.held out.old) (O.held out.new) (O.faults out.old) (O.faults out.new) result
         (flat_map (node_text report.now) (range_with_len 0 report.now.config.n)) }
 {
     let ledgers = LedgerFinder::new(&report.config, report.history.as_slice());
     for node in 0..report.config.n() {
-        put_whole_node(report, &ledgers, node, out)?;
+        put_whole_node(alloc, report, &ledgers, node, out)?;
     }
     Ok(())
 }
@@ -27,6 +28,7 @@ pub(crate) fn put_nodes<O: Sink>(report: &Report, out: &mut O) -> Result<(), Fai
 // Prints a node: that it lies, or its state and its ledger.
 #[tactic(auto, using(script_fault::proofs::Writing::writes_then, script_fault::proofs::Writing::writes_front), unfolding(crate::specs::Text::node_text))]
 fn put_whole_node<O: Sink>(
+    alloc: Global,
     report: &Report,
     ledgers: &LedgerFinder,
     node: u8,
@@ -39,7 +41,7 @@ fn put_whole_node<O: Sink>(
         return put_node(node, "liar", out);
     }
     put_state(report, node, out)?;
-    put_ledger(&NodeLedger { ledgers, node }, out)
+    put_ledger(alloc, &NodeLedger { ledgers, node }, out)
 }
 
 // Prints whether a node runs, and if not, which of its actors have ended.

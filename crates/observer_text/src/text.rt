@@ -28,23 +28,29 @@ pub fn print_observe<O: Sink>(
     ensures { Prints (O.held out.old) (O.held out.new) (O.faults out.old) (O.faults out.new) result (observe_text report.now) }
 {
     let observers = observers_beside(alloc, report)?;
-    put_text(report, observers.as_slice(), out)?;
+    put_text(alloc, report, observers.as_slice(), out)?;
     Ok(())
 }
 
 // Puts the text of these observers, which are those of the run.
 #[tactic(auto, using(script_fault::proofs::Writing::writes_then, script_fault::proofs::Writing::writes_front), unfolding(crate::specs::Text::observe_text))]
-fn put_text<O: Sink>(report: &Report, observers: &[Observer], out: &mut O) -> Result<(), Failed>
+fn put_text<O: Sink>(
+    alloc: Global,
+    report: &Report,
+    observers: &[Observer],
+    out: &mut O,
+) -> Result<(), Failed>
     requires { AreBeside report.now report.now.config.n observers.now }
     ensures { Writes (O.held out.old) (O.held out.new) (O.faults out.old) (O.faults out.new) result (observe_text report.now) }
 {
     put_numbers("observe", &report.config, out)?;
-    put_observers(report, observers, out)?;
+    put_observers(alloc, report, observers, out)?;
     put_status(report.status, out)
 }
 
 // Puts the observers in the order of their nodes.
 fn put_observers<O: Sink>(
+    alloc: Global,
     report: &Report,
     observers: &[Observer],
     out: &mut O,
@@ -54,17 +60,22 @@ fn put_observers<O: Sink>(
         (flat_map (beside_text report.now) (range_with_len 0 report.now.config.n)) }
 {
     for node in 0..report.config.n() {
-        put_observer(node, &observers[node as usize], out)?;
+        put_observer(alloc, node, &observers[node as usize], out)?;
     }
     Ok(())
 }
 
 // Puts the observer beside a node, with its ledger.
 #[tactic(auto, using(script_fault::proofs::Writing::writes_then, script_fault::proofs::Writing::writes_front), unfolding(crate::specs::Text::observer_text))]
-fn put_observer<O: Sink>(node: u8, observer: &Observer, out: &mut O) -> Result<(), Failed>
+fn put_observer<O: Sink>(
+    alloc: Global,
+    node: u8,
+    observer: &Observer,
+    out: &mut O,
+) -> Result<(), Failed>
     ensures { Writes (O.held out.old) (O.held out.new) (O.faults out.old) (O.faults out.new) result
         (observer_text node (ledger_of observer.now)) }
 {
     put_epochs(node, observer.epochs(), out)?;
-    put_ledger(&ObservedLedger { observer }, out)
+    put_ledger(alloc, &ObservedLedger { observer }, out)
 }

@@ -69,7 +69,7 @@ fn hash_of(bytes: &[u8]) -> u64 {
 // Checks the length of the text of a run, and its hash.
 fn check_text(rt: &impl Abort, alloc: Global, report: &Report, length: usize, hash: u64) {
     let mut out = MemorySink::new(alloc, Vec::new(alloc));
-    let done = print_run(report, &mut out);
+    let done = print_run(alloc, report, &mut out);
     assert!(rt; done.is_ok() && out.held().len() == length && hash_of(out.held()) == hash);
 }
 

@@ -365,7 +365,7 @@ fn runs(rt: HostRuntime) -> Result<(), Fail> {
     for &(told, text) in &RUNS {
         let report = report_of(rt.alloc(), told)?;
         let mut out = MemorySink::new(rt.alloc(), Vec::new(rt.alloc()));
-        let done = print_run(&report, &mut out);
+        let done = print_run(rt.alloc(), &report, &mut out);
         assert!(rt;
             done.is_ok() && out.held() == text.as_bytes(),
             "the history {history}",
@@ -382,7 +382,7 @@ fn puts_that_fail(rt: HostRuntime) -> Result<(), Fail> {
         let report = report_of(rt.alloc(), told)?;
         for call in 1..60u32 {
             let mut out = failing_sink(rt.alloc(), call)?;
-            let is_whole = print_run(&report, &mut out).is_ok();
+            let is_whole = print_run(rt.alloc(), &report, &mut out).is_ok();
             let front = lines(text.as_bytes(), call - 1);
             assert!(rt;
                 out.held() == front && is_whole == (front.len() == text.len()),

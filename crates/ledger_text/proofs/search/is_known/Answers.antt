@@ -2,7 +2,6 @@ use Rattle.std.proofs.Common.{◌<◌, List, ℕ, ◌++◌, length, take, sym, �
 use Rattle.std.proofs.lemmas.Bool.{both_ways, false_from_ne_true}
 use Rattle.tx_pool.specs.Pool.{is_among}
 use Rattle.hb_wire.specs.Batches.{batch_of}
-use Rattle.ledger_text.specs.Chains.{most_seen}
 use Rattle.ledger_text.specs.Places.{in_lists, in_batches, before_batch}
 use Rattle.ledger_text.specs.Seen.{txs_of}
 use Rattle.ledger_text.proofs.Among.{among_parts}
@@ -16,7 +15,8 @@ pub returns-then-not-is_full : goal.returns-then-not-is_full
 returns-then-not-is_full g c =
     let txs : List (List ℕ) = txs_of c.args.seen.now in
     let before : List (List ℕ) = before_batch (g.L.Ledger.lists c.args.ledger.now) c.args.spot ++ take c.args.t (batch_of c.args.value.now) in
-    let room : length txs < most_seen = room_left txs c.requires.seen.sound.chained.few (sym c.is_full.ensures ∙ c.if-not-is_full.true) in
+    let room : length txs < c.args.seen.now.room =
+    room_left (length txs) c.args.seen.now.room c.is_full.result c.is_full.ensures c.if-not-is_full.true in
     sym (false_from_ne_true (is_among before c.args.tx.now) (λ among.
     both_ways (is_among txs c.args.tx.now) (sym c.has.ensures ∙ c.if-has.false) (c.requires.seen.has.all room c.args.tx.now among)))
 

@@ -1,15 +1,20 @@
 use Rattle.std.proofs.Common.{◌≡◌, ◌<◌, ◌-◌, bytes_eq, true, false, List, ℕ, [], length, get_or, sym, ap, subst, ◌∙◌, arith}
+use Rattle.std.proofs.lemmas.Grind.{common_steps}
 use Rattle.ledger_text.specs.Chains.{chains, chain_of, last_of}
 use Rattle.ledger_text.specs.Seen.{txs_of}
-use Rattle.ledger_text.proofs.Chains.{at_place, walk_starts, walk_goes, walk_finds, walk_ends}
+use Rattle.ledger_text.proofs.Chains.{at_place, walk_starts, walk_goes, walk_finds, walk_ends, read_at}
 use Rattle.ledger_text.proofs.seen.Seen.has.Goals as goal
 
 pub loop-number-init : goal.loop-number-init
 loop-number-init c =
-    let latest : List ℕ = c.args.self.now.latest in
+    let txs : List (List ℕ) = txs_of c.args.self.now in
+    let latest : List ℕ = c.args.self.now.latest.items in
     let low : chain_of c.args.tx.now < chains = subst (λ (k : ℕ). k < chains) c.chain_of.ensures.value c.chain_of.ensures.low in
-    walk_starts (txs_of c.args.self.now) c.args.tx.now (get_or latest c.chain_of.result 0)
-    (ap (λ (k : ℕ). get_or latest k 0) c.chain_of.ensures.value ∙ c.requires.chained.starts (chain_of c.args.tx.now) low)
+    let some : 0 < length txs = grind (arith, common_steps) in
+    let wide : length latest ≡ chains = c.requires.wide (omega (arith, some, c.requires.few)) in
+    walk_starts txs c.args.tx.now c.index-number.result.now
+    (sym (read_at latest c.chain_of.result 0 c.index-number.result.now (omega (arith, c.chain_of.ensures.low, wide)) c.index-number.ensures)
+    ∙ ap (λ (k : ℕ). get_or latest k 0) c.chain_of.ensures.value ∙ c.requires.chained.starts (chain_of c.args.tx.now) low)
 
 pub returns-then-eq : goal.returns-then-eq
 returns-then-eq c =
