@@ -1,8 +1,8 @@
 -- Chains of transactions.
-use Rattle.std.proofs.Common.{◌≡◌, ℕ, zero, suc, ◌-◌, ◌<◌, ◌≤◌, ◌==◌, ◌||◌, ◌⊎◌, nat_lt, Bool, true, false, ◌↔◌, inl, inr, Result, Ok, Err, replicate, bytes_eq, List, [], ◌∷◌, ◌++◌, length, get_or, map, set, Bor, if◌then◌else◌, refl, sym, ap, ◌∙◌, arith, get_or-set_other}
+use Rattle.std.proofs.Common.{◌≡◌, ℕ, zero, suc, ◌-◌, ◌<◌, ◌≤◌, ◌==◌, ◌||◌, ◌⊎◌, Bool, true, false, ◌↔◌, inl, inr, Result, Ok, Err, replicate, bytes_eq, List, [], ◌∷◌, ◌++◌, length, get_or, map, set, Bor, if◌then◌else◌, refl, sym, ap, ◌∙◌, arith, get_or-set_other}
 use Rattle.std.specs.Prelude.{IsTrue, IfOk}
 use Rattle.std.specs.Cmp.Lexicographic.{bytes_decides}
-use Rattle.std.proofs.lemmas.Bool.{cases_lt, both_ways, false_from_ne_true, eqb-true, eq-eqb, ltb-true, lt-ltb}
+use Rattle.std.proofs.lemmas.Bool.{cases_lt, both_ways, false_from_ne_true, eqb-true, eq-eqb}
 use Rattle.std.proofs.lemmas.Grind.{get_or-set_at}
 use Rattle.std.proofs.lemmas.List.{length_push, get_or_push, get_or-map, get_or-replicate, length-map, map-append}
 use Rattle.std.proofs.lemmas.List.Folds.{list_any-append, list_any_at}

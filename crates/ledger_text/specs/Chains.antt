@@ -1,5 +1,5 @@
 -- Transactions that are found by a hash of their bytes, in lists chained through arrays.
-use Rattle.std.specs.Prelude.{◌≡◌, ℕ, zero, suc, ◌+◌, ◌*◌, ◌%◌, ◌<◌, ◌≤◌, ◌==◌, true, List, [], length, fold, slice_index_or, if◌then◌else◌}
+use Rattle.std.specs.Prelude.{◌≡◌, ℕ, zero, suc, ◌+◌, ◌*◌, ◌%◌, ◌<◌, ◌==◌, true, List, [], length, fold, slice_index_or, if◌then◌else◌}
 use Rattle.tx_pool.specs.Pool.{is_among}
 
 -- how many chains there are: a prime
