@@ -88,7 +88,7 @@ fn config_of(head: &Head) -> Option<Config>
 }
 
 /// The run that the first line tells of, and what is behind the line.
-pub(crate) fn config_at(bytes: &[u8]) -> Field<'_, Config>
+pub fn config_at(bytes: &[u8]) -> Option<(Config, &[u8])>
     ensures found { IfSome result (λ x. IsConfig x.0 × (bytes.now ≡ trace_line x.0 ++ x.1.now)) }
     ensures none { IfNone result (HasNoHead bytes.now) }
 {

@@ -12,6 +12,8 @@ mod trace;
 mod words;
 
 pub use fault::TraceFault;
+pub use head::config_at;
 pub use laws::trace_laws;
+pub use post::{end_at, post_at};
 pub use read::{LONGEST_TRACE, read_trace};
 pub use trace::Trace;

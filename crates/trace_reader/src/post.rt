@@ -89,7 +89,7 @@ fn with_words(
 
 /// Post k, and what is behind its line. Its bytes are decoded once, and not copied.
 #[tactic(auto, unfolding(crate::specs::Reading::post_at, crate::specs::Reading::with_words))]
-pub(crate) fn post_at(
+pub fn post_at(
     alloc: Global,
     k: u64,
     bytes: &[u8],
@@ -104,7 +104,7 @@ pub(crate) fn post_at(
 
 /// What is behind the last line, that of so many posts.
 #[tactic(auto, unfolding(ledger_text::specs::Lines::end_line))]
-pub(crate) fn end_at(count: u64, bytes: &[u8]) -> Option<&[u8]>
+pub fn end_at(count: u64, bytes: &[u8]) -> Option<&[u8]>
     ensures { Shows (λ rest. rest.now) result (end_at count bytes.now) }
 {
     let mut line = Line::new();
