@@ -89,11 +89,7 @@ fn with_words(
 
 /// Post k, and what is behind its line. Its bytes are decoded once, and not copied.
 #[tactic(auto, unfolding(crate::specs::Reading::post_at, crate::specs::Reading::with_words))]
-pub fn post_at(
-    alloc: Global,
-    k: u64,
-    bytes: &[u8],
-) -> Result<Option<(Post, &[u8])>, AllocError>
+pub fn post_at(alloc: Global, k: u64, bytes: &[u8]) -> Result<Option<(Post, &[u8])>, AllocError>
     ensures { IfOk result (λ found. Shows (λ x. (x.0, x.1.now)) found (post_at k bytes.now)) }
 {
     match words_at(k, bytes) {
