@@ -1,0 +1,41 @@
+"""What several rows ask of the program: a text that is read, a history that is audited, a text that is known."""
+from hostile_rows.program import Limits, tell
+from hostile_rows.texts import Wrong, read_answer
+
+# What a run may end with that finds memory, and whose output is taken.
+ENDS = (0, 4, 5)
+
+
+def read(bench, word, given, statuses=ENDS, limits=Limits()):
+    """The answer of a word on a scenario, and what its text says. Raises Wrong."""
+    answer = bench.ask([word], given, limits)
+    try:
+        return answer, read_answer(word, given, answer, statuses)
+    except Wrong as why:
+        raise Wrong(f"{word}: {why} ({tell(answer)})") from why
+
+
+def read_legal(bench, given, statuses=ENDS, limits=Limits()):
+    """The posts of the history of a scenario, which `audit` has to call legal, with all of them. Raises Wrong."""
+    answer, posts = read(bench, "trace", given, statuses, limits)
+    said = bench.ask(["audit"], answer.out)
+    if (said.status, said.out, said.err) != (0, f"legal {len(posts)}\n".encode(), b""):
+        raise Wrong(f"audit of {len(posts)} posts said '{said.out.decode(errors='replace').strip()}' ({tell(said)})")
+    return posts
+
+
+def compare(answer, status, out, err=b""):
+    """What is wrong with an answer that has to be this one, if anything is."""
+    if (answer.status, answer.out, answer.err) == (status, out, err):
+        return None
+    return f"{tell(answer)}, and not status {status}, {len(out)} bytes, '{err.decode().strip()}'"
+
+
+def guarded(call):
+    """A call that answers what is wrong where `call` raises Wrong."""
+    def guard():
+        try:
+            return call()
+        except Wrong as why:
+            return str(why)
+    return guard

@@ -1,0 +1,142 @@
+"""Runs with workers of a user who may have 1, 2, 3, 5 or 9 threads: a worker that can't be started is run by the caller.
+
+A limit of processes binds no user who may do everything. So where this is that user, each case runs as a user of its own, whom
+nobody else is. Else the limit is counted from what the user has already. Each time a probe first tells how many threads start.
+"""
+import functools
+import json
+import os
+import shutil
+import threading
+
+from hostile_rows.calls import compare, read, read_legal
+from hostile_rows.program import Limits, set_limits
+from hostile_rows.texts import Wrong
+
+ALLOWED = (1, 2, 3, 5, 9)
+WORKERS = (1, 4)
+USERS = range(64000, 60000, -1)
+TRIES = 5
+# More threads than are ever allowed.
+MOST_THREADS = 40
+
+# Where no worker can be started the caller runs them one after another, each until its node has nothing more to do. A worker serves
+# the actors of its node in turn, and each takes one post. So node 0 sends its shards and echoes its own; then node 1 sends its shards
+# in the turn in which its lane 0 hears that there is nothing to send, and echoes both; and so node 2, which has then three echoes of
+# the shards of node 0. The first posts, up to this Ready: node, actor, and kind.
+ALONE = [(node, 4, "10") for node in range(4)]
+ALONE += [(0, 0, "01")] * 4 + [(0, 0, "02")]
+ALONE += [(1, 1, "01")] * 4 + [(1, 0, "02"), (1, 1, "02")]
+ALONE += [(2, 2, "01")] * 4 + [(2, 0, "02"), (2, 1, "02"), (2, 2, "02"), (2, 0, "03")]
+
+
+def threads_of_user(user):
+    """How many threads a user has."""
+    count = 0
+    for process in filter(str.isdigit, os.listdir("/proc")):
+        try:
+            if os.stat(f"/proc/{process}").st_uid == user:
+                count += len(os.listdir(f"/proc/{process}/task"))
+        except OSError:
+            # It has ended meanwhile.
+            continue
+    return count
+
+
+def limits_of(allowed, number):
+    """Limits under which so many threads run: of a user of its own for each number, where that is possible."""
+    if os.geteuid() == 0:
+        user = USERS[number % len(USERS)]
+        if threads_of_user(user):
+            raise Wrong(f"user {user} has processes, so a limit of threads cannot be set for it")
+        return Limits(processes=allowed, user=user)
+    return Limits(processes=threads_of_user(os.getuid()) + allowed - 1)
+
+
+def probe(limits):
+    """How many threads a process may have under these limits, its first one too: a copy of this process tries it."""
+    reader, writer = os.pipe()
+    child = os.fork()
+    if not child:
+        try:
+            set_limits(limits)
+            os.write(writer, b"%d" % count_threads())
+        finally:
+            os._exit(0)
+    os.close(writer)
+    with open(reader, "rb") as told:
+        found = told.read()
+    os.waitpid(child, 0)
+    return int(found) if found else None
+
+
+def count_threads():
+    """Starts threads until one is refused, and counts them with the first."""
+    held = threading.Event()
+    for count in range(1, MOST_THREADS):
+        try:
+            threading.Thread(target=held.wait, daemon=True).start()
+        except RuntimeError:
+            return count
+    return MOST_THREADS
+
+
+def limited(allowed, number):
+    """Limits of which a probe has shown that they bind."""
+    for _ in range(TRIES):
+        limits = limits_of(allowed, number)
+        found = probe(limits)
+        if found == allowed:
+            return limits
+    raise Wrong(f"no way was found to allow {allowed} threads: a probe had {found or 'none'}")
+
+
+def with_workers(given, workers):
+    return json.dumps({**json.loads(given), "workers": workers}).encode()
+
+
+def check(bench, allowed, workers, number):
+    """A run that no schedule may change prints what it prints without a limit, and its history is legal."""
+    given, want = with_workers(bench.scenario("workers.json"), workers), bench.scenario("workers.out")
+    limits = limited(allowed, number)
+    wrong = compare(bench.ask(["run"], given, limits), 0, want)
+    if wrong:
+        return f"run: {wrong}"
+    read_legal(bench, given, limits=limits)
+    return None
+
+
+def check_alone(bench, workers, number):
+    """With no thread but the first, the caller runs each worker: the order of the first posts shows it."""
+    limits = limited(1, number)
+    given = with_workers(bench.scenario("four_nodes.json"), workers)
+    posts = read_legal(bench, given, limits=limits)
+    found = [(node, actor, code[:2]) for node, actor, _, code in posts[: len(ALONE)]]
+    if found != ALONE:
+        place = next(place for place, pair in enumerate(zip(found, ALONE)) if pair[0] != pair[1])
+        return f"post {place} is {found[place]} (node, actor, kind), and {ALONE[place]} where the caller runs the workers"
+    read(bench, "run", given, limits=limits)
+    return None
+
+
+def for_all(bench):
+    """The same program where every user may run it."""
+    folder = f"{bench.scratch}/for_all"
+    os.makedirs(folder, exist_ok=True)
+    for path in (bench.scratch, folder):
+        os.chmod(path, 0o755)
+    copy = shutil.copy(bench.program, f"{folder}/program")
+    os.chmod(copy, 0o755)
+    return type(bench)(copy, bench.scratch, bench.top, bench.storms, bench.environment)
+
+
+def cases(bench):
+    """A case for each number of threads and of workers, and those in which the order tells."""
+    bench, number = for_all(bench), 0
+    for allowed in ALLOWED:
+        for workers in WORKERS:
+            number += 1
+            yield f"{workers} workers, {allowed} threads allowed", functools.partial(check, bench, allowed, workers, number)
+    for workers in WORKERS:
+        number += 1
+        yield f"{workers} workers, run by the caller", functools.partial(check_alone, bench, workers, number)
