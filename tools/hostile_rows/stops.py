@@ -64,5 +64,5 @@ def cases(bench):
             name = f"stops at {call} and {call + 1} that leave {pair[0]} and {pair[1]}"
             yield f"{name}, one thread", functools.partial(check, bench, stops, 0, False)
             if pair[0] == pair[1]:
-                for workers in (0, 1, 4):
+                for workers in (1, 4):
                     yield f"{name}, {workers} workers beside a liar", functools.partial(check, bench, stops, workers, True)

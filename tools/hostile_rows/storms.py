@@ -3,6 +3,7 @@
 Storm N has N mod 3 of 0, 1 and 4 workers, and runs on one processor where N / 3 is even, else on all. Whatever the schedule, its text
 has to be one that a run may leave, its history has to be legal, and nobody who does not lie is accused.
 """
+import collections
 import functools
 import json
 import os
@@ -16,7 +17,6 @@ NAMES = ("silent", "equivocate", "echo_split", "bval_both", "false_share", "babb
 SHAPES = ("once", "twice", "late", "drop")
 LEAVES = ("old", "new", "torn")
 WORKERS = (0, 1, 4)
-# The storm of the most nodes, runs of which the tests have, too.
 NODES = (1, 2, 4, 4, 5, 7)
 
 
@@ -55,19 +55,28 @@ def scenario(number):
     """The scenario of a storm."""
     draw = random.Random(number)
     nodes = draw.choice(NODES)
-    faulty = draw.randint(0, (nodes - 1) // 3)
-    liars = draw.sample(range(nodes), draw.randint(0, faulty))
+    faulty = (nodes - 1) // 3
+    liars = draw.sample(range(nodes), draw.choice((faulty, faulty, faulty // 2)))
     faults = [{"node": draw.randrange(nodes), "actor": draw.randrange(nodes + 1), "call": draw.randrange(1, 60)}
-              for _ in range(draw.choice((0, 0, 1, 2)))]
+              for _ in range(draw.choice((0, 0, 0, 1, 2)))]
     return {
         "nodes": nodes, "faulty": faulty, "epochs": draw.randint(1, 3), "batch": draw.randint(1, 4),
         "seed": draw.getrandbits(64), "version": draw.choice((1, 2)), "order": draw.choice(("fifo", "mixed")),
         "workers": WORKERS[number % len(WORKERS)],
         "submit": [{"node": draw.randrange(nodes), "tx": f"{draw.randrange(40):02x}"} for _ in range(draw.randrange(20))],
-        "liars": [{"node": node, "name": draw.choice(NAMES), "hears": draw.choice((0, 1, 50, 300))} for node in liars],
+        "liars": [{"node": node, "name": draw.choice(NAMES), "hears": draw.choice((1, 50, 300, 4194304))} for node in liars],
         "links": [link_of(draw, nodes, liars) for _ in range(draw.randrange(5))],
         "stops": stops_of(draw, nodes), "faults": faults,
     }
+
+
+def check_repeats(told, posts):
+    """A correct actor repeats a post at most once for each stop that is planned for it."""
+    liars = {liar["node"] for liar in told["liars"]}
+    planned = collections.Counter((stop["node"], stop["actor"]) for stop in told["stops"])
+    for (node, actor, to, code), count in collections.Counter(posts).items():
+        if node not in liars and count > 1 + planned[node, actor]:
+            raise Wrong(f"actor {actor} of node {node} says {code[:8]} to {to} {count} times, with {planned[node, actor]} stops")
 
 
 def check_alike(ledgers, nodes, liars):
@@ -82,7 +91,7 @@ def check(bench, number):
     one = frozenset(sorted(os.sched_getaffinity(0))[:1])
     limits = Limits(processors=one if number // len(WORKERS) % 2 == 0 else None)
     answer, nodes = read(bench, "run", given, limits=limits)
-    read_legal(bench, given, limits=limits)
+    check_repeats(told, read_legal(bench, given, limits=limits))
     _, ledgers = read(bench, "observe", given, limits=limits)
     read(bench, "accuse", given, limits=limits)
     if told["workers"] == 0:

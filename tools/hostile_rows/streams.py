@@ -152,7 +152,7 @@ def reading_cases(bench, words, given):
         yield f"{name}, a read that fails behind {count} bytes", functools.partial(check_failing_read, bench, words, given[:count])
     # A scenario is whole without the end of its last line.
     last = len(given) - (1 if name == "audit" else 2)
-    for count in few(range(last)) + [last]:
+    for count in [*few(range(last)), last]:
         yield f"{name}, input that ends behind {count} bytes", functools.partial(check_cut, bench, words, given, count)
 
 
@@ -171,7 +171,7 @@ def cases(bench):
     commands = [([word], given) for word in WORDS] + [(["audit"], bench.ask(["trace"], given).out), (["soak", "1"], b"")]
     for words, text in commands:
         if words[0] != "soak":
-            yield from ((name, call) for name, call in reading_cases(bench, words, text))
+            yield from reading_cases(bench, words, text)
         for path in ("/", os.devnull):
             yield f"{words[0]}, {path} as input", functools.partial(check_no_read, bench, words, path)
         yield from writing_cases(bench, words, text)
