@@ -90,5 +90,5 @@ def _set(kind, amount):
 
 def tell(answer):
     """How a run ended, in a few words."""
-    err = answer.err.decode(errors="replace").strip()[:80]
+    err = " ".join(answer.err.decode(errors="replace").split())[:80]
     return f"status {answer.status}, {len(answer.out)} bytes of output, error output '{err}'"
