@@ -1,7 +1,8 @@
 """Runs in which liars, links, power stops and failing disks go wrong together, each made of its number.
 
 Storm N has N mod 3 of 0, 1 and 4 workers, and runs on one processor where N / 3 is even, else on all. Whatever the schedule, its text
-has to be one that a run may leave, its history has to be legal, and nobody who does not lie is accused.
+has to be one that a run may leave, its history has to be legal, and nobody who does not lie is accused. Beside these the scenario
+storm.json, in which only a liar's posts are dropped, runs a fifth as often on all processors.
 """
 import collections
 import functools
@@ -18,6 +19,7 @@ SHAPES = ("once", "twice", "late", "drop")
 LEAVES = ("old", "new", "torn")
 WORKERS = (0, 1, 4)
 NODES = (1, 2, 4, 4, 5, 7)
+STORED = os.path.join(os.path.dirname(os.path.realpath(__file__)), "storm.json")
 
 
 def link_of(draw, nodes, liars):
@@ -100,6 +102,18 @@ def check(bench, number):
     return None
 
 
+def check_stored(bench):
+    """The stored storm: every correct node closes both epochs, or a lane has gone through its rounds."""
+    with open(STORED, "rb") as file:
+        given = file.read()
+    _, nodes = read(bench, "run", given, statuses=(0, 5))
+    if any(node.state == "ended" for node in nodes):
+        raise Wrong("a node has ended")
+    posts = read_legal(bench, given, statuses=(0, 5))
+    check_repeats(json.loads(given), posts)
+    return None
+
+
 def check_counts(count):
     """The first thirty storms have what makes a storm, and each of it more than once: so no row of storms is idle."""
     storms = [scenario(number) for number in range(count)]
@@ -114,3 +128,5 @@ def cases(bench):
     yield "what storms have", functools.partial(check_counts, max(30, bench.storms))
     for number in range(bench.storms):
         yield f"storm {number}", functools.partial(check, bench, number)
+    for turn in range((bench.storms + 4) // 5):
+        yield f"stored storm, turn {turn}", functools.partial(check_stored, bench)
