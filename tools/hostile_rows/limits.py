@@ -8,7 +8,8 @@ from hostile_rows.texts import READERS, WORDS, Scene, Wrong
 SCENARIOS = ("torn_stops.json", "four_nodes.json", "workers.json")
 MOST = 65536
 # What is above the least address space with which the program loads, in kilobytes.
-ABOVE = (0, 4, 32, 128, 256, 384, 512, 768, 1024, 1280, 1536, 1792, 2048, 2560, 3072, 4096, 6144, 16384, 65536, 131072, 262144, 1048576)
+ABOVE = (0, 4, 32, 128, 256, 384, 512, 768, 1024, 1280, 1536, 1792, 2048, 2560, 3072, 4096, 6144)
+FAR_ABOVE = (16384, 65536, 131072, 262144, 1048576)
 STACKS = (512, 640, 768, 1024, 1536, 2048, 2560, 3072, 4096, 8192)
 ABOVE_WITH_SMALL_STACK = (0, 256, 512, 1024, 2048, 4096, 8192, 65536)
 SOAK = ("comparable yes", "batches yes", "unaltered yes")
@@ -32,7 +33,7 @@ def least_memory(bench):
 
 def all_limits(bench):
     least = least_memory(bench)
-    for above in ABOVE:
+    for above in ABOVE + FAR_ABOVE:
         yield Limits(memory=least + above)
     for stack in STACKS:
         yield Limits(stack=stack)
@@ -76,6 +77,7 @@ def cases(bench):
     commands.append((["soak", "1"], b"", "no input"))
     commands.append((["audit"], bench.ask(["trace"], bench.scenario("four_nodes.json")).out, "the history of four_nodes"))
     for limits in all_limits(bench):
-        bounds = ", ".join(f"{amount} kB of {name}" for name, amount in (("memory", limits.memory), ("stack", limits.stack)) if amount)
+        amounts = ("memory", limits.memory), ("stack", limits.stack)
+        bounds = ", ".join(f"{amount} kB of {name}" for name, amount in amounts if amount)
         for words, given, name in commands:
             yield f"{' '.join(words)} on {name} in {bounds}", functools.partial(check, bench, words, given, limits)

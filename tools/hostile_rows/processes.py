@@ -9,21 +9,24 @@ import os
 import shutil
 import threading
 
-from hostile_rows.calls import compare, read, read_legal
+from hostile_rows.calls import compare, read_legal
 from hostile_rows.program import Limits, set_limits
 from hostile_rows.texts import Wrong
 
 ALLOWED = (1, 2, 3, 5, 9)
+# Where the threads of the user are counted, other cases must not start any.
+AT_ONCE = 1 if os.geteuid() else None
 WORKERS = (1, 4)
-USERS = range(64000, 60000, -1)
+FIRST_USER, USERS_OF_CASE = 60000, 20
 TRIES = 5
 # More threads than are ever allowed.
 MOST_THREADS = 40
 
-# Where no worker can be started the caller runs them one after another, each until its node has nothing more to do. A worker serves
-# the actors of its node in turn, and each takes one post. So node 0 sends its shards and echoes its own; then node 1 sends its shards
-# in the turn in which its lane 0 hears that there is nothing to send, and echoes both; and so node 2, which has then three echoes of
-# the shards of node 0. The first posts, up to this Ready: node, actor, and kind.
+# Where no worker can be started the caller runs them one after another, each until its node has nothing more to do.
+# A worker serves the actors of its node in turn, and each takes one post. So node 0 sends its shards and echoes its own.
+# Then node 1 sends its shards, in the round in which its lane 0 still hears the proposal of its own desk, and echoes both.
+# Node 2 does the same, and has then three echoes in lane 0, so it is ready there.
+# These are the first posts, up to this Ready: node, actor, and kind.
 ALONE = [(node, 4, "10") for node in range(4)]
 ALONE += [(0, 0, "01")] * 4 + [(0, 0, "02")]
 ALONE += [(1, 1, "01")] * 4 + [(1, 0, "02"), (1, 1, "02")]
@@ -44,13 +47,14 @@ def threads_of_user(user):
 
 
 def limits_of(allowed, number):
-    """Limits under which so many threads run: of a user of its own for each number, where that is possible."""
-    if os.geteuid() == 0:
-        user = USERS[number % len(USERS)]
-        if threads_of_user(user):
-            raise Wrong(f"user {user} has processes, so a limit of threads cannot be set for it")
-        return Limits(processes=allowed, user=user)
-    return Limits(processes=threads_of_user(os.getuid()) + allowed - 1)
+    """Limits under which so many threads run: of a user of its own for each number of a case, where that is possible."""
+    if os.geteuid():
+        return Limits(processes=threads_of_user(os.geteuid()) + allowed)
+    first = FIRST_USER + USERS_OF_CASE * number
+    for user in range(first, first + USERS_OF_CASE):
+        if not threads_of_user(user):
+            return Limits(processes=allowed, user=user)
+    raise Wrong(f"each user from {first} on has processes, so no limit of threads can be set for one of them")
 
 
 def probe(limits):
@@ -106,16 +110,23 @@ def check(bench, allowed, workers, number):
     return None
 
 
+def first_posts(bench, given, number):
+    """The first posts of a run with no thread but the first, each by node, actor and kind."""
+    for _ in range(TRIES):
+        limits = limited(1, number)
+        posts = read_legal(bench, given, limits=limits)
+        # Where a thread of the user has ended meanwhile, the program may have started one.
+        if limits.user is not None or limits == limits_of(1, number):
+            return [(node, actor, code[:2]) for node, actor, _, code in posts[: len(ALONE)]]
+    raise Wrong("the threads of the user come and go, so no limit of threads can be set")
+
+
 def check_alone(bench, workers, number):
     """With no thread but the first, the caller runs each worker: the order of the first posts shows it."""
-    limits = limited(1, number)
-    given = with_workers(bench.scenario("four_nodes.json"), workers)
-    posts = read_legal(bench, given, limits=limits)
-    found = [(node, actor, code[:2]) for node, actor, _, code in posts[: len(ALONE)]]
+    found = first_posts(bench, with_workers(bench.scenario("four_nodes.json"), workers), number)
     if found != ALONE:
         place = next(place for place, pair in enumerate(zip(found, ALONE)) if pair[0] != pair[1])
         return f"post {place} is {found[place]} (node, actor, kind), and {ALONE[place]} where the caller runs the workers"
-    read(bench, "run", given, limits=limits)
     return None
 
 

@@ -10,8 +10,8 @@ from hostile_rows.texts import Wrong
 LEAVES = ("old", "new", "torn")
 CALLS = range(1, 41)
 NODE, DESK = 1, 4
-# Six calls make a journal, and four each entry. A desk has three: of Propose, NoMore and Closed, in this order. What an entry has is
-# posted behind its last call. So these are the calls with which each of the posts stands, but for the last.
+# Six calls make a journal, and four each entry. A desk has three: of Propose, NoMore and Closed, in this order.
+# A vote is posted behind the last call of its entry. By kind, these calls; there is no call behind that of Closed.
 BEFORE = {"10": 10, "11": 14, "12": 18}
 LAST = 18
 LEDGER = "epoch 0 batches {}\n" + "batch 0 txs 1\ntx 6130\nbatch 1 txs 1\ntx 6131\nbatch 2 txs 1\ntx 6132\n"
@@ -57,7 +57,7 @@ def check(bench, stops, workers, is_lying):
 
 
 def cases(bench):
-    """One thread with every pair of leaves, with a liar and without; 1 and 4 workers with a liar, where no schedule changes the text."""
+    """One thread with every pair of leaves, and workers beside a liar, where no schedule changes the text."""
     for call in CALLS:
         for pair in itertools.product(LEAVES, LEAVES):
             stops = list(zip((call, call + 1), pair))

@@ -1,8 +1,8 @@
 """Runs in which liars, links, power stops and failing disks go wrong together, each made of its number.
 
-Storm N has N mod 3 of 0, 1 and 4 workers, and runs on one processor where N / 3 is even, else on all. Whatever the schedule, its text
-has to be one that a run may leave, its history has to be legal, and nobody who does not lie is accused. Beside these the scenario
-storm.json, in which only a liar's posts are dropped, runs a fifth as often on all processors.
+A storm has 0, 1 or 4 workers, in turn, and three of six storms run on one processor, the others on all. Whatever the schedule,
+its text has to be one that a run may leave, its history has to be legal, and nobody who does not lie is accused. Beside these
+the scenario storm.json, in which only a liar's posts are dropped, runs a fifth as often on all processors.
 """
 import collections
 import functools

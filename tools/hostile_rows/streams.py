@@ -1,7 +1,8 @@
 """Streams that give little, fail or end early, for each word of the program.
 
-A pipe of packets gives what one write put into it for one read, however much more there is. A socket whose other end closes while
-something is unread gives what was sent to it, and then fails. A file that may not grow beyond a limit takes what fits, and then fails.
+A pipe of packets gives what one write put into it for one read, however much more there is. A socket whose other end closes
+while something is unread gives what was sent to it, and then fails. A file that may not grow beyond a limit takes what fits,
+and then fails.
 """
 import contextlib
 import fcntl
@@ -73,7 +74,7 @@ def check_no_read(bench, words, path):
 
 
 def check_cut(bench, words, given, count):
-    """Input that ends early. A beginning of a scenario is none; one of a history breaks its form in the line that is not whole."""
+    """Input that ends early: no scenario, and a history whose form breaks in the line that is not whole."""
     line = given[:count].count(b"\n") + 1
     told = f"refused 20 NotATrace line={line}\n" if words[0] == "audit" else "refused 2 NotJson\n"
     return compare(bench.ask(words, given[:count]), 3, b"", told.encode())
@@ -149,7 +150,8 @@ def reading_cases(bench, words, given):
     for size in PIECES:
         yield f"{name}, {size} bytes at a read", functools.partial(check_pieces, bench, words, given, size)
     for count in sorted({0, 1, 100, len(given) // 2, len(given)}):
-        yield f"{name}, a read that fails behind {count} bytes", functools.partial(check_failing_read, bench, words, given[:count])
+        call = functools.partial(check_failing_read, bench, words, given[:count])
+        yield f"{name}, a read that fails behind {count} bytes", call
     # A scenario is whole without the end of its last line.
     last = len(given) - (1 if name == "audit" else 2)
     for count in [*few(range(last)), last]:
@@ -160,7 +162,8 @@ def writing_cases(bench, words, given):
     name, whole = words[0], bench.ask(words, given).out
     yield f"{name}, full output", functools.partial(check_full, bench, words, given)
     for count in few(line_ends(whole)):
-        yield f"{name}, a write that fails behind {count} bytes", functools.partial(check_failing_write, bench, words, given, count)
+        call = functools.partial(check_failing_write, bench, words, given, count)
+        yield f"{name}, a write that fails behind {count} bytes", call
     for count in (0, 1, 100, len(whole) - 1):
         yield f"{name}, a reader of {count} bytes", functools.partial(check_closed_reader, bench, words, given, count)
 

@@ -10,7 +10,7 @@ NUMBER = "(0|[1-9][0-9]*)"
 # The words that run a scenario and print a text of it.
 WORDS = ("run", "trace", "observe", "accuse")
 
-# `lines` are those that are printed; `epochs` has for each epoch a list of batches: the node, the count, and the new transactions.
+# `lines` are those that are printed. `epochs` has for each epoch its batches: node, count, and new transactions.
 Ledger = collections.namedtuple("Ledger", "lines epochs")
 Node = collections.namedtuple("Node", "state causes ledger")
 
