@@ -16,6 +16,7 @@ FAULTS = (
     ("stops", "no_stops", "stops at 12 and 13 that leave old and torn, one thread"),
     ("stops", "no_stops_with_workers", "stops at 11 and 12 that leave new and new, 1 workers"),
     ("stops", "no_stops_with_workers", "stops at 18 and 19 that leave torn and torn, 4 workers"),
+    ("stops", "no_stops_with_workers", "a lane, stops at 11 and 12 that leave old and old, 4 workers"),
     ("stops", "bent", "stops at 1 and 2 that leave old and old, one thread"),
     ("streams", "one_read", "run, 7 bytes at a read"),
     ("streams", "one_read", "audit, 4095 bytes at a read"),

@@ -1,4 +1,7 @@
-"""Two power stops, one right behind the other, at each of the first calls of a desk's disk, with all that they may leave."""
+"""Two power stops, one right behind the other, at each of the first calls of a desk's disk, with all that they may leave.
+
+And the same of a lane with workers, at calls that the lane's disk has in every schedule.
+"""
 import collections
 import functools
 import itertools
@@ -9,19 +12,22 @@ from hostile_rows.texts import Wrong
 
 LEAVES = ("old", "new", "torn")
 CALLS = range(1, 41)
-NODE, DESK = 1, 4
+NODE, LANE, DESK = 1, 1, 4
 # Six calls make a journal, and four each entry. A desk has three: of Propose, NoMore and Closed, in this order.
 # A vote is posted behind the last call of its entry. By kind, these calls; there is no call behind that of Closed.
 BEFORE = {"10": 10, "11": 14, "12": 18}
 LAST = 18
+# The first entry of a node's own lane has its four shards, so these are sent with call 10. At least those of Echo, Delivered,
+# Aux and Pick come later in every schedule, so each lane's disk has the calls up to 26.
+SHARDS, LANE_CALLS = 4, range(11, 23)
 LEDGER = "epoch 0 batches {}\n" + "batch 0 txs 1\ntx 6130\nbatch 1 txs 1\ntx 6131\nbatch 2 txs 1\ntx 6132\n"
 
 
-def scenario(stops, workers, liars):
+def scenario(actor, stops, workers, liars):
     return json.dumps({
         "nodes": 4, "faulty": 1, "epochs": 1, "workers": workers, "liars": liars,
         "submit": [{"node": node, "tx": f"613{node}"} for node in range(4)],
-        "stops": [{"node": NODE, "actor": DESK, "call": call, "leave": leave} for call, leave in stops],
+        "stops": [{"node": NODE, "actor": actor, "call": call, "leave": leave} for call, leave in stops],
     }).encode()
 
 
@@ -46,14 +52,36 @@ def check_posts(posts, first):
         raise Wrong(f"the desk that stops has posts of the kinds {sorted(kinds)}")
 
 
-def check(bench, stops, workers, is_lying):
+def check_lane_posts(posts):
+    """The shards of the lane that stops stand twice. Nothing stands three times, and no other actor says anything twice."""
+    counts = collections.Counter((node, actor, code) for node, actor, to, code in posts)
+    for (node, actor, code), count in counts.items():
+        is_own = (node, actor) == (NODE, LANE)
+        most, least = 1 + is_own, 1 + (is_own and code.startswith("01"))
+        if not least <= count <= most:
+            raise Wrong(f"a post of kind {code[:2]} of actor {actor} of node {node} stands {count} times")
+    shards = sum(post[:2] == (NODE, LANE) and post[3].startswith("01") for post in posts)
+    if shards != 2 * SHARDS:
+        raise Wrong(f"the lane that stops has sent {shards} shards")
+
+
+def check(bench, actor, stops, workers, is_lying):
+    """One pair of stops."""
     liars = [{"node": 3, "name": "silent"}] if is_lying else []
-    given = scenario(stops, workers, liars)
+    given = scenario(actor, stops, workers, liars)
     wrong = compare(bench.ask(["run"], given), 0, text(is_lying))
     if wrong:
         return f"run: {wrong}"
-    check_posts(read_legal(bench, given), stops[0][0])
+    posts = read_legal(bench, given)
+    if actor == DESK:
+        check_posts(posts, stops[0][0])
+    else:
+        check_lane_posts(posts)
     return None
+
+
+def name_of(call, pair):
+    return f"stops at {call} and {call + 1} that leave {pair[0]} and {pair[1]}"
 
 
 def cases(bench):
@@ -61,8 +89,12 @@ def cases(bench):
     for call in CALLS:
         for pair in itertools.product(LEAVES, LEAVES):
             stops = list(zip((call, call + 1), pair))
-            name = f"stops at {call} and {call + 1} that leave {pair[0]} and {pair[1]}"
-            yield f"{name}, one thread", functools.partial(check, bench, stops, 0, False)
-            if pair[0] == pair[1]:
-                for workers in (1, 4):
-                    yield f"{name}, {workers} workers beside a liar", functools.partial(check, bench, stops, workers, True)
+            yield f"{name_of(call, pair)}, one thread", functools.partial(check, bench, DESK, stops, 0, False)
+    for call, leave, workers in itertools.product(CALLS, LEAVES, (1, 4)):
+        stops = [(call, leave), (call + 1, leave)]
+        name = f"{name_of(call, (leave, leave))}, {workers} workers beside a liar"
+        yield name, functools.partial(check, bench, DESK, stops, workers, True)
+    for call, leave, workers in itertools.product(LANE_CALLS, LEAVES, (1, 4)):
+        stops = [(call, leave), (call + 1, leave)]
+        name = f"a lane, {name_of(call, (leave, leave))}, {workers} workers"
+        yield name, functools.partial(check, bench, LANE, stops, workers, True)
