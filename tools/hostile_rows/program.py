@@ -8,8 +8,8 @@ import resource
 import signal
 import subprocess
 
-# No case needs a second of work. A run that takes longer than this is told as one that does not end.
-SECONDS = 120
+# The longest run takes some 15 seconds of a processor. One that takes longer than this is told as one that does not end.
+SECONDS = 300
 LIBC = ctypes.CDLL(None)
 SET_PARENT_DEATH_SIGNAL = 1
 NO_RANDOM_ADDRESSES = 0x0040000
