@@ -1,4 +1,6 @@
 """What several rows ask of the program: a text that is read, a history that is audited, a text that is known."""
+import itertools
+
 from hostile_rows.program import Limits, tell
 from hostile_rows.texts import Wrong, read_answer
 
@@ -24,18 +26,18 @@ def read_legal(bench, given, statuses=ENDS, limits=Limits()):
     return posts
 
 
+def difference(found, wanted):
+    """The first line in which two texts differ, if they do."""
+    lines = (text.decode(errors="replace").split("\n") for text in (found, wanted))
+    for number, (line, other) in enumerate(itertools.zip_longest(*lines, fillvalue=""), 1):
+        if line != other:
+            return f"; line {number} is '{line[:60]}' in the place of '{other[:60]}'"
+    return ""
+
+
 def compare(answer, status, out, err=b""):
     """What is wrong with an answer that has to be this one, if anything is."""
     if (answer.status, answer.out, answer.err) == (status, out, err):
         return None
-    return f"{tell(answer)}, and not status {status}, {len(out)} bytes, '{err.decode().strip()}'"
-
-
-def guarded(call):
-    """A call that answers what is wrong where `call` raises Wrong."""
-    def guard():
-        try:
-            return call()
-        except Wrong as why:
-            return str(why)
-    return guard
+    wanted = f"status {status}, {len(out)} bytes, '{err.decode().strip()}'"
+    return f"{tell(answer)}, and not {wanted}{difference(answer.out, out)}"
