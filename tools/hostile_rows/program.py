@@ -70,12 +70,17 @@ def set_limits(limits):
     _set(resource.RLIMIT_CORE, 0)
     _set(resource.RLIMIT_NPROC, limits.processes)
     _set(resource.RLIMIT_FSIZE, limits.written)
-    LIBC.prctl(SET_PARENT_DEATH_SIGNAL, int(signal.SIGKILL), 0, 0, 0)
+    end_with_parent()
     _set(resource.RLIMIT_STACK, limits.stack and limits.stack * 1024)
     if limits.memory is not None:
         # With addresses that are not drawn, the same limit has the same effect each time.
         LIBC.personality(NO_RANDOM_ADDRESSES)
         _set(resource.RLIMIT_AS, limits.memory * 1024)
+
+
+def end_with_parent():
+    """Lets this process be killed when its parent ends."""
+    LIBC.prctl(SET_PARENT_DEATH_SIGNAL, int(signal.SIGKILL), 0, 0, 0)
 
 
 def _set(kind, amount):
