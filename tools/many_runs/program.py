@@ -198,17 +198,25 @@ def _interrupt(_signal, _frame):
     raise KeyboardInterrupt
 
 
+def _answer(usage, work):
+    try:
+        words = sys.argv[1:]
+        if words in (["--help"], ["-h"]):
+            say(usage)
+            return 0
+        return work(words)
+    finally:
+        # An interrupt at the very end just ends the tool.
+        signal.signal(signal.SIGINT, signal.SIG_DFL)
+        signal.signal(signal.SIGTERM, signal.SIG_DFL)
+
+
 def run_tool(name, usage, work):
     """Runs a tool on its words, and ends with the status that it gives. It ends with a line, and never with a traceback."""
     signal.signal(signal.SIGTERM, _interrupt)
     signal.signal(signal.SIGINT, _interrupt)
     try:
-        words = sys.argv[1:]
-        if words in (["--help"], ["-h"]):
-            say(usage)
-            status = 0
-        else:
-            status = work(words)
+        status = _answer(usage, work)
     except Fault as fault:
         tell(f"tools/{name}: {fault.line}\n")
         status = fault.status
