@@ -88,8 +88,7 @@ def posts_plot(folder):
     found = votes_by_kind(folder)
     plot = Plot("Posts of an epoch, mean of 20 runs", "nodes", "posts of each kind", (1, 16), (1, 2000), True, True,
                 [(n, str(n)) for n in studies.NODES])
-    for kinds, name in ((AGREEMENT, ", ".join(AGREEMENT[:3]) + ".."), (BROADCAST, ", ".join(BROADCAST[:3]) + ".."),
-                        (DESK, ", ".join(DESK))):
+    for kinds, name in ((AGREEMENT, ", ".join(AGREEMENT)), (BROADCAST, "Val, Echo, Ready, ..."), (DESK, ", ".join(DESK))):
         plot.line(name, [(n, mean(found[n, kind]["posts"] for kind in kinds)) for n in studies.NODES])
     plot.guide("n²", [(n, n * n) for n in studies.NODES])
     plot.guide("n", [(n, n) for n in studies.NODES], "2 4")
@@ -99,12 +98,16 @@ def posts_plot(folder):
 def bytes_plot(folder):
     found = votes_by_kind(folder)
     nodes = studies.NODES[1:]
-    plot = Plot("Bytes sent in an epoch, mean of 20 runs", "nodes", "bytes in messages to other nodes", (4, 16), (100, 1e7),
+
+    def kilobytes(n, *kinds):
+        return mean(found[n, kind]["bytes"] for kind in kinds) / 1000
+
+    plot = Plot("Bytes sent in an epoch, mean of 20 runs", "nodes", "kB (1,000 bytes) in messages to others", (4, 16), (0.5, 4000),
                 True, True, [(n, str(n)) for n in nodes])
-    for kind in SENT:
-        plot.line(kind, [(n, found[n, kind]["bytes"]) for n in nodes])
-    for power, dashes in ((2, "2 4"), (3, "7 5")):
-        plot.guide(f"grows as n{'²³'[power - 2]}", [(n, 3000 * (n / 4)**power) for n in nodes], dashes)
+    for kinds in (("Coin",), ("Echo",), ("Val",), ("Ready",), ("Bval", "Aux")):
+        plot.line(f"{' and '.join(kinds)}{', each' * (len(kinds) > 1)}", [(n, kilobytes(n, *kinds)) for n in nodes])
+    for kind, power, dashes in (("Val", 2, "2 4"), ("Ready", 3, "7 5")):
+        plot.guide(f"grows as n{'²³'[power - 2]}", [(n, kilobytes(4, kind) * (n / 4)**power) for n in nodes], dashes)
     return plot
 
 
@@ -112,10 +115,17 @@ def votes_table(folder):
     found = votes_by_kind(folder)
     rows = []
     for n in studies.NODES:
-        total = [sum(found[n, kind][name] for kind in (*DESK, *BROADCAST, *AGREEMENT)) for name in ("posts", "messages", "bytes")]
-        cells = [f"{found[n, kind]['bytes']:,.0f}" for kind in SENT]
-        rows.append([n, f"{total[0]:,.0f}", f"{total[1]:,.0f}", *cells, f"{total[2]:,.0f}"])
-    return markdown(["Nodes", "Posts", "Messages", *(f"{kind} bytes" for kind in SENT), "All bytes"], rows)
+        def total(name, *kinds, n=n):
+            return sum(found[n, kind][name] for kind in kinds)
+
+        every = (*DESK, *BROADCAST, *AGREEMENT)
+        rounds = total("posts", "Est") / n**2
+        # There are n lanes, so this is for one lane, as a multiple of n squared.
+        messages = [f"{total('messages', *kinds) / n**3:.1f}" for kinds in (BROADCAST, AGREEMENT)]
+        sizes = [f"{total('bytes', *kinds) / 1000:,.1f}" for kinds in (("Val",), ("Echo",), ("Ready",), ("Bval", "Aux"), ("Coin",), every)]
+        rows.append([n, f"{total('posts', *every):,.0f}", f"{total('messages', *every):,.0f}", f"{rounds:.1f}", *messages, *sizes])
+    return markdown(["Nodes", "Posts", "Messages", "Rounds of a lane", "Broadcast, n²", "Agreement, n²", "Val (kB)", "Echo", "Ready",
+                     "Bval, Aux", "Coin", "All (kB)"], rows)
 
 
 # ---- bytes for each transaction
@@ -170,7 +180,7 @@ def accepted(folder):
 def accepted_plot(folder):
     found = accepted(folder)
     plot = Plot("Lanes accepted in an epoch, order drawn", "what f nodes do, or what befalls all", "lanes, mean of 30 epochs",
-                (-0.5, 8.5), (0, 10), x_labels=list(enumerate(CASES.values())))
+                (-0.5, 8.5), (0, 10.4), x_labels=list(enumerate(CASES.values())))
     for n in (10, 7, 4):
         plot.line(f"{n} nodes", [(place, found[n, case, "mixed"][1]) for place, case in enumerate(CASES)], joined=False)
     for n, dashes in ((10, "2 4"), (7, "7 5"), (4, "1 6")):
