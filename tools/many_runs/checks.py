@@ -40,9 +40,13 @@ ROUNDS_BY_HAND = {(0, 0): [4] * 4, (0, 1): [1] * 4, (0, 2): [2] * 4, (0, 3): [1]
 AGAIN = {"rounds": 500, "votes": 30, "batch": 25, "accepted": 135, "stop": 40, "stops": 30}
 
 
+def four_nodes():
+    return json.loads(program.read_file(program.TOP / "scenarios" / "four_nodes.json"))
+
+
 def by_hand(runs):
     """What the counting says otherwise of four_nodes than the count by hand."""
-    scenario = json.loads((program.TOP / "scenarios" / "four_nodes.json").read_text(encoding="utf-8"))
+    scenario = four_nodes()
     found, text = runs.trace(scenario), runs.text("run", scenario)
     told = [("kinds of votes", history.costs(found), BY_HAND), ("deciding rounds", history.deciding_rounds(found), ROUNDS_BY_HAND),
             ("posts", len(found.posts), 352), ("posts said twice", history.said_twice(found), 0),
@@ -58,8 +62,7 @@ def restarts_by_hand(runs):
     the gate, a sync. The first begins with call 7, as torn_stops tells. So a stop at calls 7 to 10 comes before Propose is said,
     one at 11 to 14 when it was, and one at 15 to 18 when NoMore was said too. There is no call 19. What was said is said again.
     """
-    scenario = json.loads((program.TOP / "scenarios" / "four_nodes.json").read_text(encoding="utf-8"))
-    found = []
+    scenario, found = four_nodes(), []
     for call, twice in ((7, 0), (10, 0), (11, 1), (14, 1), (15, 2), (18, 2), (19, 0)):
         for leave in studies.LEAVES:
             stopped = runs.trace({**scenario, "stops": [{"node": 0, "actor": 4, "call": call, "leave": leave}]})
@@ -74,10 +77,10 @@ def files(folder):
     found = []
     for name, draw in figures.PLOTS.items():
         path = folder / f"{name}.svg"
-        if not path.is_file() or path.read_text(encoding="utf-8") != draw(folder).svg():
+        if not path.is_file() or program.read_file(path) != draw(folder).svg().encode():
             found.append(f"{path} is not the plot of its table; tools/study --draw makes it")
     document = program.TOP / "docs" / "STUDY.md"
-    stated = document.read_text(encoding="utf-8")
+    stated = program.read_file(document).decode(errors="replace")
     for name, write in figures.TABLES.items():
         if write(folder) not in stated:
             found.append(f"{document} has not the table {name} as tools/study --tables prints it")

@@ -173,6 +173,14 @@ def tell(text):
         os.dup2(os.open(os.devnull, os.O_WRONLY), sys.stderr.fileno())
 
 
+def read_file(path):
+    """The bytes of a file."""
+    try:
+        return pathlib.Path(path).read_bytes()
+    except OSError as fault:
+        raise Fault(NOT_READ, f"cannot read {path}: {fault.strerror}") from fault
+
+
 def write_file(path, text):
     """Writes a file whole: it has its old contents, or none, until all of the new ones are there."""
     path = pathlib.Path(path)

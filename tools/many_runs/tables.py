@@ -29,10 +29,7 @@ def make(study, runs, jobs, note):
 def read(study, folder):
     """The rows of a table that was made, by its file, as words."""
     path = folder / f"{study.name}.csv"
-    try:
-        lines = path.read_text(encoding="utf-8").splitlines()
-    except (OSError, UnicodeDecodeError) as fault:
-        raise program.Fault(program.NOT_READ, f"cannot read {path}: {getattr(fault, 'strerror', 'no text')}") from fault
+    lines = program.read_file(path).decode(errors="replace").splitlines()
     rows = [line.split(",") for line in lines]
     if not rows or rows[0] != columns(study) or any(len(row) != len(rows[0]) for row in rows):
         raise program.Fault(program.NO_SCENARIO, f"{path} is not the table of {study.name}")
