@@ -9,12 +9,12 @@ import signal
 import subprocess
 import sys
 import tempfile
-import time
 import unittest
 
 from many_runs import program, scenario
+from waiting import wait_for
 
-SHRINK = str(program.TOP / "tools" / "shrink")
+SHRINK = [sys.executable, str(program.TOP / "tools" / "shrink")]
 HAYSTACK = {
     "nodes": 10, "faulty": 3, "epochs": 5, "rounds": 9, "batch": 7, "seed": 77, "version": 2, "workers": 3, "order": "mixed",
     "submit": [{"node": i % 10, "tx": f"{i:02x}" * (1 + i % 5)} for i in range(20)] + [{"node": 4, "tx": "aabbcc"}] * 2,
@@ -58,7 +58,7 @@ def judge(holds):
 
 
 def shrink(*words):
-    return subprocess.run([SHRINK, *words], capture_output=True, text=True, timeout=300)
+    return subprocess.run([*SHRINK, *words], capture_output=True, text=True, timeout=300)
 
 
 class Shrinks(unittest.TestCase):
@@ -148,13 +148,15 @@ class Shrinks(unittest.TestCase):
 
     def test_full_disk(self):
         with open("/dev/full", "w") as full:
-            ran = subprocess.run([SHRINK, str(self.path), "--", "true"], stdout=full, stderr=subprocess.PIPE, text=True)
+            ran = subprocess.run([*SHRINK, str(self.path), "--", "true"], stdout=full, stderr=subprocess.PIPE, text=True)
         self.assertEqual((ran.returncode, ran.stderr), (7, "tools/shrink: write failed\n"))
 
     def test_interrupt(self):
-        ran = subprocess.Popen([SHRINK, str(self.path), "--", "sh", "-c", "sleep 0.2; grep -q late $1", "judge"],
-                               stdout=subprocess.PIPE, stderr=subprocess.PIPE, text=True)
-        time.sleep(2.5)
+        asked = self.folder / "asked"
+        command = ["sh", "-c", 'echo >>"$1"; sleep 0.1; grep -q late "$2"', "judge", str(asked)]
+        ran = subprocess.Popen([*SHRINK, str(self.path), "--", *command], stdout=subprocess.PIPE, stderr=subprocess.PIPE, text=True)
+        # The fourth question is asked when at least one change was kept: to leave out all submissions.
+        wait_for(lambda: asked.exists() and asked.stat().st_size >= 4)
         ran.send_signal(signal.SIGINT)
         out, err = ran.communicate(timeout=60)
         self.assertEqual((ran.returncode, err), (130, "tools/shrink: interrupted; this is the smallest so far\n"))

@@ -3,13 +3,15 @@ import os
 import pathlib
 import signal
 import subprocess
+import sys
 import tempfile
 import time
 import unittest
 
 from many_runs import program
+from waiting import wait_for
 
-SOAK = str(program.TOP / "tools" / "soak")
+SOAK = [sys.executable, str(program.TOP / "tools" / "soak")]
 
 # Answers for a number: the status, what stands for `comparable`, how long it takes, and what is added to its text.
 FAKE = """#!/bin/sh
@@ -41,7 +43,7 @@ class Soaks(unittest.TestCase):
         return {**os.environ, "HB_LEDGER": str(path)}
 
     def soak(self, cases, *words, **more):
-        return subprocess.run([SOAK, *words], env=self.fake(cases), capture_output=True, text=True, timeout=120, **more)
+        return subprocess.run([*SOAK, *words], env=self.fake(cases), capture_output=True, text=True, timeout=120, **more)
 
     def test_all_yes(self):
         ran = self.soak("[ $2 = 3 ] && status=5", "0", "6", "--jobs", "3")
@@ -82,24 +84,28 @@ class Soaks(unittest.TestCase):
 
     def test_no_program(self):
         for name in ("/nowhere/program", str(self.folder)):
-            ran = subprocess.run([SOAK, "0", "1"], env={**os.environ, "HB_LEDGER": name}, capture_output=True, text=True)
+            ran = subprocess.run([*SOAK, "0", "1"], env={**os.environ, "HB_LEDGER": name}, capture_output=True, text=True)
             self.assertEqual((ran.returncode, ran.stdout, ran.stderr.count("\n")), (2, "", 1))
 
     def test_full_disk_and_closed_pipe(self):
         with open("/dev/full", "w") as full:
-            ran = subprocess.run([SOAK, "0", "1"], env=self.fake(""), stdout=full, stderr=subprocess.PIPE, text=True)
+            ran = subprocess.run([*SOAK, "0", "1"], env=self.fake(""), stdout=full, stderr=subprocess.PIPE, text=True)
         self.assertEqual((ran.returncode, ran.stderr), (7, "tools/soak: write failed\n"))
         read, write = os.pipe()
         os.close(read)
-        ran = subprocess.run([SOAK, "0", "1"], env=self.fake(""), stdout=write, stderr=subprocess.PIPE, text=True)
+        ran = subprocess.run([*SOAK, "0", "1"], env=self.fake(""), stdout=write, stderr=subprocess.PIPE, text=True)
         os.close(write)
         self.assertEqual((ran.returncode, ran.stderr), (7, "tools/soak: write failed\n"))
 
     def test_interrupt(self):
         for number in (signal.SIGINT, signal.SIGTERM):
-            ran = subprocess.Popen([SOAK, "10", "99", "--jobs", "2"], env=self.fake("[ $2 -ge 30 ] && sleep 30"),
+            begun = self.folder / f"begun {number}"
+            ran = subprocess.Popen([*SOAK, "10", "99", "--jobs", "2"],
+                                   env=self.fake(f"[ $2 -ge 30 ] && touch '{begun}' && sleep 60"),
                                    stdout=subprocess.PIPE, stderr=subprocess.PIPE, text=True)
-            time.sleep(2)
+            wait_for(begun.exists)
+            # Those before are done now, and the tool has a second to count them.
+            time.sleep(1)
             ran.send_signal(number)
             out, err = ran.communicate(timeout=20)
             self.assertEqual((ran.returncode, err), (130, "tools/soak: interrupted; to go on: tools/soak 30 99\n"))
@@ -107,7 +113,7 @@ class Soaks(unittest.TestCase):
 
     def test_the_program(self):
         # That number 0 is of nine nodes, two liars and three workers is known from the words of its seed.
-        ran = subprocess.run([SOAK, "0", "0"], capture_output=True, text=True, timeout=300)
+        ran = subprocess.run([*SOAK, "0", "0"], capture_output=True, text=True, timeout=300)
         self.assertEqual((ran.returncode, ran.stderr), (0, ""))
         self.assertIn("| 9 | 2 | 3 | 1 | 0 | 1 |", ran.stdout)
 

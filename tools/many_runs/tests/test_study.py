@@ -4,14 +4,15 @@ import pathlib
 import shutil
 import signal
 import subprocess
+import sys
 import tempfile
-import time
 import unittest
 import xml.etree.ElementTree
 
 from many_runs import checks, figures, history, plot, program, studies, tables
+from waiting import wait_for
 
-STUDY = str(program.TOP / "tools" / "study")
+STUDY = [sys.executable, str(program.TOP / "tools" / "study")]
 KEPT = program.TOP / "docs" / "study"
 
 # Node 3 lies. Lane 1 of node 0 is restarted after its first round, and decides in its third.
@@ -113,7 +114,7 @@ class Tables(unittest.TestCase):
         self.assertEqual(self.study("--tables").returncode, 6)
 
     def study(self, *words, **more):
-        return subprocess.run([STUDY, "--folder", str(self.folder), *words], capture_output=True, text=True, timeout=300, **more)
+        return subprocess.run([*STUDY, "--folder", str(self.folder), *words], capture_output=True, text=True, timeout=300, **more)
 
     def test_the_same_again(self):
         (self.folder / "stop.csv").unlink()
@@ -129,7 +130,7 @@ class Tables(unittest.TestCase):
                 ran = self.study(*words)
                 self.assertEqual((ran.returncode, ran.stdout, ran.stderr.count("\n")), (2, "", 1))
         for folder in ("/nowhere/at/all", "/dev/full"):
-            self.assertEqual(subprocess.run([STUDY, "--folder", folder, "stops"], capture_output=True).returncode, 7)
+            self.assertEqual(subprocess.run([*STUDY, "--folder", folder, "stops"], capture_output=True).returncode, 7)
 
     def test_a_run_that_goes_wrong(self):
         fake = self.folder / "fake"
@@ -143,9 +144,13 @@ class Tables(unittest.TestCase):
         self.assertEqual((self.folder / "stops.csv").read_text(), (KEPT / "stops.csv").read_text())
 
     def test_interrupt(self):
-        before = sorted(self.folder.iterdir())
-        ran = subprocess.Popen([STUDY, "--folder", str(self.folder), "rounds", "--jobs", "1"], stderr=subprocess.PIPE, text=True)
-        time.sleep(2)
+        fake, begun = self.folder / "fake", self.folder / "begun"
+        fake.write_text(f"#!/bin/sh\ntouch '{begun}'\nsleep 60\n")
+        fake.chmod(0o755)
+        before = sorted([*self.folder.iterdir(), begun])
+        ran = subprocess.Popen([*STUDY, "--folder", str(self.folder), "rounds", "--jobs", "1"], stderr=subprocess.PIPE, text=True,
+                               env={**os.environ, "HB_LEDGER": str(fake)})
+        wait_for(begun.exists)
         ran.send_signal(signal.SIGINT)
         self.assertEqual((ran.communicate(timeout=30)[1], ran.returncode), ("tools/study: interrupted\n", 130))
         self.assertEqual(sorted(self.folder.iterdir()), before)
