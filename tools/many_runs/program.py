@@ -58,13 +58,14 @@ def ask(words, text=b"", seconds=600, errors=subprocess.PIPE):
 
 
 def _end(process):
-    """Ends a process that this tool started, and what it has started, if it still runs."""
-    if process.poll() is None:
-        try:
-            os.killpg(process.pid, signal.SIGKILL)
-        except ProcessLookupError:
-            pass
-        process.wait()
+    """Ends a process that this tool started, and what it has started, if it still runs. It has ten seconds to put things in order."""
+    for number, seconds in ((signal.SIGTERM, 10), (signal.SIGKILL, None)):
+        if process.poll() is None:
+            try:
+                os.killpg(process.pid, number)
+                process.wait(seconds)
+            except (ProcessLookupError, subprocess.TimeoutExpired):
+                pass
 
 
 def end_all():

@@ -1,6 +1,7 @@
 """Tests of tools/soak, mostly with a program of their own in the place of hb_ledger, whose answers are known."""
 import os
 import pathlib
+import shutil
 import signal
 import subprocess
 import sys
@@ -86,6 +87,25 @@ class Soaks(unittest.TestCase):
         for name in ("/nowhere/program", str(self.folder)):
             ran = subprocess.run([*SOAK, "0", "1"], env={**os.environ, "HB_LEDGER": name}, capture_output=True, text=True)
             self.assertEqual((ran.returncode, ran.stdout, ran.stderr.count("\n")), (2, "", 1))
+
+    def test_the_program_that_run_names(self):
+        # A copy of the tools beside a script of its own in the place of `run`.
+        shutil.copytree(program.TOP / "tools" / "many_runs", self.folder / "tools" / "many_runs")
+        shutil.copy(SOAK[1], self.folder / "tools")
+        plain = {name: value for name, value in os.environ.items() if name != "HB_LEDGER"}
+        fake = self.fake("")["HB_LEDGER"]
+        for script, status, told in [(f"[ $1 = --program ] && echo >&2 building && echo {fake}", 0, "building\n"),
+                                     ("echo >&2 no kit; exit 11", 11, "names no program; its status is 11"),
+                                     ("echo /nowhere/at/all", 1, "names no program"), (None, 2, "cannot run")]:
+            run = self.folder / "run"
+            run.unlink(missing_ok=True)
+            if script:
+                run.write_text(f"#!/bin/sh\n{script}\n")
+                run.chmod(0o755)
+            ran = subprocess.run([sys.executable, str(self.folder / "tools" / "soak"), "0", "1"], env=plain, capture_output=True, text=True)
+            self.assertEqual(ran.returncode, status, ran.stderr)
+            self.assertIn(told, ran.stderr)
+            self.assertEqual("| all | | | 2 | 0 | 2 |" in ran.stdout, status == 0)
 
     def test_full_disk_and_closed_pipe(self):
         with open("/dev/full", "w") as full:
