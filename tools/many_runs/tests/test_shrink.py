@@ -135,7 +135,7 @@ class Shrinks(unittest.TestCase):
             ([path, "--", "/nowhere/command"], 2, "cannot run /nowhere/command: No such file"),
             ([path, "--", str(self.path)], 2, "Permission denied"),
             ([path, "--", "false"], 1, "ends with status 1 on"),
-            (["--seconds", "1", path, "--", "sleep", "9", "#"], 1, "ends with status"),
+            (["--seconds", "1", path, "--", "sh", "-c", "sleep 99", "judge"], 1, "the command takes too long on"),
             ([str(self.folder / "none.json"), "--", "true"], 6, "cannot read"),
             ([str(wrong), "--", "true"], 3, "refused 8 TooFewNodes n=3 f=1"),
             (["--out", "/dev/full/x", path, "--", "true"], 7, "write failed"),
@@ -158,7 +158,7 @@ class Shrinks(unittest.TestCase):
         # The fourth question is asked when at least one change was kept: to leave out all submissions.
         wait_for(lambda: asked.exists() and asked.stat().st_size >= 4)
         ran.send_signal(signal.SIGINT)
-        out, err = ran.communicate(timeout=60)
+        out, err = ran.communicate(timeout=300)
         self.assertEqual((ran.returncode, err), (130, "tools/shrink: interrupted; this is the smallest so far\n"))
         self.assertIn("late", out)
         self.assertLess(scenario.weight(json.loads(out)), scenario.weight(HAYSTACK))

@@ -44,7 +44,7 @@ class Soaks(unittest.TestCase):
         return {**os.environ, "HB_LEDGER": str(path)}
 
     def soak(self, cases, *words, **more):
-        return subprocess.run([*SOAK, *words], env=self.fake(cases), capture_output=True, text=True, timeout=120, **more)
+        return subprocess.run([*SOAK, *words], env=self.fake(cases), capture_output=True, text=True, timeout=600, **more)
 
     def test_all_yes(self):
         ran = self.soak("[ $2 = 3 ] && status=5", "0", "6", "--jobs", "3")
@@ -67,10 +67,10 @@ class Soaks(unittest.TestCase):
         for cases, told in [
             ("status=4", "status 4, where 0 or 5"), ("status=9", "status 9, where 0 or 5"), ("number=1", "not that of a soak"),
             ("echo more", "not that of a soak"), ("exit 0", "not that of a soak"), ("echo oh >&2", "standard error is not empty"),
-            ("sleep 20", "no answer in the time"), ("kill -9 $$", "not that of a soak"), ("yes=maybe", "not that of a soak"),
+            ("sleep 99", "no answer in the time"), ("kill -9 $$", "not that of a soak"), ("yes=maybe", "not that of a soak"),
         ]:
             with self.subTest(cases):
-                ran = self.soak(cases, "0", "0", "--seconds", "2")
+                ran = self.soak(cases, "0", "0", "--seconds", "2" if "sleep" in cases else "600")
                 self.assertEqual(ran.returncode, 1)
                 self.assertIn("soak 0: ", ran.stdout)
                 self.assertIn(told, ran.stdout)
@@ -121,13 +121,13 @@ class Soaks(unittest.TestCase):
         for number in (signal.SIGINT, signal.SIGTERM):
             begun = self.folder / f"begun {number}"
             ran = subprocess.Popen([*SOAK, "10", "99", "--jobs", "2"],
-                                   env=self.fake(f"[ $2 -ge 30 ] && touch '{begun}' && sleep 60"),
+                                   env=self.fake(f"[ $2 -ge 30 ] && echo >>'{begun}' && sleep 900"),
                                    stdout=subprocess.PIPE, stderr=subprocess.PIPE, text=True)
-            wait_for(begun.exists)
-            # Those before are done now, and the tool has a second to count them.
-            time.sleep(1)
+            wait_for(lambda: begun.exists() and begun.stat().st_size == 2)
+            # With two processes those before 30 are done once 30 and 31 have begun; the tool has three seconds to count them.
+            time.sleep(3)
             ran.send_signal(number)
-            out, err = ran.communicate(timeout=20)
+            out, err = ran.communicate(timeout=300)
             self.assertEqual((ran.returncode, err), (130, "tools/soak: interrupted; to go on: tools/soak 30 99\n"))
             self.assertIn("| all | | | 20 | 0 | 20 |", out)
 

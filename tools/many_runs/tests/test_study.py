@@ -114,7 +114,7 @@ class Tables(unittest.TestCase):
         self.assertEqual(self.study("--tables").returncode, 6)
 
     def study(self, *words, **more):
-        return subprocess.run([*STUDY, "--folder", str(self.folder), *words], capture_output=True, text=True, timeout=300, **more)
+        return subprocess.run([*STUDY, "--folder", str(self.folder), *words], capture_output=True, text=True, timeout=900, **more)
 
     def test_the_same_again(self):
         (self.folder / "stop.csv").unlink()
@@ -145,14 +145,14 @@ class Tables(unittest.TestCase):
 
     def test_interrupt(self):
         fake, begun = self.folder / "fake", self.folder / "begun"
-        fake.write_text(f"#!/bin/sh\ntouch '{begun}'\nsleep 60\n")
+        fake.write_text(f"#!/bin/sh\ntouch '{begun}'\nsleep 900\n")
         fake.chmod(0o755)
         before = sorted([*self.folder.iterdir(), begun])
         ran = subprocess.Popen([*STUDY, "--folder", str(self.folder), "rounds", "--jobs", "1"], stderr=subprocess.PIPE, text=True,
                                env={**os.environ, "HB_LEDGER": str(fake)})
         wait_for(begun.exists)
         ran.send_signal(signal.SIGINT)
-        self.assertEqual((ran.communicate(timeout=30)[1], ran.returncode), ("tools/study: interrupted\n", 130))
+        self.assertEqual((ran.communicate(timeout=300)[1], ran.returncode), ("tools/study: interrupted\n", 130))
         self.assertEqual(sorted(self.folder.iterdir()), before)
         self.assertEqual((self.folder / "rounds.csv").read_text(), (KEPT / "rounds.csv").read_text())
 

@@ -2,7 +2,7 @@
 import time
 
 
-def wait_for(holds, seconds=60):
+def wait_for(holds, seconds=300):
     """Waits until something holds, and fails where it never does."""
     end = time.monotonic() + seconds
     while not holds():
