@@ -131,7 +131,7 @@ def statuses(root):
     """The statuses that the program answers, each with the lines that may be told with it on standard error."""
     told = {name: line for name, line in re.findall(r'const (\w+): &\[u8; \d+\] = b"(.*)\\n"', source(root, "hb_app", "telling"))}
     found = {}
-    for name in ("telling", "auditing", "top"):
+    for name in ("telling", "auditing", "alone", "top"):
         text = source(root, "hb_app", name)
         for constant, status in re.findall(r"\b(?:tell|hint)\((\w+), (\d+),", text):
             found.setdefault(int(status), set()).add(told[constant])

@@ -3,7 +3,7 @@ use Rattle.std.proofs.Common.{◌≡◌, ℕ, List, [], length, slice_index_or, 
 use Rattle.std.proofs.lemmas.Fmt.{decimal_injective}
 use Rattle.hb_app.specs.declared.command.Text.{Text}
 use Rattle.hb_app.specs.declared.command.Text.TheVariants.{Ledgers, Trace, Observed, Accused}
-use Rattle.hb_app.specs.Commands.{AsksRun, AsksSoak, word_of}
+use Rattle.hb_app.specs.Commands.{AsksRun, AsksAudit, AsksSoak, word_of}
 
 -- words ask for one number
 pub one_number : (words : List (List ℕ)) (n m : ℕ) → AsksSoak words n → AsksSoak words m → n ≡ m
@@ -46,3 +46,13 @@ pub one_text : (words : List (List ℕ)) (one other : Text) → AsksRun words on
 one_text words one other first second =
     same_letters one other
     (sym (letters_of one) ∙ ap (λ (ws : List (List ℕ)). length (slice_index_or ws 0 [])) (sym first ∙ second) ∙ letters_of other)
+
+-- words that ask for a text ask for no verdict: the third letters differ
+pub run_or_audit : (words : List (List ℕ)) (text : Text) → AsksRun words text → AsksAudit words → ⊥
+run_or_audit words text run audit = by text (ap (λ (ws : List (List ℕ)). slice_index_or (slice_index_or ws 0 []) 2 0) (sym run ∙ audit))
+  where
+    by : (text : Text) → slice_index_or (word_of text) 2 0 ≡ 100 → ⊥
+    by Ledgers is = omega (arith, is)
+    by Trace is = omega (arith, is)
+    by Observed is = omega (arith, is)
+    by Accused is = omega (arith, is)

@@ -1,6 +1,8 @@
-pub mod Answering
-pub mod AuditAnswers
+pub mod AuditStatuses
+pub mod Comes
 pub mod Commands
+pub mod Inputs
+pub mod Ledgers
 pub mod Puts
-pub mod Reading
 pub mod Runs
+pub mod Statuses

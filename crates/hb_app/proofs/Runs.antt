@@ -16,7 +16,9 @@ use Rattle.quiet_world.specs.Spared.{IsSpared, IsSparedStatus}
 use Rattle.accuse.specs.declared.accusation.Accusation.{Accusation}
 use Rattle.accuse.specs.Accused.{accused}
 use Rattle.ledger_run.specs.Run.{IsRunOf}
-use Rattle.hb_app.specs.Runs.{IsLedgerRun, ObserversFollow}
+use Rattle.hb_app.specs.Headline.{Headline}
+use Rattle.hb_app.specs.Observers.{ObserversFollow}
+use Rattle.hb_app.proofs.Ledgers.{has_ledgers, has_batches, agree_as_printed, each_printed}
 
 abbrev pub with_status : Report → ℕ → Report
 with_status made status = record { config = made.config; script = made.script; history = made.history; ends = made.ends; status = status }
@@ -34,7 +36,7 @@ quiet_with made status quiet = record {
 plan_with : (made : Report) (status : ℕ) → StaysWithinPlan made → StaysWithinPlan (with_status made status)
 plan_with made status plan = record { votes = plan.votes; lies = plan.lies; journals = plan.journals }
 
-pub ledger_run : (s : Script) (made : Report) (status : ℕ) → IsRunOf s made → status ≡ status_of made → AreSound made.config
+pub headline : (s : Script) (made : Report) (status : ℕ) → IsRunOf s made → status ≡ status_of made → AreSound made.config
     → (NoCollision made.config made.history.items → AreComparable made.config made.history.items)
     → (NoCollision made.config made.history.items → BatchesAreEnough made.config made.history.items)
     → (NoCollision made.config made.history.items → AreUnaltered made.config made.history.items)
@@ -43,22 +45,25 @@ pub ledger_run : (s : Script) (made : Report) (status : ℕ) → IsRunOf s made 
     → ((report : Report) → AreSound report.config → IsLegal report.config report.history.items → NoCollision report.config report.history.items
     → IsQuiet report → StaysWithinPlan report → IsSpared report → report.status ≡ status_of report → IsSparedStatus report.status)
     → ((a : Accusation) → Contains (accused made.config made.history.items) a → is_in made.config.liars a.node ≡ true)
-    → IsLedgerRun (told s) (with_status made status)
-ledger_run s made status run is sound comparable enough unaltered observers complete ends spared accused = record {
-  script = ap told run.script;
-  config = run.config;
-  status = is;
-  legal = run.legal;
-  quiet = quiet_with made status run.quiet;
-  plan = plan_with made status run.plan;
-  full = record { full = run.full.full };
-  rule = record { proposals = run.rule.proposals };
-  comparable = comparable;
-  enough = enough;
-  unaltered = unaltered;
-  observers = observers;
-  complete = complete;
-  ends = λ calm. ends (with_status made status) calm;
+    → Headline (told s) (with_status made status)
+headline s made status run is sound comparable enough unaltered observers complete ends spared accused = record {
+  of = (ap told run.script, run.config, is);
+  kept = record {
+    legal = run.legal;
+    quiet = quiet_with made status run.quiet;
+    plan = plan_with made status run.plan;
+    full = record { full = run.full.full };
+    rule = record { proposals = run.rule.proposals };
+  };
+  safe = λ apart. record {
+    ledgers = comparable apart;
+    printed = agree_as_printed made.config made.history.items sound run.legal apart;
+    enough = enough apart;
+    unaltered = unaltered apart;
+    observers = observers apart;
+  };
+  done = (has_ledgers (with_status made status), has_batches (with_status made status), complete, each_printed (with_status made status) run.legal (quiet_with made status run.quiet));
+  calm = λ calm. ends (with_status made status) calm;
   spared = λ apart safe. spared (with_status made status) sound run.legal apart (quiet_with made status run.quiet) (plan_with made status run.plan) safe is;
-  accused = accused;
+  fair = accused;
 }

@@ -1,9 +1,12 @@
-pub mod Answers
 pub mod Audited
 pub mod Commands
+pub mod Ends
+pub mod Headline
 pub mod Input
+pub mod Ledgers
 pub mod Lines
-pub mod Outcomes
+pub mod Observers
 pub mod Printed
-pub mod Runs
+pub mod Scene
+pub mod Statuses
 pub mod Streams

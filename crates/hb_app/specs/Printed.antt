@@ -1,7 +1,7 @@
 -- The texts of a run.
 use Rattle.std.specs.Prelude.{ℕ, List, Result, Ok, Err, ⊤}
 use Rattle.hb_rules.specs.declared.report.Report.{Report}
-use Rattle.ledger_text.specs.Text.{run_text}
+use Rattle.ledger_text.specs.Text.{run_text, soak_text}
 use Rattle.trace_text.specs.Text.{trace_text}
 use Rattle.observer_text.specs.Text.{observe_text}
 use Rattle.accuse.specs.Accused.{accused}
@@ -10,6 +10,8 @@ use Rattle.hb_app.specs.declared.command.Text.{Text}
 use Rattle.hb_app.specs.declared.command.Text.TheVariants.{Ledgers, Trace, Observed, Accused}
 use Rattle.hb_app.specs.declared.printing.PrintFault.{PrintFault}
 use Rattle.hb_app.specs.declared.printing.PrintFault.TheVariants.{Sink, Memory}
+use Rattle.hb_app.specs.declared.task.Wanted.{Wanted}
+use Rattle.hb_app.specs.declared.task.Wanted.TheVariants.{Word, Soaked}
 use Rattle.hb_app.specs.Streams.{SinkView, IsUnused, HasPut, FailsWithin}
 
 -- what is printed of a report
@@ -26,8 +28,18 @@ WantsMemory Trace = ⊥
 WantsMemory Observed = Unit {0}
 WantsMemory Accused = Unit {0}
 
+-- the text that is wanted of a report
+abbrev pub wanted_text : Wanted → Report → List ℕ
+wanted_text (Word text) report = text_of text report
+wanted_text (Soaked number) report = soak_text number report
+
+-- it is one for which memory may be wanting
+abbrev pub MayLackMemory : Wanted → Type 0
+MayLackMemory (Word text) = WantsMemory text
+MayLackMemory (Soaked number) = ⊥
+
 -- the text was put, or a front of it, or nothing for want of memory
-abbrev pub Prints : Text → Report → SinkView → SinkView → Result ⊤ PrintFault → Type 0
-Prints text report old new (Ok done) = HasPut old new (text_of text report)
-Prints text report old new (Err Sink) = FailsWithin old new (text_of text report)
-Prints text report old new (Err Memory) = WantsMemory text × IsUnused old new
+abbrev pub Prints : {O : Type 0} → Wanted → Report → SinkView O → SinkView O → Result ⊤ PrintFault → Type 0
+Prints wanted report old new (Ok done) = HasPut old new (wanted_text wanted report)
+Prints wanted report old new (Err Sink) = FailsWithin old new (wanted_text wanted report)
+Prints wanted report old new (Err Memory) = MayLackMemory wanted × IsUnused old new

@@ -1,7 +1,7 @@
 //! What is told of the text of a history, and the statuses that go with it.
 
 ghost use Rattle.std.specs.Prelude.{◌≡◌, Ok};
-ghost use Rattle.hb_app.specs.Audited.{TellsAudit, verdict_status};
+ghost use Rattle.hb_app.specs.Audited.{EndsAudit, verdict_status};
 ghost use Rattle.hb_app.specs.Streams.{PutsOr7, sink_view};
 ghost use Rattle.verdict_text.specs.Text.{refusal_line};
 
@@ -17,7 +17,7 @@ pub fn tell_audit<O: Sink, E: Sink>(
     out: &mut O,
     err: &mut E,
 ) -> u8
-    ensures { TellsAudit answer (sink_view O.held O.faults out.old) (sink_view O.held O.faults out.new)
+    ensures { EndsAudit answer (sink_view O.held O.faults out.old) (sink_view O.held O.faults out.new)
         (sink_view E.held E.faults err.old) (sink_view E.held E.faults err.new) result }
 {
     match answer {
@@ -31,7 +31,7 @@ pub fn tell_audit<O: Sink, E: Sink>(
 
 // Prints a verdict and answers its status, or 7 if that fails.
 fn tell_verdict<O: Sink, E: Sink>(verdict: Verdict, out: &mut O, err: &mut E) -> u8
-    ensures { TellsAudit (Ok verdict) (sink_view O.held O.faults out.old) (sink_view O.held O.faults out.new)
+    ensures { EndsAudit (Ok verdict) (sink_view O.held O.faults out.old) (sink_view O.held O.faults out.new)
         (sink_view E.held E.faults err.old) (sink_view E.held E.faults err.new) result }
 {
     match print_verdict(verdict, out) {

@@ -2,10 +2,10 @@
 
 ghost use Rattle.std.specs.Prelude.{◌≡◌};
 ghost use Rattle.script_fault.specs.Line.{fault_line};
-ghost use Rattle.hb_app.specs.Answers.{AnswersRun, Tells};
+ghost use Rattle.hb_app.specs.Ends.{AnswersRun, EndsUnread};
 ghost use Rattle.hb_app.specs.Streams.{PutsOrFails, PutsOr7, sink_view};
 
-use crate::outcome::Outcome;
+use crate::reading::Unread;
 use hb_base::Sink;
 use script_fault::{ScriptFault, write_fault};
 
@@ -21,16 +21,14 @@ pub const WRITE_FAILED: &[u8; 13] = b"write failed\n";
 /// What `hb_ledger` says for want of memory, on its error sink.
 pub const NO_MEMORY: &[u8; 10] = b"no memory\n";
 
-/// Tells what a call came to, and answers the status. `run` is the status of the run, where there was one.
-pub fn tell_outcome<E: Sink>(outcome: &Outcome, run: u8, err: &mut E) -> u8
-    ensures { Tells outcome.now run (sink_view E.held E.faults err.old) (sink_view E.held E.faults err.new) result }
+/// Tells why there is no scenario, and answers the status.
+pub fn tell_unread<E: Sink>(unread: &Unread, err: &mut E) -> u8
+    ensures { EndsUnread unread.now (sink_view E.held E.faults err.old) (sink_view E.held E.faults err.new) result }
 {
-    match outcome {
-        Outcome::Refused(fault) => tell_fault(fault, err),
-        Outcome::ReadFailed => tell(READ_FAILED, 6, err),
-        Outcome::Memory | Outcome::NoText => hint(NO_MEMORY, 9, err),
-        Outcome::WriteFailed => hint(WRITE_FAILED, 7, err),
-        Outcome::Ran => answer(run, err),
+    match unread {
+        Unread::Refused(fault) => tell_fault(fault, err),
+        Unread::ReadFailed => tell(READ_FAILED, 6, err),
+        Unread::Memory => hint(NO_MEMORY, 9, err),
     }
 }
 
@@ -54,8 +52,8 @@ fn tell_fault<E: Sink>(fault: &ScriptFault, err: &mut E) -> u8
     }
 }
 
-// Answers a run's status, and tells that there was no memory if that is what it says.
-fn answer<E: Sink>(run: u8, err: &mut E) -> u8
+/// Answers a run's status, and tells that there was no memory if that is what it says.
+pub fn answer<E: Sink>(run: u8, err: &mut E) -> u8
     ensures { AnswersRun run (sink_view E.held E.faults err.old) (sink_view E.held E.faults err.new) result }
 {
     if run == 9 {

@@ -17,7 +17,8 @@ use Rattle.seed_words.specs.Words.{word}
 use Rattle.hb_rules.specs.declared.report.Report.{Report}
 use Rattle.hb_rules.specs.Strings.{NoCollision}
 use Rattle.quiet_world.specs.Spared.{IsOfLiar, IsSpared, IsSparedStatus, NoneEndsFull}
-use Rattle.hb_app.specs.Answers.{Scene, IsRunStatus, SoakAnswers}
+use Rattle.hb_app.specs.Scene.{Scene}
+use Rattle.hb_app.specs.Statuses.{IsRunStatus, SoakStatuses}
 
 -- ---- rules that drop
 
@@ -107,9 +108,9 @@ no_other run status is (inr (inl four)) (inr (inr nine)) = absurd (omega (arith,
 no_other run status is (inr (inr five)) (inr (inr nine)) = inr five
 
 -- so a generated run ends with one of them
-pub ends : {number : ℕ} {before after : Scene} {status : ℕ} → SoakAnswers number before after status → IsRunStatus status
-    → NoCollision after.work.report.config after.work.report.history.items → NoneEndsFull after.work.report → (status ≡ 0) ⊎ (status ≡ 5)
-ends {number} {before} {after} {status} answered ran apart room =
-    let came = answered.answers.ran ran in
-    no_other after.work.report.status status came.1 ran
-    (came.0.0.spared apart (generated_spares number after.work.report came.0.0.script came.0.0.config room))
+pub ends : {O E : Type 0} {number : ℕ} {before after : Scene O E} {status : ℕ} → SoakStatuses number before after status → IsRunStatus status
+    → NoCollision after.report.config after.report.history.items → NoneEndsFull after.report → (status ≡ 0) ⊎ (status ≡ 5)
+ends {O} {E} {number} {before} {after} {status} answered ran apart room =
+    let came = answered.ran ran in
+    no_other after.report.status status came.1 ran
+    (came.0.spared apart (generated_spares number after.report came.0.of.0 came.0.of.1 room))

@@ -3,7 +3,7 @@
 ghost use Rattle.std.specs.Prelude.{◌≡◌, ◌⊎◌, IfOk};
 ghost use Rattle.hb_rules.specs.Strings.{NoCollision};
 ghost use Rattle.quiet_world.specs.Spared.{NoneEndsFull};
-ghost use Rattle.hb_app.specs.Answers.{IsRunStatus};
+ghost use Rattle.hb_app.specs.Statuses.{IsRunStatus};
 
 use hb_app::hb_main;
 use hb_base::{OpenGate, Sink, Source};

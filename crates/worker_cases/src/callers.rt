@@ -8,7 +8,7 @@ ghost use Rattle.hb_rules.specs.Ledger.{AreComparable, BatchesAreEnough, AreUnal
 ghost use Rattle.hb_rules.specs.Report.{IsQuiet, StaysWithinPlan};
 ghost use Rattle.hb_rules.specs.Strings.{NoCollision};
 ghost use Rattle.ledger_text.specs.Text.{run_text};
-ghost use Rattle.hb_app.specs.Answers.{IsRunStatus};
+ghost use Rattle.hb_app.specs.Statuses.{IsRunStatus};
 
 use hb_app::hb_main;
 use hb_base::{Bytes, Gate, MemorySink, MemorySource};

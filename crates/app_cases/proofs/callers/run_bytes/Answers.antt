@@ -18,13 +18,13 @@ returns-clause-refused g c three s says =
 pub returns-clause-text : goal.returns-clause-text
 returns-clause-text g c ran =
     let asks : map string_bytes c.as_slice.result.now ≡ codes "run" ∷ [] = search rules in
-    ((c.hb_main-status.ensures.run Ledgers asks).answers.ran ran).0.1.0
+    ((c.hb_main-status.ensures.run Ledgers asks).ran ran).2.0
     ∙ ap (λ (s : Shelf). s.held ++ run_text c.hb_main-status.new.report) c.new-out.ensures
 
 pub returns-clause-agree : goal.returns-clause-agree
 returns-clause-agree g c ran apart =
     let asks : map string_bytes c.as_slice.result.now ≡ codes "run" ∷ [] = search rules in
-    ((c.hb_main-status.ensures.run Ledgers asks).answers.ran ran).0.0.2.comparable apart
+    (((c.hb_main-status.ensures.run Ledgers asks).ran ran).0.2.safe apart).ledgers
 
 pub returns-clause-closes : goal.returns-clause-closes
 returns-clause-closes g c four apart safe =

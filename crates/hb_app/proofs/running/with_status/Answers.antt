@@ -1,4 +1,4 @@
-use Rattle.hb_app.proofs.Runs.{ledger_run}
+use Rattle.hb_app.proofs.Runs.{headline}
 use Rattle.hb_app.proofs.running.with_status.Goals as goal
 
 pub returns : goal.returns
@@ -6,7 +6,7 @@ returns c s run =
     let made = c.args.made in
     let posts = made.history.items in
     let sound = c.liars-sound.ensures.sound in
-    ledger_run s made c.status.result run c.status.ensures sound
+    headline s made c.status.result run c.status.ensures sound
     (c.ledger_laws.ensures.comparable made.config posts sound run.legal)
     (c.ledger_laws.ensures.batches made.config posts sound run.legal)
     (c.ledger_laws.ensures.unaltered made.config posts sound run.legal)

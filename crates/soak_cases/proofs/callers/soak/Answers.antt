@@ -6,9 +6,9 @@ use Rattle.soak_cases.proofs.callers.soak.Goals as goal
 pub returns-clause-told : goal.returns-clause-told
 returns-clause-told g c ran =
     let asks : AsksSoak (map string_bytes c.as_slice-words.result.now) c.args.number = search rules in
-    ((c.hb_main-status.ensures.soak c.args.number asks).answers.ran ran).1
+    ((c.hb_main-status.ensures.soak c.args.number asks).0.ran ran).1
 
 pub returns-clause-ends : goal.returns-clause-ends
 returns-clause-ends g c ran apart room =
     let asks : AsksSoak (map string_bytes c.as_slice-words.result.now) c.args.number = search rules in
-    ends (c.hb_main-status.ensures.soak c.args.number asks) ran apart room
+    ends (c.hb_main-status.ensures.soak c.args.number asks).0 ran apart room

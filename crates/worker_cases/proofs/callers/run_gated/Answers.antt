@@ -13,31 +13,31 @@ returns-clause-ran g c ran =
 pub returns-clause-told : goal.returns-clause-told
 returns-clause-told g c ran =
     let asks : map string_bytes c.as_slice.result.now ≡ codes "run" ∷ [] = search rules in
-    ((c.hb_main-status.ensures.run Ledgers asks).answers.ran ran).1
+    ((c.hb_main-status.ensures.run Ledgers asks).ran ran).1
 
 pub returns-clause-text : goal.returns-clause-text
 returns-clause-text g c ran =
     let asks : map string_bytes c.as_slice.result.now ≡ codes "run" ∷ [] = search rules in
-    ((c.hb_main-status.ensures.run Ledgers asks).answers.ran ran).0.1.0
+    ((c.hb_main-status.ensures.run Ledgers asks).ran ran).2.0
     ∙ ap (λ (s : Shelf). s.held ++ run_text c.hb_main-status.new.report) c.new-out.ensures
 
 pub returns-clause-legal : goal.returns-clause-legal
 returns-clause-legal g c ran =
     let asks : map string_bytes c.as_slice.result.now ≡ codes "run" ∷ [] = search rules in
-    ((c.hb_main-status.ensures.run Ledgers asks).answers.ran ran).0.0.2.legal
+    ((c.hb_main-status.ensures.run Ledgers asks).ran ran).0.2.kept.legal
 
 pub returns-clause-quiet : goal.returns-clause-quiet
 returns-clause-quiet g c ran =
     let asks : map string_bytes c.as_slice.result.now ≡ codes "run" ∷ [] = search rules in
-    ((c.hb_main-status.ensures.run Ledgers asks).answers.ran ran).0.0.2.quiet
+    ((c.hb_main-status.ensures.run Ledgers asks).ran ran).0.2.kept.quiet
 
 pub returns-clause-plan : goal.returns-clause-plan
 returns-clause-plan g c ran =
     let asks : map string_bytes c.as_slice.result.now ≡ codes "run" ∷ [] = search rules in
-    ((c.hb_main-status.ensures.run Ledgers asks).answers.ran ran).0.0.2.plan
+    ((c.hb_main-status.ensures.run Ledgers asks).ran ran).0.2.kept.plan
 
 pub returns-clause-agree : goal.returns-clause-agree
 returns-clause-agree g c ran apart =
     let asks : map string_bytes c.as_slice.result.now ≡ codes "run" ∷ [] = search rules in
-    let run = ((c.hb_main-status.ensures.run Ledgers asks).answers.ran ran).0.0.2 in
-    (run.comparable apart, run.enough apart, run.unaltered apart)
+    let safe = ((c.hb_main-status.ensures.run Ledgers asks).ran ran).0.2.safe apart in
+    (safe.ledgers, safe.enough, safe.unaltered)

@@ -1,5 +1,5 @@
 -- Input that is no scenario.
-use Rattle.std.proofs.Common.{inl, inr, ◌≡◌, ◌≢◌, ℕ, ◌<◌, Bool, true, false, nat_le, List, ◌++◌, length, Option, None, Some, Result, Err, refl, ap, ◌∙◌, arith, append-nil, length-append}
+use Rattle.std.proofs.Common.{inl, inr, ◌≡◌, ◌≢◌, ℕ, ◌<◌, Bool, true, false, nat_le, List, ◌++◌, length, Option, None, Some, Result, Ok, Err, map, refl, ap, subst, ◌∙◌, arith, append-nil, length-append}
 use Rattle.std.specs.Io.KnownBytes.{Consumes, IsAtEnd}
 use Rattle.std.proofs.lemmas.Bool.{leb-true}
 use Rattle.hb_base.specs.Limits.{longest_scenario}
@@ -7,13 +7,14 @@ use Rattle.script_fault.specs.declared.fault.ScriptFault.{ScriptFault}
 use Rattle.script_fault.specs.declared.fault.ScriptFault.TheVariants.{TooLong, NotJson, WrongKind, Missing, Unknown, NotNumber, OutOfRange, TooFewNodes, TooManyLiars, LiarTwice, NoSuchLiar, BadHex, BadLength, BadWord, Memory}
 use Rattle.script_reader.specs.Fault.{Fails}
 use Rattle.script_reader.specs.Reading.{scenario_of}
-use Rattle.hb_app.specs.declared.outcome.Outcome.{Outcome}
-use Rattle.hb_app.specs.declared.outcome.Outcome.TheVariants.{Refused, ReadFailed, NoText, WriteFailed, Ran}
-use Rattle.hb_app.specs.declared.command.Text.{Text}
-use Rattle.hb_app.specs.declared.outcome.Outcome.TheVariants as outcomes
+use Rattle.net_script.specs.declared.script.Script.{Script}
+use Rattle.net_script.specs.Scenario.{Scenario}
 use Rattle.input_reader.specs.Input.{ReadsMost}
-use Rattle.hb_app.specs.Input.{most_taken}
-use Rattle.hb_app.specs.Outcomes.{Work, HasFault, Refuses, RunComes, BytesCome}
+use Rattle.hb_app.specs.declared.reading.Unread.{Unread}
+use Rattle.hb_app.specs.declared.reading.Unread.TheVariants.{Refused, ReadFailed}
+use Rattle.hb_app.specs.declared.reading.Unread.TheVariants as unread
+use Rattle.hb_app.specs.Ends.{ComesUnread, Reads, ReadsBytes}
+use Rattle.hb_app.specs.Input.{most_taken, HasFault, Says, Refuses}
 use Rattle.input_reader.specs.Streams.{SourceView, ReadsAll}
 
 -- where all was read, what was read is what was left
@@ -44,17 +45,23 @@ taken_long names (Some xs) (Some ys) bytes many taken =
 pub refuses_long : (names : List (List ℕ)) (old new : SourceView) → ReadsMost longest_scenario old new → Refuses names old new TooLong
 refuses_long names old new most = record { first = taken_long names old.left new.left most.0 most.1 most.2; reads = inr (most, refl) }
 
--- what bytes come to that are the whole input
-pub run_comes : (text : Text) (names : List (List ℕ)) (before after : Work) (input : List ℕ) (o : Outcome)
-    → ReadsAll before.source after.source input → BytesCome text (scenario_of input names) before.out after.out before.report after.report o
-    → RunComes text names before after o
-run_comes text names before after input (Refused fault) all came =
-    (record { first = left_whole names before.source.left after.source.left input fault all.0 all.1 came.0; reads = inl (input, all, came.0) }, (came.1, came.2))
-run_comes text names before after input ReadFailed all came = absurd came
-run_comes text names before after input outcomes.Memory all came = (all.2, (came.0, came.1))
-run_comes text names before after input NoText all came = (came.0, (came.1.0, (input, all, came.1.1), came.1.2), came.2)
-run_comes text names before after input WriteFailed all came = ((came.0.0, (input, all, came.0.1), came.0.2), came.1)
-run_comes text names before after input Ran all came = ((came.0.0, (input, all, came.0.1), came.0.2), came.1)
+-- what bytes say that are the whole input
+pub reads_whole : (names : List (List ℕ)) (old new : SourceView) (input : List ℕ) (read : Result Script Unread)
+    → ReadsAll old new input → ReadsBytes (scenario_of input names) read → Reads names old new read
+reads_whole names old new input (Ok script) all came = ((input, all, came.0), came.1)
+reads_whole names old new input (Err (Refused fault)) all came =
+    record { first = left_whole names old.left new.left input fault all.0 all.1 came; reads = inl (input, all, came) }
+reads_whole names old new input (Err ReadFailed) all came = absurd came
+reads_whole names old new input (Err unread.Memory) all came = all.2
+
+-- a cast and a slice of it have the same names
+pub says_of : {A : Type 0} (called : A → List ℕ) (given cast : List A) (old new : SourceView) (read : Result Scenario ScriptFault) → given ≡ cast
+    → Says (map called given) old new read → Says (map called cast) old new read
+says_of {A} called given cast old new read same says = subst (λ (all : List A). Says (map called all) old new read) same says
+
+pub unread_of : {A : Type 0} (called : A → List ℕ) (given cast : List A) (old new : SourceView) (unread : Unread) → given ≡ cast
+    → ComesUnread (map called given) old new unread → ComesUnread (map called cast) old new unread
+unread_of {A} called given cast old new unread same came = subst (λ (all : List A). ComesUnread (map called all) old new unread) same came
 
 -- a fault that is not want of memory is the one that was read
 pub fails_with : {Y : Type 0} (fault : ScriptFault) (read : Result Y ScriptFault) → fault ≢ Memory → Fails fault read → read ≡ Err fault
