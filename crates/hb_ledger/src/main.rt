@@ -1,8 +1,6 @@
 //! The program `hb_ledger` over the streams and the words of its process. What the words are, `hb_main` tells.
 #![tactic(auto)]
 
-mod streams;
-
 use hb_app::{NO_MEMORY, hb_main};
 use hb_base::{OpenGate, Sink, Source};
 use hb_rules::Report;
@@ -13,7 +11,7 @@ use std::io::ErrorKind;
 use std::process::ExitCode;
 use std::sync::Wait;
 use std::thread::Threads;
-use streams::{Reading, Writing};
+use std_streams::{Reading, Writing};
 
 // The words after the program's name. Words that are not in UTF-8 are none that the program knows, as no words are.
 fn words(rt: &HostRuntime, alloc: Global) -> Result<Vec<String>, AllocError> {

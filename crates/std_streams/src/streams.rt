@@ -1,6 +1,6 @@
 //! A reader as a source, and a writer as a sink.
 
-ghost use Rattle.std.specs.Prelude.{◌≡◌, ℕ, ◌<◌, ◌≤◌, length, take, IfOk, OnOk, MatchResult};
+ghost use Rattle.std.specs.Prelude.{◌≡◌, ℕ, false, ◌<◌, ◌≤◌, length, take, IfOk, OnOk, MatchResult};
 ghost use Rattle.std.specs.Io.{ReadsAtMost, WritesAtMost};
 ghost use Rattle.std.specs.Io.KnownBytes.{Keeps, ReadConsumes, WriteAppends};
 ghost use Rattle.hb_base.specs.Outside.{HasCause, Puts};
@@ -54,19 +54,31 @@ fn read_some<R: Read>(reader: &mut R, buf: &mut [u8]) -> Result<usize, Failed>
     Err(Failed)
 }
 
-/// A writer as a sink. It counts the puts that failed.
+/// A writer as a sink. It counts the puts that failed, and tells whether one failed since the reader of the stream had closed it.
 #[derive(Drop)]
 pub struct Writing<W> {
     writer: W,
     faults: u64,
+    closed: bool,
 }
 
 impl<W> Writing<W> {
     /// A sink over a writer of which no put has failed.
     pub fn new(writer: W) -> Writing<W>
-        ensures { result ≡ record { writer = writer; faults = 0 } }
+        ensures { result ≡ record { writer = writer; faults = 0; closed = false } }
     {
-        Writing { writer, faults: 0 }
+        Writing {
+            writer,
+            faults: 0,
+            closed: false,
+        }
+    }
+
+    /// Whether a put failed since the reader of the stream had closed it.
+    pub fn is_closed(&self) -> bool
+        ensures { result ≡ self.now.closed }
+    {
+        self.closed
     }
 }
 
@@ -76,25 +88,31 @@ impl<W: Write> Sink for Writing<W> {
     ghost faults = { λ s. s.faults };
 
     fn put(&mut self, bytes: &[u8]) -> Result<(), Failed> {
-        let written = write_through(&mut self.writer, bytes);
-        if written.is_err() {
-            self.faults = self.faults.saturating_add(1);
+        match write_through(&mut self.writer, bytes) {
+            Ok(()) => Ok(()),
+            Err(kind) => {
+                self.faults = self.faults.saturating_add(1);
+                self.closed |= kind == ErrorKind::BrokenPipe;
+                Err(Failed)
+            }
         }
-        written
     }
 }
 
 // Writes all the bytes, and then flushes the writer.
-fn write_through<W: Write>(writer: &mut W, bytes: &[u8]) -> Result<(), Failed>
+fn write_through<W: Write>(writer: &mut W, bytes: &[u8]) -> Result<(), ErrorKind>
     ensures { Puts (W.contents writer.old) (W.contents writer.new) result bytes.now }
 {
     write_whole(writer, bytes)?;
-    writer.flush().map_err(|_| Failed)
+    match writer.flush() {
+        Ok(()) => Ok(()),
+        Err(error) => Err(error.kind()),
+    }
 }
 
 // Writes all the bytes. std's `write_all` does not tell what was written where it fails.
 #[tactic(auto, using(crate::proofs::KnownBytes::keeps_itself, crate::proofs::KnownBytes::appends_nothing, crate::proofs::KnownBytes::front_grows, crate::proofs::KnownBytes::front_stays))]
-fn write_whole<W: Write>(writer: &mut W, bytes: &[u8]) -> Result<(), Failed>
+fn write_whole<W: Write>(writer: &mut W, bytes: &[u8]) -> Result<(), ErrorKind>
     ensures { Puts (W.contents writer.old) (W.contents writer.new) result bytes.now }
 {
     let mut at = 0;
@@ -104,18 +122,18 @@ fn write_whole<W: Write>(writer: &mut W, bytes: &[u8]) -> Result<(), Failed>
         }
         at += write_some(writer, &bytes[at..])?;
     }
-    Err(Failed)
+    Err(ErrorKind::Other)
 }
 
 // Writes some of the bytes, or none after an interruption. A writer that takes none has failed.
-fn write_some<W: Write>(writer: &mut W, bytes: &[u8]) -> Result<usize, Failed>
+fn write_some<W: Write>(writer: &mut W, bytes: &[u8]) -> Result<usize, ErrorKind>
     ensures bound { IfOk result (λ count. count ≤ length bytes.now) }
     ensures bytes { WriteAppends (W.contents writer.old) (W.contents writer.new) result bytes.now }
 {
     match writer.write(bytes) {
-        Ok(0) => Err(Failed),
+        Ok(0) => Err(ErrorKind::WriteZero),
         Ok(count) => Ok(count),
         Err(error) if error.kind() == ErrorKind::Interrupted => Ok(0),
-        Err(_) => Err(Failed),
+        Err(error) => Err(error.kind()),
     }
 }

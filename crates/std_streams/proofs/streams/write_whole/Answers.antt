@@ -1,7 +1,7 @@
 use Rattle.std.proofs.Common.{arith}
 use Rattle.std.proofs.lemmas.List.{take_rest}
-use Rattle.hb_ledger.proofs.KnownBytes.{front_grows}
-use Rattle.hb_ledger.proofs.streams.write_whole.Goals as goal
+use Rattle.std_streams.proofs.KnownBytes.{front_grows}
+use Rattle.std_streams.proofs.streams.write_whole.Goals as goal
 
 pub loop-preserved : goal.loop-preserved
 loop-preserved g c = record {
