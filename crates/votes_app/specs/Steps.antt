@@ -1,6 +1,6 @@
 -- What the steps of printing come to. The letters: w is a window before a step and v behind it, and used are the bytes that the step
 -- used, at the front of those in the window and of those that it took.
-use Rattle.std.specs.Prelude.{◌≡◌, ◌⊎◌, ℕ, ◌+◌, ◌≤◌, Bool, true, false, List, [], ◌∷◌, ◌++◌, length, Result, Ok, Err, All, ◌==◌}
+use Rattle.std.specs.Prelude.{◌≡◌, ◌⊎◌, ℕ, ◌+◌, ◌<◌, ◌≤◌, Bool, true, false, List, [], ◌∷◌, ◌++◌, length, Option, None, Some, Result, Ok, Err, All, ◌==◌}
 use Rattle.std.specs.List.{list_any}
 use Rattle.std.specs.Io.KnownBytes.{Consumes, IsAtEnd}
 use Rattle.hb_base.specs.Numbers.{Numbers}
@@ -61,6 +61,13 @@ has_end bytes = list_any (λ byte. byte == 10) bytes
 abbrev pub Shows : Bool → SourceView → Span → Type 0
 Shows true new v = has_end v.bytes ≡ true
 Shows false new v = IsAtEnd new.left
+
+-- some bytes were taken into the window, or the input is at its end
+abbrev pub TakesPiece : SourceView → SourceView → Span → Span → Result (Option Bool) VotesFault → Type 0
+TakesPiece old new w v (Ok None) = Moves old new w v [] × IsAtEnd new.left
+TakesPiece old new w v (Ok (Some ends)) = Moves old new w v [] × (v.budget < w.budget) × (ends ≡ true → has_end v.bytes ≡ true)
+TakesPiece old new w v (Err WriteFault) = ⊥
+TakesPiece old new w v (Err fault) = Stops fault old new w []
 
 abbrev pub TakesLine : SourceView → SourceView → Span → Span → Result Bool VotesFault → Type 0
 TakesLine old new w v (Ok ends) = Moves old new w v [] × Shows ends new v
