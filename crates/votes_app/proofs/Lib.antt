@@ -1,3 +1,8 @@
+mod Breaking
+mod Ending
+mod LineEnds
+mod Lines
 mod Moving
+mod PostLemmas
 mod Puts
 mod Whole

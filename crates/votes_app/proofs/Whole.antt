@@ -1,6 +1,7 @@
 -- From the steps to the whole.
-use Rattle.std.proofs.Common.{◌≡◌, ◌⊎◌, ℕ, ◌+◌, ◌≤◌, Bool, List, [], ◌∷◌, ◌++◌, length, Option, Some, Result, Ok, Err, All, refl, sym, ap, ◌∙◌, inl, inr, arith, append_assoc, append-nil, length-append}
+use Rattle.std.proofs.Common.{◌≡◌, ◌⊎◌, ℕ, ◌+◌, ◌≤◌, Bool, List, [], ◌∷◌, ◌++◌, length, Option, Some, Result, Ok, Err, All, refl, sym, ap, subst, ◌∙◌, inl, inr, arith, append_assoc, append-nil, length-append}
 use Rattle.std.proofs.KnownBytes.{Consumes-trans}
+use Rattle.std.proofs.lemmas.List.Elements.{All-nil}
 use Rattle.std.specs.Io.KnownBytes.{Consumes}
 use Rattle.hb_base.specs.Numbers.{Numbers}
 use Rattle.hb_wire.specs.declared.post.Post.{Post}
@@ -39,20 +40,23 @@ stops_after detail WriteFault old new out out_after used text stop part put =
 
 -- ---- in the first line
 
-pub line_stops : (detail : Detail) (fault : VotesFault) (old new : SourceView) (v : Span) (out : SinkView) → TakesLine old new start v (Err fault)
+pub line_stops : (detail : Detail) (fault : VotesFault) (old new : SourceView) (w v : Span) (out : SinkView) → w ≡ start → TakesLine old new w v (Err fault)
     → PrintsVotes detail old new out out (Err fault)
-line_stops detail ReadFault old new v out stop = stops_after detail ReadFault old new out out [] [] stop (inl refl) (has_put_nothing out)
-line_stops detail TooLong old new v out stop = stops_after detail TooLong old new out out [] [] stop (inl refl) (has_put_nothing out)
-line_stops detail (NotATrace line) old new v out stop = absurd stop.cause
-line_stops detail Memory old new v out stop = stops_after detail Memory old new out out [] [] stop (inl refl) (has_put_nothing out)
-line_stops detail WriteFault old new v out stop = absurd stop
+line_stops detail ReadFault old new w v out same stop =
+    stops_after detail ReadFault old new out out [] [] (subst (λ (x : Span). Stops ReadFault old new x []) same stop) (inl refl) (has_put_nothing out)
+line_stops detail TooLong old new w v out same stop =
+    stops_after detail TooLong old new out out [] [] (subst (λ (x : Span). Stops TooLong old new x []) same stop) (inl refl) (has_put_nothing out)
+line_stops detail (NotATrace line) old new w v out same stop = absurd stop.cause
+line_stops detail Memory old new w v out same stop =
+    stops_after detail Memory old new out out [] [] (subst (λ (x : Span). Stops Memory old new x []) same stop) (inl refl) (has_put_nothing out)
+line_stops detail WriteFault old new w v out same stop = absurd stop
 
 -- the first line was used
 pub head_moves : (old new : SourceView) (w v : Span) (c : Numbers) → Moves old new start w [] → IsHead c w v → Moves old new start v (trace_line c)
 head_moves old new w v c first head = moves_then old new new start w v [] (trace_line c) first (uses new w v (trace_line c) head.text head.budget)
 
 -- what was taken begins with a run and posts
-begun_of : (bytes : List ℕ) (c : Numbers) (posts : List Post) (rest : List ℕ) → IsConfig c → All IsPost posts → bytes ≡ (trace_line c ++ posts_text 0 posts) ++ rest
+pub begun_of : (bytes : List ℕ) (c : Numbers) (posts : List Post) (rest : List ℕ) → IsConfig c → All IsPost posts → bytes ≡ (trace_line c ++ posts_text 0 posts) ++ rest
     → IsBegun bytes c posts rest
 begun_of bytes c posts rest config each text = record { config = config; each = each; text = text ∙ append_assoc (trace_line c) (posts_text 0 posts) rest }
 
@@ -74,7 +78,7 @@ head_fails detail old new w v c out out_after first head failed =
           config = c;
           posts = [];
           rest = v.bytes;
-          begun = record { config = head.config; each = tt; text = m.text };
+          begun = record { config = head.config; each = All-nil IsPost; text = m.text };
           words = no_posts detail c;
         }));
       put = failed;
@@ -82,7 +86,7 @@ head_fails detail old new w v c out out_after first head failed =
 
 -- ---- in the posts
 
-begun_words : (detail : Detail) (c : Numbers) (posts : List Post) → trace_line c ++ posts_in_words detail c 0 posts ≡ begun_in_words detail c posts
+pub begun_words : (detail : Detail) (c : Numbers) (posts : List Post) → trace_line c ++ posts_in_words detail c 0 posts ≡ begun_in_words detail c posts
 unfolding begun_in_words
 begun_words detail c posts = refl
 

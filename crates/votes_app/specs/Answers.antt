@@ -8,7 +8,7 @@ use Rattle.vote_words.specs.declared.detail.Detail.TheVariants.{Brief, Full}
 use Rattle.votes_app.specs.declared.fault.VotesFault.{VotesFault}
 use Rattle.votes_app.specs.declared.fault.VotesFault.TheVariants.{ReadFault, TooLong, NotATrace, Memory, WriteFault}
 use Rattle.votes_app.specs.Printing.{PrintsVotes}
-use Rattle.votes_app.specs.Streams.{SinkView, IsUnused, PutsOrFails, PutsOr7}
+use Rattle.votes_app.specs.Streams.{SinkView, PutsOrFails, PutsOr7}
 
 -- the words that ask for votes in this detail
 abbrev pub words_for : Detail → List (List ℕ)

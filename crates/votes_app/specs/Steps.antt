@@ -1,6 +1,6 @@
 -- What the steps of printing come to. The letters: w is a window before a step and v behind it, and used are the bytes that the step
 -- used, at the front of those in the window and of those that it took.
-use Rattle.std.specs.Prelude.{◌≡◌, ◌⊎◌, ℕ, ◌+◌, ◌<◌, ◌≤◌, Bool, true, false, List, [], ◌∷◌, ◌++◌, length, Option, None, Some, Result, Ok, Err, All, ◌==◌}
+use Rattle.std.specs.Prelude.{◌≡◌, ◌⊎◌, ℕ, ◌+◌, ◌<◌, ◌≤◌, Bool, true, false, List, [], ◌∷◌, ◌++◌, length, drop, Option, None, Some, Result, Ok, Err, All, ◌==◌}
 use Rattle.std.specs.List.{list_any}
 use Rattle.std.specs.Io.KnownBytes.{Consumes, IsAtEnd}
 use Rattle.hb_base.specs.Numbers.{Numbers}
@@ -9,12 +9,12 @@ use Rattle.hb_wire.specs.declared.post.Post.{Post}
 use Rattle.input_reader.specs.Streams.{SourceView, IsFaultless}
 use Rattle.ledger_text.specs.Lines.{end_line}
 use Rattle.trace_text.specs.Text.{trace_line, post_line, posts_text}
-use Rattle.trace_reader.specs.Trace.{IsConfig, IsPost, HasNoHead}
+use Rattle.trace_reader.specs.Trace.{longest_trace, IsConfig, IsPost, HasNoHead}
 use Rattle.vote_words.specs.declared.detail.Detail.{Detail}
 use Rattle.vote_words.specs.Words.{post_in_words, posts_in_words}
 use Rattle.votes_app.specs.declared.fault.VotesFault.{VotesFault}
 use Rattle.votes_app.specs.declared.fault.VotesFault.TheVariants.{ReadFault, TooLong, NotATrace, Memory, WriteFault}
-use Rattle.votes_app.specs.Streams.{SinkView, IsUnused, HasPut, FailsWithin}
+use Rattle.votes_app.specs.Streams.{SinkView, HasPut, FailsWithin}
 use Rattle.votes_app.specs.Window.{Span}
 
 -- Some bytes were taken, and no take failed. Of those in the window and those that were taken some are used, and the others are in
@@ -76,7 +76,7 @@ TakesLine old new w v (Err fault) = Stops fault old new w []
 
 -- whether the input is at its end; where it is not, one byte more was taken
 abbrev pub TakesEnd : SourceView → SourceView → Span → Result Bool VotesFault → Type 0
-TakesEnd old new w (Ok true) = Consumes old.left new.left [] × IsAtEnd new.left × IsFaultless old new
+TakesEnd old new w (Ok true) = Consumes old.left new.left [] × IsAtEnd new.left × IsFaultless old new × (1 ≤ w.budget)
 TakesEnd old new w (Ok false) = (byte : ℕ) × Consumes old.left new.left (byte ∷ []) × IsFaultless old new × (1 ≤ w.budget)
 TakesEnd old new w (Err ReadFault) = Stops ReadFault old new w []
 TakesEnd old new w (Err TooLong) = Stops TooLong old new w []
@@ -92,7 +92,7 @@ pub record IsHead (c : Numbers) (w v : Span) : Type 0 where
 
 abbrev pub PrintsHead : Span → Span → SinkView → SinkView → Result Numbers VotesFault → Type 0
 PrintsHead w v out out_after (Ok c) = IsHead c w v × HasPut out out_after (trace_line c)
-PrintsHead w v out out_after (Err (NotATrace line)) = (line ≡ 1) × HasNoHead w.bytes × IsUnused out out_after
+PrintsHead w v out out_after (Err (NotATrace line)) = (line ≡ 1) × HasNoHead w.bytes × (out_after ≡ out)
 PrintsHead w v out out_after (Err WriteFault) = (c : Numbers) × IsHead c w v × FailsWithin out out_after (trace_line c)
 PrintsHead w v out out_after (Err _) = ⊥
 
@@ -107,6 +107,17 @@ pub record IsLine (k : ℕ) (post : Post) (w v : Span) : Type 0 where
 -- no line of post k comes next
 pub record HasNoPost (k : ℕ) (bytes : List ℕ) : Type 0 where
   pub none : (post : Post) (later : List ℕ) → IsPost post → bytes ≡ post_line k post ++ later → ⊥
+
+-- so many bytes are the line of post k
+pub record HasLine (k : ℕ) (bytes : List ℕ) (post : Post) (used : ℕ) : Type 0 where
+  pub is : IsPost post
+  pub few : used ≤ length bytes
+  pub text : bytes ≡ post_line k post ++ drop used bytes
+
+-- post k and how many bytes its line has, if it comes next
+abbrev pub FindsPost : ℕ → List ℕ → Option (Post × ℕ) → Type 0
+FindsPost k bytes None = HasNoPost k bytes
+FindsPost k bytes (Some (post, used)) = HasLine k bytes post used
 
 abbrev pub PrintsPost : Detail → Numbers → ℕ → Span → Span → SinkView → SinkView → Result Bool VotesFault → Type 0
 PrintsPost detail c k w v out out_after (Ok true) = (post : Post) × IsLine k post w v × HasPut out out_after (post_in_words detail c k post)
@@ -131,7 +142,7 @@ pub record StopsIn (detail : Detail) (c : Numbers) (fault : VotesFault) (old new
 abbrev pub PrintsPosts : Detail → Numbers → SourceView → SourceView → Span → Span → SinkView → SinkView → Result ℕ VotesFault → Type 0
 PrintsPosts detail c old new w v out out_after (Ok count) =
     (posts : List Post) × ArePrinted detail c posts old new w v out out_after × (length posts ≡ count) × HasNoPost count v.bytes
-    × ((ends : Bool) × Shows ends new v)
+    × ((ends : Bool) × Shows ends new v) × (count ≤ longest_trace + 1)
 PrintsPosts detail c old new w v out out_after (Err fault) = StopsIn detail c fault old new w out out_after
 
 -- ---- the last line

@@ -1,6 +1,6 @@
 -- What is seen of an output, and what calls on it come to.
 use Rattle.std.specs.Prelude.{◌≡◌, ℕ, ◌⊎◌, List, Option}
-use Rattle.std.specs.Io.KnownBytes.{Appends, Keeps}
+use Rattle.std.specs.Io.KnownBytes.{Appends}
 use Rattle.hb_base.specs.Outside.{Rose, AppendsFront}
 
 -- a sink: what it holds, where it tells that, and how many of its calls have failed
@@ -11,10 +11,6 @@ pub record SinkView : Type 0 where
 -- the sink that is seen through the two members of its trait
 abbrev pub sink_view : {S : Type 0} → (S → Option (List ℕ)) → (S → ℕ) → S → SinkView
 sink_view held faults sink = record { held = held sink; faults = faults sink }
-
--- nothing was put, and no put failed
-abbrev pub IsUnused : SinkView → SinkView → Type 0
-IsUnused old new = Keeps old.held new.held × (new.faults ≡ old.faults)
 
 -- all these bytes were put, and no put failed
 pub record HasPut (old new : SinkView) (bytes : List ℕ) : Type 0 where

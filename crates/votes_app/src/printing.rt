@@ -64,10 +64,13 @@ fn print_end<S: Source, O: Sink>(
     ensures { PrintsEnd count (source_view S.left S.faults source.old) (source_view S.left S.faults source.new) window.now
         (sink_view O.held O.faults out.old) (sink_view O.held O.faults out.new) result }
 {
-    let Some(rest) = end_at(u64::from(count), window.bytes()) else {
-        return Err(VotesFault::NotATrace { line: count + 2 });
-    };
-    if !rest.is_empty() || !has_ended(source, window)? {
+    match end_at(u64::from(count), window.bytes()) {
+        None => return Err(VotesFault::NotATrace { line: count + 2 }),
+        Some(rest) if rest.is_empty() => {}
+        Some(_) => return Err(VotesFault::NotATrace { line: count + 3 }),
+    }
+    let ended = has_ended(source, window)?;
+    if !ended {
         return Err(VotesFault::NotATrace { line: count + 3 });
     }
     match put_end(u64::from(count), out) {

@@ -1,6 +1,6 @@
 //! The top call.
 
-ghost use Rattle.std.specs.Prelude.{◌≡◌, Some, None, map, string_bytes};
+ghost use Rattle.std.specs.Prelude.{◌≡◌, [], ◌∷◌, Some, None, map, string_bytes};
 ghost use Rattle.input_reader.specs.Streams.{source_view};
 ghost use Rattle.vote_words.specs.declared.detail.Detail.{Detail};
 ghost use Rattle.votes_app.specs.Answers.{Asks, Answers, usage_line};
@@ -20,8 +20,18 @@ fn detail_of(words: &[String]) -> Option<Detail>
 {
     match words.len() {
         0 => Some(Detail::Brief),
-        1 if words[0].as_str() == "--full" => Some(Detail::Full),
+        1 => one_word(words[0].as_str()),
         _ => None,
+    }
+}
+
+fn one_word(word: &str) -> Option<Detail>
+    ensures { Asks (word.now ∷ []) result }
+{
+    if word == "--full" {
+        Some(Detail::Full)
+    } else {
+        None
     }
 }
 
