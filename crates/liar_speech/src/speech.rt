@@ -34,13 +34,7 @@ pub fn heard_vote<'a>(me: &LiarSeat, post: &'a Post) -> Result<(u8, VoteView<'a>
 }
 
 /// Says bytes in the name of this actor to whomever, if they are taken. After an error nothing was said.
-pub fn tell(
-    alloc: Global,
-    lies: &mut Lies,
-    actor: u8,
-    to: To,
-    bytes: &[u8],
-) -> Result<(), Hushed>
+pub fn tell(alloc: Global, lies: &mut Lies, actor: u8, to: To, bytes: &[u8]) -> Result<(), Hushed>
     ensures told { OnOk result (lies.new ≡ with_lie lies.old actor to bytes.now) }
     ensures hushed { OnErr result (lies.new ≡ lies.old) }
 {

@@ -31,7 +31,14 @@ impl Liar for Contrary {
                 round,
                 bit: !bit,
             };
-            let _told = tell_vote(alloc, me.config.n(), me.config.version(), lies, lane, &other);
+            let _told = tell_vote(
+                alloc,
+                me.config.n(),
+                me.config.version(),
+                lies,
+                lane,
+                &other,
+            );
         }
     }
 }

@@ -131,7 +131,11 @@ fn add_item(line: &mut Vec<u8>, detail: Detail, item: &Item) -> Result<(), Alloc
 
 // How many values there are, and each.
 #[tactic(auto, unfolding(crate::specs::Words::items_text))]
-pub(crate) fn add_items(line: &mut Vec<u8>, detail: Detail, items: &[Item]) -> Result<(), AllocError>
+pub(crate) fn add_items(
+    line: &mut Vec<u8>,
+    detail: Detail,
+    items: &[Item],
+) -> Result<(), AllocError>
     ensures { OnOk result (line.new.items ≡ line.old.items ++ items_text detail items.now) }
 {
     add_number(line, " values ", items.len() as u64)?;

@@ -51,20 +51,20 @@ breaks_at_first detail line ends old new w out moves shows one lacks = record {
 ends_after : (bytes : List ℕ) (c : Numbers) (posts : List Post) (rest : List ℕ) (count : ℕ) → IsConfig c → All IsPost posts
     → bytes ≡ (trace_line c ++ posts_text 0 posts) ++ rest → length posts ≡ count → HasNoPost count rest → HasNoEnd count rest → BreaksAt bytes (count + 2)
 ends_after bytes c posts rest count config each text same no_post no_end = inr (
-    count,
-    inl (
-      refl,
-      record {
-        c = c;
-        posts = posts;
-        rest = rest;
-        begun = begun_of bytes c posts rest config each text;
-        count_is = same;
-        no_post = no_post.none;
-        no_end = no_end.none;
-      },
-    ),
-  )
+  count,
+  inl (
+    refl,
+    record {
+      c = c;
+      posts = posts;
+      rest = rest;
+      begun = begun_of bytes c posts rest config each text;
+      count_is = same;
+      no_post = no_post.none;
+      no_end = no_end.none;
+    },
+  ),
+)
 
 -- the same line breaks the form of all that is left
 after_more : (ends : Bool) (new : SourceView) (u : Span) (count : ℕ) (more : List ℕ) → Shows ends new u → count < 2 ^ 64 → HasNoPost count u.bytes → HasNoEnd count u.bytes
@@ -95,15 +95,15 @@ breaks_behind detail line ends old new u c posts out mid count b same few no_pos
           (text_more b.moves.more (trace_line c ++ posts_text 0 posts) u.bytes more b.moves.text) same later.0 later.1);
       text = trace_line c ++ posts_in_words detail c 0 posts;
       before = inr (
-          record {
-            config = c;
-            posts = posts;
-            rest = u.bytes;
-            begun = begun_of b.moves.more c posts u.bytes b.config b.each b.moves.text;
-            words = begun_words detail c posts;
-          },
-          inl (at ∙ ap (λ (n : ℕ). n + 2) (sym same)),
-        );
+        record {
+          config = c;
+          posts = posts;
+          rest = u.bytes;
+          begun = begun_of b.moves.more c posts u.bytes b.config b.each b.moves.text;
+          words = begun_words detail c posts;
+        },
+        inl (at ∙ ap (λ (n : ℕ). n + 2) (sym same)),
+      );
       put = b.put;
     }
 
@@ -112,19 +112,19 @@ breaks_behind detail line ends old new u c posts out mid count b same few no_pos
 goes_on_after : (bytes : List ℕ) (c : Numbers) (posts : List Post) (count byte : ℕ) (later : List ℕ) → IsConfig c → All IsPost posts
     → bytes ≡ (trace_line c ++ posts_text 0 posts) ++ (end_line count ++ byte ∷ later) → length posts ≡ count → BreaksAt bytes (count + 3)
 goes_on_after bytes c posts count byte later config each text same = inr (
-    count,
-    inr (
-      refl,
-      record {
-        c = c;
-        posts = posts;
-        byte = byte;
-        later = later;
-        begun = begun_of bytes c posts (end_line count ++ byte ∷ later) config each text;
-        count_is = same;
-      },
-    ),
-  )
+  count,
+  inr (
+    refl,
+    record {
+      c = c;
+      posts = posts;
+      byte = byte;
+      later = later;
+      begun = begun_of bytes c posts (end_line count ++ byte ∷ later) config each text;
+      count_is = same;
+    },
+  ),
+)
 
 pub breaks_at_end : (detail : Detail) (line : ℕ) (old now new : SourceView) (u : Span) (c : Numbers) (posts : List Post) (out mid : SinkView) (count : ℕ)
     → HasBegun detail c posts old now u out mid → length posts ≡ count → line ≡ count + 3 → GoesOn count now new u → Breaks detail line old new out mid
@@ -146,14 +146,14 @@ breaks_at_end detail line old now new u c posts out mid count b same at g =
           (text_more bytes used (end_line count ++ g.byte ∷ g.later) more text ∙ ap (λ (xs : List ℕ). used ++ xs) grown) same);
       text = trace_line c ++ posts_in_words detail c 0 posts;
       before = inr (
-          record {
-            config = c;
-            posts = posts;
-            rest = end_line count ++ g.byte ∷ g.later;
-            begun = begun_of bytes c posts (end_line count ++ g.byte ∷ g.later) b.config b.each text;
-            words = begun_words detail c posts;
-          },
-          inr (at ∙ ap (λ (n : ℕ). n + 3) (sym same)),
-        );
+        record {
+          config = c;
+          posts = posts;
+          rest = end_line count ++ g.byte ∷ g.later;
+          begun = begun_of bytes c posts (end_line count ++ g.byte ∷ g.later) b.config b.each text;
+          words = begun_words detail c posts;
+        },
+        inr (at ∙ ap (λ (n : ℕ). n + 3) (sym same)),
+      );
       put = b.put;
     }

@@ -101,13 +101,13 @@ post_stops_in detail c posts k Memory old new w v u out mid out_after count prin
   posts = posts;
   each = printed.each;
   stops = record {
-      more = printed.moves.more;
-      rest = v.bytes;
-      taken = printed.moves.taken;
-      text = printed.moves.text;
-      few = omega (arith, printed.moves.spent);
-      cause = printed.moves.quiet;
-    };
+    more = printed.moves.more;
+    rest = v.bytes;
+    taken = printed.moves.taken;
+    text = printed.moves.text;
+    few = omega (arith, printed.moves.spent);
+    cause = printed.moves.quiet;
+  };
   put = subst (λ (o : SinkView). HasPut out o (posts_in_words detail c 0 posts)) (sym same) printed.put;
 }
 post_stops_in detail c posts k WriteFault old new w v u out mid out_after count printed (post, line, failed) =
@@ -117,13 +117,13 @@ post_stops_in detail c posts k WriteFault old new w v u out mid out_after count 
       posts = posts ++ post ∷ [];
       each = All-push IsPost posts post printed.each line.is;
       stops = record {
-          more = moves.more;
-          rest = u.bytes;
-          taken = moves.taken;
-          text = moves.text;
-          few = omega (arith, moves.spent);
-          cause = moves.quiet;
-        };
+        more = moves.more;
+        rest = u.bytes;
+        taken = moves.taken;
+        text = moves.text;
+        few = omega (arith, moves.spent);
+        cause = moves.quiet;
+      };
       put = rw (sym words) (fails_then out mid out_after (posts_in_words detail c 0 posts) (post_in_words detail c k post) printed.put failed);
     }
 

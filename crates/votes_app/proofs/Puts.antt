@@ -27,10 +27,10 @@ has_put_then old now new a b first second = record {
 pub fails_then : (old now new : SinkView) (a b : List ℕ) → HasPut old now a → FailsWithin now new b → FailsWithin old new (a ++ b)
 fails_then old now new a b first second = record {
   front = (
-      length a + second.front.0,
-      omega (arith, length-append a b, second.front.1),
-      rw (take-append-add a b second.front.0) (Appends-trans old.held now.held new.held a (take second.front.0 b) first.appended second.front.2),
-    );
+    length a + second.front.0,
+    omega (arith, length-append a b, second.front.1),
+    rw (take-append-add a b second.front.0) (Appends-trans old.held now.held new.held a (take second.front.0 b) first.appended second.front.2),
+  );
   rose = omega (arith, first.quiet, second.rose);
 }
 

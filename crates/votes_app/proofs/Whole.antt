@@ -75,12 +75,12 @@ head_fails detail old new w v c out out_after first head failed =
       cause = m.quiet;
       text = trace_line c;
       part = inr (inl (record {
-          config = c;
-          posts = [];
-          rest = v.bytes;
-          begun = record { config = head.config; each = All-nil IsPost; text = m.text };
-          words = no_posts detail c;
-        }));
+        config = c;
+        posts = [];
+        rest = v.bytes;
+        begun = record { config = head.config; each = All-nil IsPost; text = m.text };
+        words = no_posts detail c;
+      }));
       put = failed;
     }
 
@@ -143,8 +143,7 @@ pub ends_well : (detail : Detail) (old now new : SourceView) (u : Span) (c : Num
     → ReadsWhole old new (IsPrinted detail out out_after)
 ends_well detail old now new u c posts out mid out_after count b same is_end put =
     let all : Consumes old.left new.left (b.moves.more ++ []) = Consumes-trans old.left now.left new.left b.moves.more [] b.moves.taken is_end.taken in
-    let put_all = has_put_then out mid out_after (trace_line c ++ posts_in_words detail c 0 posts) (end_line count) b.put put in
-    (
+    let put_all = has_put_then out mid out_after (trace_line c ++ posts_in_words detail c 0 posts) (end_line count) b.put put in (
       b.moves.more,
       omega (arith, b.moves.spent, is_end.spare),
       (rw append-nil at all, is_end.ended, is_end.quiet ∙ b.moves.quiet),

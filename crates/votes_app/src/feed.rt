@@ -33,10 +33,7 @@ fn take_piece<S: Source>(source: &mut S, window: &mut Window) -> Result<Option<b
 }
 
 // Takes bytes until a line ends in the window, or the input does: answers whether a line ends.
-pub(crate) fn take_line<S: Source>(
-    source: &mut S,
-    window: &mut Window,
-) -> Result<bool, VotesFault>
+pub(crate) fn take_line<S: Source>(source: &mut S, window: &mut Window) -> Result<bool, VotesFault>
     ensures { TakesLine (source_view S.left S.faults source.old) (source_view S.left S.faults source.new) window.old window.new result }
 {
     if has_end(window.bytes()) {

@@ -6,9 +6,8 @@ ghost use Rattle.vote_words.specs.declared.detail.Detail.{Detail};
 ghost use Rattle.votes_app.specs.Answers.{Asks, Answers, usage_line};
 ghost use Rattle.votes_app.specs.Streams.{PutsOr7, sink_view};
 
-pub use crate::telling::NO_MEMORY;
-
 use crate::printing::print_votes;
+pub use crate::telling::NO_MEMORY;
 use crate::telling::{USAGE, tell, tell_answer};
 use hb_base::{Sink, Source};
 use std::alloc::Global;

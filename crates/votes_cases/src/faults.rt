@@ -35,9 +35,7 @@ fn call(
 }
 
 fn is_so(call: &Call, status: u8, out: &str, err: &str) -> bool {
-    call.status == status
-        && call.out.held() == out.as_bytes()
-        && call.err.held() == err.as_bytes()
+    call.status == status && call.out.held() == out.as_bytes() && call.err.held() == err.as_bytes()
 }
 
 const HEAD: &str = "trace nodes 1 faulty 0 version 1 epochs 1 rounds 3 batch 64 seed 0 liars 0\n";

@@ -1,7 +1,8 @@
 //! Histories by hand, and the words of their posts, which were written beside the bytes from the table of the bytes of votes.
 
 // Each kind of vote among four nodes under version 2, and bytes that spell none.
-pub(crate) const FOUR: &str = "trace nodes 4 faulty 1 version 2 epochs 32 rounds 32 batch 64 seed 18446744073709551615 liars 8\n\
+pub(crate) const FOUR: &str =
+    "trace nodes 4 faulty 1 version 2 epochs 32 rounds 32 batch 64 seed 18446744073709551615 liars 8\n\
     post 0 from 3 actor 3 to node 2 010502000102030405060708090a0b0c0d0e0f101112131415161718191a1b1c1d1e1f00000003aabbcc1122334455000000000000000000000000000000000000000000000000000000aabbccddeeffffffffffffffffffffffffffffffffffffffffffffffffffffff\n\
     post 1 from 0 actor 1 to all 021f000102030405060708090a0b0c0d0e0f101112131415161718191a1b1c1d1e1f000000015a1122334455000000000000000000000000000000000000000000000000000000aabbccddeeffffffffffffffffffffffffffffffffffffffffffffffffffffff\n\
     post 2 from 1 actor 2 to all 0307000102030405060708090a0b0c0d0e0f101112131415161718191a1b1c1d1e1f\n\
@@ -33,7 +34,8 @@ pub(crate) const FOUR: &str = "trace nodes 4 faulty 1 version 2 epochs 32 rounds
     end 28\n";
 
 // Its posts in words.
-pub(crate) const FOUR_BRIEF: &str = "trace nodes 4 faulty 1 version 2 epochs 32 rounds 32 batch 64 seed 18446744073709551615 liars 8\n\
+pub(crate) const FOUR_BRIEF: &str =
+    "trace nodes 4 faulty 1 version 2 epochs 32 rounds 32 batch 64 seed 18446744073709551615 liars 8\n\
     post 0 from 3 actor 3 to node 2: VAL epoch 5 target 2 root 00010203 shard length 3 branch 11223344 aabbccdd\n\
     post 1 from 0 actor 1 to all: ECHO epoch 31 root 00010203 shard length 1 branch 11223344 aabbccdd\n\
     post 2 from 1 actor 2 to all: READY epoch 7 root 00010203\n\
@@ -65,7 +67,8 @@ pub(crate) const FOUR_BRIEF: &str = "trace nodes 4 faulty 1 version 2 epochs 32 
     end 28\n";
 
 // Its posts in words, with all bytes.
-pub(crate) const FOUR_FULL: &str = "trace nodes 4 faulty 1 version 2 epochs 32 rounds 32 batch 64 seed 18446744073709551615 liars 8\n\
+pub(crate) const FOUR_FULL: &str =
+    "trace nodes 4 faulty 1 version 2 epochs 32 rounds 32 batch 64 seed 18446744073709551615 liars 8\n\
     post 0 from 3 actor 3 to node 2: VAL epoch 5 target 2 root 000102030405060708090a0b0c0d0e0f101112131415161718191a1b1c1d1e1f shard aabbcc branch 1122334455000000000000000000000000000000000000000000000000000000 aabbccddeeffffffffffffffffffffffffffffffffffffffffffffffffffffff\n\
     post 1 from 0 actor 1 to all: ECHO epoch 31 root 000102030405060708090a0b0c0d0e0f101112131415161718191a1b1c1d1e1f shard 5a branch 1122334455000000000000000000000000000000000000000000000000000000 aabbccddeeffffffffffffffffffffffffffffffffffffffffffffffffffffff\n\
     post 2 from 1 actor 2 to all: READY epoch 7 root 000102030405060708090a0b0c0d0e0f101112131415161718191a1b1c1d1e1f\n\
@@ -97,21 +100,24 @@ pub(crate) const FOUR_FULL: &str = "trace nodes 4 faulty 1 version 2 epochs 32 r
     end 28\n";
 
 // One node, whose trees have no digest in a branch; and a vote that version 1 lacks.
-pub(crate) const ONE: &str = "trace nodes 1 faulty 0 version 1 epochs 1 rounds 32 batch 64 seed 0 liars 0\n\
+pub(crate) const ONE: &str =
+    "trace nodes 1 faulty 0 version 1 epochs 1 rounds 32 batch 64 seed 0 liars 0\n\
     post 0 from 0 actor 0 to node 0 010000000102030405060708090a0b0c0d0e0f101112131415161718191a1b1c1d1e1f0000000400000000\n\
     post 1 from 0 actor 0 to all 090002000f1e2d3c4b5a69788796a5b4c3d2e1f0\n\
     post 2 from 0 actor 0 to all 0b000003\n\
     end 3\n";
 
 // Its posts in words.
-pub(crate) const ONE_BRIEF: &str = "trace nodes 1 faulty 0 version 1 epochs 1 rounds 32 batch 64 seed 0 liars 0\n\
+pub(crate) const ONE_BRIEF: &str =
+    "trace nodes 1 faulty 0 version 1 epochs 1 rounds 32 batch 64 seed 0 liars 0\n\
     post 0 from 0 actor 0 to node 0: VAL epoch 0 target 0 root 00010203 shard length 4 branch -\n\
     post 1 from 0 actor 0 to all: COIN epoch 0 round 2 share 0 salt 0f1e2d3c branch -\n\
     post 2 from 0 actor 0 to all: no vote\n\
     end 3\n";
 
 // Its posts in words, with all bytes.
-pub(crate) const ONE_FULL: &str = "trace nodes 1 faulty 0 version 1 epochs 1 rounds 32 batch 64 seed 0 liars 0\n\
+pub(crate) const ONE_FULL: &str =
+    "trace nodes 1 faulty 0 version 1 epochs 1 rounds 32 batch 64 seed 0 liars 0\n\
     post 0 from 0 actor 0 to node 0: VAL epoch 0 target 0 root 000102030405060708090a0b0c0d0e0f101112131415161718191a1b1c1d1e1f shard 00000000 branch -\n\
     post 1 from 0 actor 0 to all: COIN epoch 0 round 2 share 0 salt 0f1e2d3c4b5a69788796a5b4c3d2e1f0 branch -\n\
     post 2 from 0 actor 0 to all: no vote 0b000003\n\

@@ -8,11 +8,11 @@ use Rattle.votes_app.proofs.posts.print_posts.Goals as goal
 
 pub posts-init : goal.posts-init
 posts-init g c = (
-    [],
-    refl,
-    omega (arith, c.requires),
-    none_printed c.args.detail c.args.config.now (source_view g.S.Source.left g.S.Source.faults c.args.source.now) c.args.window.now (sink_view g.O.Sink.held g.O.Sink.faults c.args.out.now),
-  )
+  [],
+  refl,
+  omega (arith, c.requires),
+  none_printed c.args.detail c.args.config.now (source_view g.S.Source.left g.S.Source.faults c.args.source.now) c.args.window.now (sink_view g.O.Sink.held g.O.Sink.faults c.args.out.now),
+)
 
 pub returns-in_err-take_line : goal.returns-in_err-take_line
 returns-in_err-take_line g c =

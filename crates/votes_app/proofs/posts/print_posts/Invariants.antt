@@ -11,7 +11,7 @@ abbrev pub invariant-posts : goal.invariant-posts
 invariant-posts g l =
     (posts : List Post) × (length posts ≡ l.count) × (l.count + length l.window.bytes + l.window.budget ≤ longest_trace + 1)
     × ArePrinted l.detail l.config posts (source_view g.S.Source.left g.S.Source.faults l.fn.source) (source_view g.S.Source.left g.S.Source.faults l.source)
-        l.fn.window l.window (sink_view g.O.Sink.held g.O.Sink.faults l.fn.out) (sink_view g.O.Sink.held g.O.Sink.faults l.out)
+    l.fn.window l.window (sink_view g.O.Sink.held g.O.Sink.faults l.fn.out) (sink_view g.O.Sink.held g.O.Sink.faults l.out)
 
 abbrev pub decreases-posts : goal.decreases-posts
 decreases-posts g l = length l.window.bytes + l.window.budget
