@@ -7,7 +7,7 @@ use votes_app::votes_main;
 
 // What a call answered, what it printed and what it told.
 #[derive(Drop)]
-struct Call {
+struct Ended {
     status: u8,
     out: MemorySink,
     err: MemorySink,
@@ -21,7 +21,7 @@ fn call(
     step: u32,
     take: u32,
     put: u32,
-) -> Result<Call, AllocError> {
+) -> Result<Ended, AllocError> {
     let mut owned = Vec::new(alloc);
     for word in words {
         owned.push(String::from_str(alloc, word)?)?;
@@ -31,10 +31,10 @@ fn call(
     let mut out = MemorySink::new(alloc, vec![in alloc; put]?);
     let mut err = MemorySink::new(alloc, Vec::new(alloc));
     let status = votes_main(alloc, owned.as_slice(), &mut source, &mut out, &mut err);
-    Ok(Call { status, out, err })
+    Ok(Ended { status, out, err })
 }
 
-fn is_so(call: &Call, status: u8, out: &str, err: &str) -> bool {
+fn is_so(call: &Ended, status: u8, out: &str, err: &str) -> bool {
     call.status == status && call.out.held() == out.as_bytes() && call.err.held() == err.as_bytes()
 }
 
