@@ -17,7 +17,7 @@ pub const USAGE: &[u8; 25] = b"usage: hb_votes [--full]\n";
 /// What it says where the input can't be read.
 pub const READ_FAILED: &[u8; 12] = b"read failed\n";
 
-/// What it says where the output can't be written, unless its reader has closed it.
+/// What a program may say where the output can't be written. `votes_main` does not.
 pub const WRITE_FAILED: &[u8; 13] = b"write failed\n";
 
 /// What `hb_votes` says for want of memory, on its error sink.
