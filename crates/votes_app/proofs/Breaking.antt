@@ -1,18 +1,18 @@
 -- Texts in which a line breaks the form.
-use Rattle.std.proofs.Common.{◌≡◌, ◌⊎◌, ℕ, ◌+◌, ◌^◌, ◌<◌, ◌≤◌, Bool, true, false, List, [], ◌∷◌, ◌++◌, length, Option, Some, Err, All, refl, sym, ap, subst, ◌∙◌, inl, inr, arith, append_assoc, append-nil, length-append}
+use Rattle.std.proofs.Common.{◌≡◌, ℕ, ◌+◌, ◌^◌, ◌<◌, ◌≤◌, Bool, true, false, List, [], ◌∷◌, ◌++◌, length, Option, Some, All, refl, sym, ap, subst, ◌∙◌, inl, inr, arith, append_assoc, append-nil, length-append}
 use Rattle.std.proofs.KnownBytes.{Consumes-trans}
-use Rattle.std.specs.Io.KnownBytes.{Consumes, IsAtEnd}
+use Rattle.std.specs.Io.KnownBytes.{IsAtEnd}
 use Rattle.hb_base.specs.Numbers.{Numbers}
 use Rattle.hb_wire.specs.declared.post.Post.{Post}
 use Rattle.input_reader.specs.Streams.{SourceView}
 use Rattle.ledger_text.specs.Lines.{end_line}
 use Rattle.trace_text.specs.Text.{trace_line, posts_text}
-use Rattle.trace_reader.specs.Trace.{longest_trace, IsConfig, IsPost, IsBegun, HasNoHead, BreaksAt}
+use Rattle.trace_reader.specs.Trace.{longest_trace, IsConfig, IsPost, HasNoHead, BreaksAt}
 use Rattle.vote_words.specs.declared.detail.Detail.{Detail}
 use Rattle.vote_words.specs.Words.{posts_in_words}
 use Rattle.votes_app.specs.Printing.{Breaks}
 use Rattle.votes_app.specs.Steps.{Moves, Shows, HasNoPost, HasNoEnd, GoesOn}
-use Rattle.votes_app.specs.Streams.{SinkView, HasPut}
+use Rattle.votes_app.specs.Streams.{SinkView}
 use Rattle.votes_app.specs.Window.{Span}
 use Rattle.votes_app.proofs.LineEnds.{no_post_more, no_end_more, no_head_more}
 use Rattle.votes_app.proofs.Puts.{has_put_nothing}

@@ -1,5 +1,5 @@
 -- The lines that the readers of a history give.
-use Rattle.std.proofs.Common.{◌≡◌, ℕ, ◌+◌, ◌-◌, ◌<◌, ◌≤◌, Bool, true, false, eqb, List, [], ◌∷◌, ◌++◌, length, drop, Option, Some, None, refl, sym, ap, subst, ◌∙◌, arith, append-nil, length-append}
+use Rattle.std.proofs.Common.{◌≡◌, ℕ, ◌-◌, ◌≤◌, true, false, eqb, List, [], ◌∷◌, ◌++◌, length, drop, Some, None, refl, sym, ap, subst, ◌∙◌, arith, append-nil, length-append}
 use Rattle.std.proofs.KnownBytes.{Consumes-nil}
 use Rattle.std.proofs.lemmas.Bool.{eqb-true}
 use Rattle.std.specs.Io.KnownBytes.{Consumes, Appends}
@@ -10,7 +10,6 @@ use Rattle.input_reader.specs.Streams.{SourceView, IsFaultless}
 use Rattle.ledger_text.specs.Lines.{end_line}
 use Rattle.trace_text.specs.Text.{post_line}
 use Rattle.trace_reader.specs.Reading.{post_at, end_at}
-use Rattle.trace_reader.specs.Trace.{IsPost}
 use Rattle.trace_reader.proofs.Fields.{after_takes, after_again}
 use Rattle.trace_reader.proofs.PostLines.{reads_post}
 use Rattle.trace_reader.proofs.Whole.{no_more}

@@ -1,5 +1,5 @@
 -- Lines that are told.
-use Rattle.std.proofs.Common.{inl, inr, ℕ, ◌+◌, ◌≤◌, List, [], ◌++◌, length, take, Result, Ok, Err, refl, ◌∙◌, arith, length-append}
+use Rattle.std.proofs.Common.{inl, inr, ℕ, ◌+◌, List, [], ◌++◌, length, take, Result, Ok, Err, refl, ◌∙◌, arith, length-append}
 use Rattle.std.proofs.KnownBytes.{Appends-nil, Appends-trans}
 use Rattle.std.proofs.Math.Seq.{take-append-add}
 use Rattle.hb_base.specs.Outside.{HasCause, Puts}

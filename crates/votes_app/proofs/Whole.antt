@@ -1,5 +1,5 @@
 -- From the steps to the whole.
-use Rattle.std.proofs.Common.{◌≡◌, ◌⊎◌, ℕ, ◌+◌, ◌≤◌, Bool, List, [], ◌∷◌, ◌++◌, length, Option, Some, Result, Ok, Err, All, refl, sym, ap, subst, ◌∙◌, inl, inr, arith, append_assoc, append-nil, length-append}
+use Rattle.std.proofs.Common.{◌≡◌, ℕ, ◌+◌, List, [], ◌++◌, length, Err, All, refl, sym, ap, subst, ◌∙◌, inl, inr, arith, append_assoc, append-nil}
 use Rattle.std.proofs.KnownBytes.{Consumes-trans}
 use Rattle.std.proofs.lemmas.List.Elements.{All-nil}
 use Rattle.std.specs.Io.KnownBytes.{Consumes}
@@ -14,7 +14,7 @@ use Rattle.vote_words.specs.declared.detail.Detail.{Detail}
 use Rattle.vote_words.specs.Words.{posts_in_words, begun_in_words, history_in_words}
 use Rattle.votes_app.specs.declared.fault.VotesFault.{VotesFault}
 use Rattle.votes_app.specs.declared.fault.VotesFault.TheVariants.{ReadFault, TooLong, NotATrace, Memory, WriteFault}
-use Rattle.votes_app.specs.Printing.{IsPrinted, IsFront, IsPart, PrintsVotes}
+use Rattle.votes_app.specs.Printing.{IsPrinted, IsPart, PrintsVotes}
 use Rattle.votes_app.specs.Steps.{Moves, Stops, PutsUpTo, TakesLine, IsHead, ArePrinted, StopsIn, IsEnd}
 use Rattle.votes_app.specs.Streams.{SinkView, HasPut, FailsWithin}
 use Rattle.votes_app.specs.Window.{Span}

@@ -1,8 +1,7 @@
-use Rattle.std.proofs.Common.{◌≡◌, ◌+◌, ◌<◌, ◌≤◌, List, [], ◌∷◌, ◌++◌, length, refl, sym, ap, ◌∙◌, arith, length-append}
+use Rattle.std.proofs.Common.{[], ◌∷◌, ◌++◌, refl, arith, length-append}
 use Rattle.std.proofs.lemmas.Result.{err_from_is_err_and}
-use Rattle.hb_wire.specs.declared.post.Post.{Post}
-use Rattle.input_reader.specs.Streams.{SourceView, source_view}
-use Rattle.votes_app.specs.Streams.{SinkView, sink_view}
+use Rattle.input_reader.specs.Streams.{source_view}
+use Rattle.votes_app.specs.Streams.{sink_view}
 use Rattle.votes_app.proofs.PostLemmas.{none_printed, more_taken, line_stops_in, post_stops_in, more_printed, less_left, posts_end}
 use Rattle.votes_app.proofs.posts.print_posts.Goals as goal
 

@@ -1,4 +1,4 @@
-use Rattle.std.proofs.Common.{◌≡◌, refl, sym, ap, ◌∙◌, inl, inr}
+use Rattle.std.proofs.Common.{refl, sym, ap, ◌∙◌, inl, inr}
 use Rattle.input_reader.specs.Streams.{source_view}
 use Rattle.ledger_text.specs.Lines.{end_line}
 use Rattle.votes_app.specs.Streams.{sink_view}
