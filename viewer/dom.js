@@ -1,0 +1,77 @@
+// Makes elements of the page, and the hints that say what a word means.
+import { meaningOf, COLOURS, inkOn } from "./words.js";
+import { kindNamed } from "./votes.js";
+
+// An element with attributes and children; a child is an element or a text.
+export function element(tag, attributes = {}, ...children) {
+  const made = document.createElement(tag);
+  for (const [name, value] of Object.entries(attributes)) {
+    if (name.startsWith("on")) made.addEventListener(name.slice(2), value);
+    else if (value === true) made.setAttribute(name, "");
+    else if (value !== false && value !== null && value !== undefined) made.setAttribute(name, value);
+  }
+  made.append(...children.flat(Infinity).filter((child) => child !== null && child !== undefined));
+  return made;
+}
+
+// A word that shows its meaning where the pointer or the keyboard comes to it.
+export function word(text, name = text) {
+  return meaningOf(name) ? element("span", { class: "word", tabindex: "0", "data-word": name }, text) : text;
+}
+
+// The letter of a kind of vote on its colour.
+export function chip(name) {
+  const kind = kindNamed(name);
+  const colour = COLOURS[name];
+  return element("span", { class: `chip ${kind.group}`, style: `background:${colour};color:${inkOn(colour)}`, "aria-hidden": "true" }, kind.letter);
+}
+
+export function postLink(history, k, text = null) {
+  const name = history.kindName(k);
+  return element("a", { class: "post", href: `#post-${k}`, "data-word": name }, chip(name), text || `post ${k} of node ${history.from[k]}`);
+}
+
+// A table with a caption, the heads of its columns, and rows of cells, of which the first is a head.
+export function table(caption, heads, rows, attributes = {}) {
+  const head = element("tr", {}, heads.map((text) => element("th", { scope: "col" }, text)));
+  const body = rows.map((cells) => element("tr", {}, cells.map((cell, at) => element(at === 0 ? "th" : "td", at === 0 ? { scope: "row" } : {}, cell))));
+  return element("table", attributes, element("caption", {}, caption), element("thead", {}, head), element("tbody", {}, body));
+}
+
+// A count with its noun.
+export function counted(count, noun, plural = `${noun}s`) {
+  return `${count.toLocaleString("en")} ${count === 1 ? noun : plural}`;
+}
+
+function placeHint(hint, box) {
+  hint.hidden = false;
+  const left = Math.min(Math.max(8, box.left), window.innerWidth - hint.offsetWidth - 8);
+  const below = box.bottom + 6 + hint.offsetHeight < window.innerHeight;
+  hint.style.left = `${left}px`;
+  hint.style.top = `${below ? box.bottom + 6 : Math.max(8, box.top - hint.offsetHeight - 6)}px`;
+}
+
+// Shows a text beside a place of the window.
+export function showHint(title, text, box) {
+  const hint = document.getElementById("hint");
+  hint.replaceChildren(element("strong", {}, title), ` ${text}`);
+  placeHint(hint, box);
+}
+
+export function hideHint() {
+  document.getElementById("hint").hidden = true;
+}
+
+// Words show their hints under the pointer and with the focus of the keyboard; Escape hides them.
+export function followWords() {
+  const show = (event) => {
+    const found = event.target instanceof Element ? event.target.closest("[data-word]") : null;
+    if (found) showHint(`${found.dataset.word}:`, meaningOf(found.dataset.word), found.getBoundingClientRect());
+    else if (!(event.target instanceof HTMLCanvasElement)) hideHint();
+  };
+  document.addEventListener("mouseover", show);
+  document.addEventListener("focusin", show);
+  document.addEventListener("keydown", (event) => {
+    if (event.key === "Escape") hideHint();
+  });
+}

@@ -1,0 +1,257 @@
+// Draws the rows in sight: the texts of each post, its letter at the node that said it, and an arrow to each node that its
+// address reaches.
+import { COLOURS, inkOn } from "./words.js";
+import { KIND_LIST, bitsText } from "./votes.js";
+import { HEAD, TEXT_HEIGHT } from "./layout.js";
+import { NO_ROUND } from "./history.js";
+
+const INK = "#1b1b1b";
+const FAINT = "#5c5c5c";
+const MARKS = { illegal: "#b00020", contradiction: "#6a1b9a" };
+const FONT = '"DejaVu Sans", "Segoe UI", system-ui, sans-serif';
+
+// What a post says beside kind, epoch and round.
+export function saysText(history, k) {
+  const kind = KIND_LIST[history.kind[k]];
+  if (kind.fields.includes("bits")) return bitsText(history.says[k]);
+  if (kind.fields.includes("bit")) return `bit ${history.says[k]}`;
+  return kind.fields.includes("target") ? `for ${history.says[k]}` : "";
+}
+
+export class Drawing {
+  constructor(canvas, world, layout) {
+    Object.assign(this, { canvas, world, layout, history: world.history });
+    this.pen = canvas.getContext("2d", { alpha: false });
+  }
+
+  resize() {
+    const scale = window.devicePixelRatio || 1;
+    const { clientWidth, clientHeight } = this.canvas;
+    this.canvas.width = Math.round(clientWidth * scale);
+    this.canvas.height = Math.round(clientHeight * scale);
+    this.layout.resize(clientWidth, clientHeight);
+    this.scale = scale;
+  }
+
+  // `view` has the list of posts that are shown, the top row, the selected post and those on which it rests.
+  draw(view) {
+    const { pen, layout } = this;
+    pen.setTransform(this.scale, 0, 0, this.scale, 0, 0);
+    pen.fillStyle = "#ffffff";
+    pen.fillRect(0, 0, layout.width, layout.height);
+    this.drawColumns();
+    const first = Math.max(0, Math.floor(view.top));
+    const last = Math.min(view.list.length, Math.ceil(view.top + layout.rows) + 1);
+    for (let place = first; place < last; place += 1) this.drawRow(view, place);
+    this.drawHead();
+  }
+
+  drawColumns() {
+    const { pen, layout, world } = this;
+    for (let node = 0; node < layout.nodes; node += 1) {
+      const state = world.nodeState(node);
+      const left = layout.nodeX(node) - layout.columnWidth() / 2 + 2;
+      const width = layout.columnWidth() - 4;
+      if (state === "liar") this.hatch(left, HEAD, width, layout.height - HEAD);
+      if (state === "ended") {
+        pen.fillStyle = "#ececec";
+        pen.fillRect(left, HEAD, width, layout.height - HEAD);
+      }
+      pen.strokeStyle = "#c9c9c9";
+      pen.lineWidth = 1;
+      pen.beginPath();
+      pen.moveTo(Math.round(layout.nodeX(node)) + 0.5, HEAD);
+      pen.lineTo(Math.round(layout.nodeX(node)) + 0.5, layout.height);
+      pen.stroke();
+    }
+  }
+
+  hatch(left, top, width, height) {
+    const { pen } = this;
+    pen.save();
+    pen.beginPath();
+    pen.rect(left, top, width, height);
+    pen.clip();
+    pen.strokeStyle = "#e3d3d3";
+    pen.lineWidth = 1;
+    pen.beginPath();
+    for (let y = top - width; y < top + height; y += 9) {
+      pen.moveTo(left, y + width);
+      pen.lineTo(left + width, y);
+    }
+    pen.stroke();
+    pen.restore();
+  }
+
+  drawHead() {
+    const { pen, layout, world } = this;
+    pen.fillStyle = "#f3f3f3";
+    pen.fillRect(0, 0, layout.width, HEAD);
+    pen.fillStyle = "#bbbbbb";
+    pen.fillRect(0, HEAD - 1, layout.width, 1);
+    pen.fillStyle = INK;
+    pen.font = `bold 12px ${FONT}`;
+    pen.textBaseline = "middle";
+    pen.textAlign = "left";
+    for (const [name, left] of layout.textColumns) pen.fillText(name, left, HEAD / 2);
+    pen.textAlign = "center";
+    const isWide = layout.columnWidth() >= 56;
+    for (let node = 0; node < layout.nodes; node += 1) {
+      const state = world.nodeState(node);
+      const isTold = state === "liar" || state === "ended";
+      pen.font = `bold 12px ${FONT}`;
+      pen.fillText(isWide ? `node ${node}` : `${node}`, layout.nodeX(node), isTold ? HEAD / 2 - 7 : HEAD / 2);
+      pen.font = `11px ${FONT}`;
+      if (isTold) pen.fillText(state, layout.nodeX(node), HEAD / 2 + 8);
+    }
+  }
+
+  drawRow(view, place) {
+    const { pen, layout } = this;
+    const k = view.list[place];
+    const y = layout.rowY(place, view.top);
+    this.drawBack(view, k, y);
+    pen.globalAlpha = 1;
+    if (layout.rowHeight >= TEXT_HEIGHT) this.drawTexts(k, y);
+    this.drawArrows(k, y + layout.rowHeight / 2);
+    this.drawChip(k, y + layout.rowHeight / 2);
+  }
+
+  // The ground of a row: whether it is selected, one of those on which the selected post rests, or marked.
+  drawBack(view, k, y) {
+    const { pen, layout, world } = this;
+    const height = layout.rowHeight;
+    const mark = world.marks.get(k);
+    if (k === view.selected || view.rests.has(k) || mark) {
+      pen.fillStyle = k === view.selected ? "#ffe9a8" : view.rests.has(k) ? "#e2f1e4" : "#f6e6f8";
+      pen.globalAlpha = k === view.selected ? 1 : 0.8;
+      pen.fillRect(0, y, layout.width, height);
+      pen.globalAlpha = 1;
+    }
+    if (k === view.selected || view.rests.has(k)) {
+      pen.fillStyle = k === view.selected ? "#8a6100" : "#2e7d32";
+      pen.fillRect(0, y, 4, Math.max(2, height - 1));
+    }
+    if (mark) {
+      pen.strokeStyle = MARKS[mark];
+      pen.lineWidth = 2;
+      pen.strokeRect(1, y + 1, layout.width - 2, Math.max(2, height - 2));
+    }
+  }
+
+  drawTexts(k, y) {
+    const { pen, layout, history } = this;
+    const kind = KIND_LIST[history.kind[k]];
+    const middle = y + layout.rowHeight / 2 + 0.5;
+    const isVote = kind.name !== "no vote";
+    const actor = history.actor[k];
+    const lane = actor < history.config.n ? `${actor}` : actor === history.config.n ? "desk" : `(${actor})`;
+    const round = history.round[k] === NO_ROUND ? "" : `${history.round[k]}`;
+    const texts = [`${k}`, kind.name, isVote ? `${history.epoch[k]}` : "", lane, round, isVote ? saysText(history, k) : ""];
+    pen.font = `${layout.rowHeight < 18 ? 11 : 12}px ${FONT}`;
+    pen.textBaseline = "middle";
+    pen.textAlign = "left";
+    texts.forEach((text, at) => {
+      pen.fillStyle = at === 0 ? FAINT : INK;
+      if (text) pen.fillText(text, layout.textColumns[at][1], middle);
+    });
+  }
+
+  drawArrows(k, y) {
+    const { pen, layout, history, world } = this;
+    const from = history.from[k];
+    const targets = world.reach.nodes(k).filter((node) => node !== from);
+    if (targets.length === 0 || from >= layout.nodes) return;
+    const colour = COLOURS[KIND_LIST[history.kind[k]].name];
+    pen.strokeStyle = colour === "#ffffff" ? FAINT : colour;
+    pen.lineWidth = layout.rowHeight >= 8 ? 1.5 : 1;
+    pen.globalAlpha = layout.rowHeight >= 8 ? 0.85 : 0.45;
+    pen.beginPath();
+    pen.moveTo(layout.nodeX(Math.min(from, ...targets)), y);
+    pen.lineTo(layout.nodeX(Math.max(from, ...targets)), y);
+    pen.stroke();
+    pen.globalAlpha = 1;
+    for (const node of targets) this.drawTip(k, node, y);
+  }
+
+  // The end of an arrow at a node: full where the post comes once, doubled, hollow where it is late, a cross where it is lost.
+  drawTip(k, node, y) {
+    const { pen, layout, history, world } = this;
+    const x = layout.nodeX(node);
+    if (layout.rowHeight < 8) {
+      pen.fillStyle = pen.strokeStyle;
+      pen.fillRect(x - 1.5, y - 1, 3, Math.min(3, layout.rowHeight));
+      return;
+    }
+    const shape = world.reach.shape(k, node);
+    const size = Math.min(5, layout.rowHeight / 3);
+    const towards = node > history.from[k] ? 1 : -1;
+    if (shape === "drop") this.drawCross(x - 7 * towards, y, size);
+    else this.drawHeadAt(x, y, size, towards, shape === "late");
+    if (shape === "twice") this.drawHeadAt(x - 6 * towards, y, size, towards, false);
+  }
+
+  drawHeadAt(x, y, size, towards, isHollow) {
+    const { pen } = this;
+    pen.beginPath();
+    pen.moveTo(x, y);
+    pen.lineTo(x - 1.6 * size * towards, y - size);
+    pen.lineTo(x - 1.6 * size * towards, y + size);
+    pen.closePath();
+    pen.fillStyle = isHollow ? "#ffffff" : pen.strokeStyle;
+    pen.fill();
+    pen.stroke();
+  }
+
+  drawCross(x, y, size) {
+    const { pen } = this;
+    const kept = pen.strokeStyle;
+    pen.strokeStyle = MARKS.illegal;
+    pen.lineWidth = 2;
+    pen.beginPath();
+    pen.moveTo(x - size, y - size);
+    pen.lineTo(x + size, y + size);
+    pen.moveTo(x - size, y + size);
+    pen.lineTo(x + size, y - size);
+    pen.stroke();
+    pen.strokeStyle = kept;
+    pen.lineWidth = 1.5;
+  }
+
+  // The letter of a post at its node. The form tells the group: broadcasts are square, agreements round, desks six-sided.
+  drawChip(k, y) {
+    const { pen, layout, history } = this;
+    const kind = KIND_LIST[history.kind[k]];
+    const x = history.from[k] < layout.nodes ? layout.nodeX(history.from[k]) : layout.gutter;
+    const size = Math.min(layout.rowHeight - 3, 19) / 2;
+    pen.fillStyle = COLOURS[kind.name];
+    if (size < 3) {
+      if (kind.name === "no vote") pen.fillStyle = MARKS.illegal;
+      pen.fillRect(x - 4, y - Math.max(1, size), 8, Math.max(2, 2 * size));
+      return;
+    }
+    pen.beginPath();
+    outline(pen, kind.group, x, y, size);
+    pen.fill();
+    pen.strokeStyle = kind.name === "no vote" ? MARKS.illegal : "rgba(0,0,0,0.55)";
+    pen.lineWidth = 1;
+    pen.stroke();
+    if (size < 5) return;
+    pen.fillStyle = inkOn(COLOURS[kind.name]);
+    pen.font = `bold ${Math.round(1.3 * size)}px ${FONT}`;
+    pen.textAlign = "center";
+    pen.textBaseline = "middle";
+    pen.fillText(kind.letter, x, y + 0.5);
+  }
+}
+
+function outline(pen, group, x, y, size) {
+  if (group === "agreement") pen.arc(x, y, size, 0, 2 * Math.PI);
+  else if (group === "desk") {
+    for (let corner = 0; corner < 6; corner += 1) {
+      const angle = (corner * Math.PI) / 3;
+      pen.lineTo(x + 1.15 * size * Math.cos(angle), y + 1.05 * size * Math.sin(angle));
+    }
+    pen.closePath();
+  } else pen.rect(x - size * 0.92, y - size * 0.92, 1.84 * size, 1.84 * size);
+}

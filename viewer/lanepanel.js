@@ -1,0 +1,107 @@
+// The panels of a lane and of a desk in an epoch: what it said, and what it lacks to go on.
+import { counted, element, postLink, table, word } from "./dom.js";
+import { leadingRoot } from "./broadcast_rules.js";
+import { asks } from "./scene.js";
+import { stateOf, stateText } from "./lanes.js";
+import { saysText } from "./drawing.js";
+import { NO_ROUND } from "./history.js";
+import { waysList } from "./postpanel.js";
+
+const SHOWN = 200;
+
+// The own posts of an actor in an epoch.
+function ownPosts(history, node, actor, epoch) {
+  return [...history.ofActor(actor, epoch)].filter((k) => history.from[k] === node);
+}
+
+function saidTable(history, posts) {
+  const rows = posts.slice(0, SHOWN).map((k) => [postLink(history, k, `post ${k}`), history.kindName(k), history.round[k] === NO_ROUND ? "" : `${history.round[k]}`, saysText(history, k)]);
+  return table(posts.length > SHOWN ? `The first ${SHOWN} of ${posts.length} posts` : "What it said", ["Post", "Vote", "Round", "Says"], rows);
+}
+
+// How many posts of others to this actor were lost on their way.
+function droppedPosts(world, node, actor, epoch) {
+  const { history, reach } = world;
+  return [...history.ofActor(actor, epoch)].filter((k) => history.from[k] !== node && reach.reaches(k, node, actor) && reach.shape(k, node) === "drop");
+}
+
+function droppedText(world, node, actor, epoch) {
+  const lost = droppedPosts(world, node, actor, epoch);
+  if (lost.length === 0) return null;
+  return element("p", { class: "alarm" }, `${counted(lost.length, "post")} of other nodes to this lane ${lost.length === 1 ? "was" : "were"} dropped by the scenario's links, the first is `, postLink(world.history, lost[0]), ".");
+}
+
+// A vote that the actor did not cast, with what it would have asked for.
+function lacking(world, node, actor, vote) {
+  return [`For ${vote.kind}${vote.bit === undefined ? "" : ` ${vote.bit}`}${vote.round === undefined ? "" : ` in round ${vote.round}`}`, world.rules.ways(node, actor, vote, world.history.count)];
+}
+
+// What a lane lacks in its broadcast, first the vote that comes first.
+function lackingBroadcast(world, scene) {
+  const { node, actor, epoch } = scene;
+  const found = [];
+  const root = leadingRoot(scene);
+  if (scene.ownVote("ECHO").length === 0) {
+    const vals = scene.heard((k) => scene.is(k, "VAL", undefined, node) && world.history.from[k] === actor);
+    found.push(["For ECHO", [{ text: "", parts: [asks(`a VAL of node ${actor} to this node whose branch leads to its root`, 1, vals)] }]]);
+  }
+  if (scene.ownVote("READY").length === 0 && root) found.push(lacking(world, node, actor, { kind: "READY", epoch, root }));
+  if (scene.ownVote("DELIVERED").length === 0) found.push(lacking(world, node, actor, { kind: "DELIVERED", epoch }));
+  return found;
+}
+
+// What a lane lacks to begin its agreement, or to go on in the round where it stands.
+function lackingAgreement(world, scene) {
+  const { node, actor, epoch } = scene;
+  const { version, rounds } = world.config;
+  const cell = world.lanes.cell(epoch, node, actor);
+  const round = cell.lastRound;
+  const need = (kind, more) => lacking(world, node, actor, { kind, epoch, ...more });
+  if (round < 0) return [need("EST", { round: 0, bit: 1 }), need("EST", { round: 0, bit: 0 })];
+  if (scene.ownVote("AUX", round).length === 0) return [0, 1].map((bit) => need("AUX", { round, bit }));
+  if (version === 2 && scene.ownVote("CONF", round).length === 0) return [1, 2].map((bits) => need("CONF", { round, bits }));
+  if (scene.ownVote("PICK", round).length === 0) return [1, 2].map((bits) => need("PICK", { round, bits }));
+  if (cell.spent) return [[`It went through all its ${counted(rounds, "round")}: in none did the coin fall on the bit that it picked.`, []]];
+  return [0, 1].map((bit) => need("DECIDED", { bit }));
+}
+
+function lackingList(history, found) {
+  return found.map(([title, ways]) => [element("h4", {}, title), ...waysList(history, ways)]);
+}
+
+// Fills the panel with a lane of a node in an epoch.
+export function lanePanel(world, epoch, node, lane) {
+  const { history } = world;
+  const cell = world.lanes.cell(epoch, node, lane);
+  const scene = world.rules.scene(node, lane, epoch);
+  const isOver = cell.decided >= 0 && (cell.bit === 0 || cell.delivered >= 0);
+  const found = isOver ? [] : [...(cell.delivered < 0 ? lackingBroadcast(world, scene) : []), ...(cell.decided < 0 ? lackingAgreement(world, scene) : [])];
+  const posts = ownPosts(history, node, lane, epoch);
+  const state = stateOf(cell);
+  return [
+    element("h2", {}, `Lane ${lane} of node ${node}, epoch ${epoch}`),
+    element("p", { class: "meaning" }, word(stateText(cell), state.name), ". ", `Here node ${node} works on the batch that node ${lane} proposed.`),
+    cell.decided >= 0 ? element("p", {}, "It decided with ", postLink(history, cell.decided), ".") : null,
+    droppedText(world, node, lane, epoch),
+    found.length > 0 && !history.isLiar(node) ? element("section", {}, element("h3", {}, "What it lacks at the end"), lackingList(history, found)) : null,
+    element("section", {}, element("h3", {}, "What it said"), posts.length > 0 ? saidTable(history, posts) : element("p", {}, "Nothing.")),
+  ];
+}
+
+// Fills the panel with the desk of a node in an epoch.
+export function deskPanel(world, epoch, node) {
+  const { history, config } = world;
+  const closing = world.lanes.closed(epoch, node);
+  const posts = ownPosts(history, node, config.n, epoch);
+  const lanes = Array.from({ length: config.n }, (_, lane) => {
+    const cell = world.lanes.cell(epoch, node, lane);
+    return [element("a", { href: `#lane-${epoch}-${node}-${lane}` }, `lane ${lane}`), stateText(cell)];
+  });
+  return [
+    element("h2", {}, `Desk of node ${node}, epoch ${epoch}`),
+    closing >= 0 ? element("p", { class: "meaning" }, "It closed the epoch with ", postLink(history, closing), ".") : element("p", { class: "alarm" }, "It did not close this epoch."),
+    closing < 0 && !history.isLiar(node) ? element("section", {}, element("h3", {}, "What it lacks at the end"), lackingList(history, [lacking(world, node, config.n, { kind: "CLOSED", epoch })])) : null,
+    table("Its lanes", ["Lane", "State"], lanes),
+    element("section", {}, element("h3", {}, "What it said"), posts.length > 0 ? saidTable(history, posts) : element("p", {}, "Nothing.")),
+  ];
+}

@@ -1,0 +1,44 @@
+// The words of the page with their meanings, the letters and colours of the votes, and the keys.
+import { chip, element, table } from "./dom.js";
+import { KIND_LIST } from "./votes.js";
+import { MEANINGS } from "./words.js";
+
+const KEYS = [
+  ["/", "go to the field for the number of a post"],
+  ["arrows up and down", "in the picture: the post before or after; in a grid: the cell above or below"],
+  ["arrows left and right", "in the picture: the post before or after of the same node; in a grid: the cell beside"],
+  ["page up, page down, home, end", "scroll the picture"],
+  ["+ and -", "zoom the picture"],
+  ["Enter", "from the picture to the panel of the selected post"],
+  ["Escape", "back to the picture, and hide a hint"],
+  ["Tab", "to the next link, filter or button"],
+];
+
+const GROUPS = { broadcast: "broadcast (square)", agreement: "agreement (round)", desk: "desk (six-sided)", none: "" };
+
+const PICTURE = [
+  ["full arrow", "the post reaches this node"],
+  ["two arrow heads", "it arrives twice"],
+  ["hollow arrow", "it comes late, when nothing else is left to deliver"],
+  ["red cross", "a link of the scenario drops it"],
+  ["letter without an arrow", "it goes to no other node: to the node's own desk or lanes, or to nobody"],
+  ["yellow row", "the selected post"],
+  ["green row", "a post on which the selected one rests"],
+  ["red frame", "the post that the audit names"],
+  ["purple frame", "a post that contradicts another of the same node"],
+  ["hatched column", "a liar"],
+  ["grey column", "a node that ended"],
+];
+
+export function fillWords(section) {
+  const kinds = KIND_LIST.map((kind) => [[chip(kind.name), ` ${kind.name}`], GROUPS[kind.group], MEANINGS.get(kind.name)]);
+  const isKind = new Set(KIND_LIST.map((kind) => kind.name));
+  const others = [...MEANINGS].filter(([name]) => !isKind.has(name)).sort(([one], [other]) => one.localeCompare(other));
+  section.append(
+    element("h2", {}, "Words and keys"),
+    element("h3", {}, "Votes"), table("Each kind of vote, with its letter", ["Vote", "Part", "Meaning"], kinds, { class: "words" }),
+    element("h3", {}, "The picture of a run"), table("What is drawn", ["Sign", "Meaning"], PICTURE, { class: "words" }),
+    element("h3", {}, "Keys"), table("Keys", ["Key", "What it does"], KEYS, { class: "words" }),
+    element("h3", {}, "Other words"), table("Words", ["Word", "Meaning"], others, { class: "words" }),
+  );
+}
