@@ -20,6 +20,19 @@ export class Coins {
     return this.known.get(key);
   }
 
+  // The coin of a round by the shares of correct nodes alone, which are good in a legal history; where they are too few, by
+  // all good shares. It takes no digests, so that it can be asked of all lanes.
+  quickBit(epoch, lane, round) {
+    const { history } = this;
+    const shares = new Map();
+    for (const k of history.ofActor(lane, epoch)) {
+      const from = history.from[k];
+      const isShare = history.kind[k] === COIN && history.round[k] === round && from < history.config.n;
+      if (isShare && !history.isLiar(from) && !shares.has(from)) shares.set(from, k);
+    }
+    return shares.size > history.config.f ? this.bitOf([...shares.values()]) : this.of(epoch, lane, round).bit;
+  }
+
   make(epoch, lane, round) {
     const { history } = this;
     const groups = new Map();

@@ -31,9 +31,17 @@ function spreadWords(block, at) {
   }
 }
 
+// One block. Plain variables: lists that are taken apart would make this many times slower.
 function compress(state, block, at) {
   spreadWords(block, at);
-  let [a, b, c, d, e, f, g, h] = state;
+  let a = state[0];
+  let b = state[1];
+  let c = state[2];
+  let d = state[3];
+  let e = state[4];
+  let f = state[5];
+  let g = state[6];
+  let h = state[7];
   for (let i = 0; i < 64; i += 1) {
     const one = (h + (rotate(e, 6) ^ rotate(e, 11) ^ rotate(e, 25)) + ((e & f) ^ (~e & g)) + CONSTANTS[i] + WORDS[i]) | 0;
     const two = ((rotate(a, 2) ^ rotate(a, 13) ^ rotate(a, 22)) + ((a & b) ^ (a & c) ^ (b & c))) | 0;
@@ -46,9 +54,14 @@ function compress(state, block, at) {
     b = a;
     a = (one + two) | 0;
   }
-  [a, b, c, d, e, f, g, h].forEach((word, i) => {
-    state[i] = (state[i] + word) | 0;
-  });
+  state[0] += a;
+  state[1] += b;
+  state[2] += c;
+  state[3] += d;
+  state[4] += e;
+  state[5] += f;
+  state[6] += g;
+  state[7] += h;
 }
 
 export function sha256(message) {
@@ -60,9 +73,7 @@ export function sha256(message) {
   const state = START.slice();
   for (let at = 0; at < padded.length; at += 64) compress(state, padded, at);
   const digest = new Uint8Array(32);
-  state.forEach((word, i) => {
-    for (let j = 0; j < 4; j += 1) digest[4 * i + j] = word >>> (24 - 8 * j);
-  });
+  for (let i = 0; i < 32; i += 1) digest[i] = state[i >> 2] >>> (24 - 8 * (i & 3));
   return digest;
 }
 

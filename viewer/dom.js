@@ -14,6 +14,11 @@ export function element(tag, attributes = {}, ...children) {
   return made;
 }
 
+// Puts children in the place of what an element has; what is null is left out.
+export function fill(parent, children) {
+  parent.replaceChildren(...children.flat(Infinity).filter((child) => child !== null && child !== undefined));
+}
+
 // A word that shows its meaning where the pointer or the keyboard comes to it.
 export function word(text, name = text) {
   return meaningOf(name) ? element("span", { class: "word", tabindex: "0", "data-word": name }, text) : text;

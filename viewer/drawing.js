@@ -22,6 +22,8 @@ export class Drawing {
   constructor(canvas, world, layout) {
     Object.assign(this, { canvas, world, layout, history: world.history });
     this.pen = canvas.getContext("2d", { alpha: false });
+    this.ground = document.createElement("canvas");
+    this.chips = new Map();
   }
 
   resize() {
@@ -31,28 +33,34 @@ export class Drawing {
     this.canvas.height = Math.round(clientHeight * scale);
     this.layout.resize(clientWidth, clientHeight);
     this.scale = scale;
+    this.ground.width = this.canvas.width;
+    this.ground.height = this.canvas.height;
+    this.paintGround(this.ground.getContext("2d", { alpha: false }));
   }
 
   // `view` has the list of posts that are shown, the top row, the selected post and those on which it rests.
   draw(view) {
     const { pen, layout } = this;
-    pen.setTransform(this.scale, 0, 0, this.scale, 0, 0);
-    pen.fillStyle = "#ffffff";
-    pen.fillRect(0, 0, layout.width, layout.height);
-    this.drawColumns();
+    pen.setTransform(1, 0, 0, 1, 0, 0);
+    pen.drawImage(this.ground, 0, 0);
+    pen.scale(this.scale, this.scale);
     const first = Math.max(0, Math.floor(view.top));
     const last = Math.min(view.list.length, Math.ceil(view.top + layout.rows) + 1);
     for (let place = first; place < last; place += 1) this.drawRow(view, place);
     this.drawHead();
   }
 
-  drawColumns() {
-    const { pen, layout, world } = this;
+  // What does not move: the columns of the nodes.
+  paintGround(pen) {
+    const { layout, world } = this;
+    pen.scale(this.scale, this.scale);
+    pen.fillStyle = "#ffffff";
+    pen.fillRect(0, 0, layout.width, layout.height);
     for (let node = 0; node < layout.nodes; node += 1) {
       const state = world.nodeState(node);
       const left = layout.nodeX(node) - layout.columnWidth() / 2 + 2;
       const width = layout.columnWidth() - 4;
-      if (state === "liar") this.hatch(left, HEAD, width, layout.height - HEAD);
+      if (state === "liar") hatch(pen, left, HEAD, width, layout.height - HEAD);
       if (state === "ended") {
         pen.fillStyle = "#ececec";
         pen.fillRect(left, HEAD, width, layout.height - HEAD);
@@ -64,23 +72,6 @@ export class Drawing {
       pen.lineTo(Math.round(layout.nodeX(node)) + 0.5, layout.height);
       pen.stroke();
     }
-  }
-
-  hatch(left, top, width, height) {
-    const { pen } = this;
-    pen.save();
-    pen.beginPath();
-    pen.rect(left, top, width, height);
-    pen.clip();
-    pen.strokeStyle = "#e3d3d3";
-    pen.lineWidth = 1;
-    pen.beginPath();
-    for (let y = top - width; y < top + height; y += 9) {
-      pen.moveTo(left, y + width);
-      pen.lineTo(left + width, y);
-    }
-    pen.stroke();
-    pen.restore();
   }
 
   drawHead() {
@@ -171,36 +162,42 @@ export class Drawing {
     pen.lineTo(layout.nodeX(Math.max(from, ...targets)), y);
     pen.stroke();
     pen.globalAlpha = 1;
-    for (const node of targets) this.drawTip(k, node, y);
+    pen.fillStyle = pen.strokeStyle;
+    if (layout.rowHeight >= 8) this.drawTips(k, targets, y);
+    else for (const node of targets) pen.fillRect(layout.nodeX(node) - 1.5, y - 1, 3, Math.min(3, layout.rowHeight));
   }
 
-  // The end of an arrow at a node: full where the post comes once, doubled, hollow where it is late, a cross where it is lost.
-  drawTip(k, node, y) {
+  // The ends of the arrows of a row: full where the post comes once, doubled, hollow where it is late, a cross where it is
+  // lost. All full ones are one path, which is drawn much faster.
+  drawTips(k, targets, y) {
     const { pen, layout, history, world } = this;
-    const x = layout.nodeX(node);
-    if (layout.rowHeight < 8) {
-      pen.fillStyle = pen.strokeStyle;
-      pen.fillRect(x - 1.5, y - 1, 3, Math.min(3, layout.rowHeight));
-      return;
-    }
-    const shape = world.reach.shape(k, node);
     const size = Math.min(5, layout.rowHeight / 3);
-    const towards = node > history.from[k] ? 1 : -1;
-    if (shape === "drop") this.drawCross(x - 7 * towards, y, size);
-    else this.drawHeadAt(x, y, size, towards, shape === "late");
-    if (shape === "twice") this.drawHeadAt(x - 6 * towards, y, size, towards, false);
+    const others = [];
+    pen.beginPath();
+    for (const node of targets) {
+      const x = layout.nodeX(node);
+      const towards = node > history.from[k] ? 1 : -1;
+      const shape = world.reach.links.length === 0 ? "once" : world.reach.shape(k, node);
+      if (shape === "once" || shape === "twice") addTip(pen, x, y, size, towards);
+      if (shape === "twice") addTip(pen, x - 6 * towards, y, size, towards);
+      if (shape === "drop" || shape === "late") others.push({ x, towards, shape });
+    }
+    pen.fill();
+    for (const { x, towards, shape } of others) {
+      if (shape === "drop") this.drawCross(x - 7 * towards, y, size);
+      else this.drawHollow(x, y, size, towards);
+    }
   }
 
-  drawHeadAt(x, y, size, towards, isHollow) {
+  drawHollow(x, y, size, towards) {
     const { pen } = this;
+    const kept = pen.fillStyle;
     pen.beginPath();
-    pen.moveTo(x, y);
-    pen.lineTo(x - 1.6 * size * towards, y - size);
-    pen.lineTo(x - 1.6 * size * towards, y + size);
-    pen.closePath();
-    pen.fillStyle = isHollow ? "#ffffff" : pen.strokeStyle;
+    addTip(pen, x, y, size, towards);
+    pen.fillStyle = "#ffffff";
     pen.fill();
     pen.stroke();
+    pen.fillStyle = kept;
   }
 
   drawCross(x, y, size) {
@@ -224,25 +221,52 @@ export class Drawing {
     const kind = KIND_LIST[history.kind[k]];
     const x = history.from[k] < layout.nodes ? layout.nodeX(history.from[k]) : layout.gutter;
     const size = Math.min(layout.rowHeight - 3, 19) / 2;
-    pen.fillStyle = COLOURS[kind.name];
-    if (size < 3) {
-      if (kind.name === "no vote") pen.fillStyle = MARKS.illegal;
+    if (size < 2.5) {
+      pen.fillStyle = kind.name === "no vote" ? MARKS.illegal : COLOURS[kind.name];
       pen.fillRect(x - 4, y - Math.max(1, size), 8, Math.max(2, 2 * size));
       return;
     }
-    pen.beginPath();
-    outline(pen, kind.group, x, y, size);
-    pen.fill();
-    pen.strokeStyle = kind.name === "no vote" ? MARKS.illegal : "rgba(0,0,0,0.55)";
-    pen.lineWidth = 1;
-    pen.stroke();
-    if (size < 5) return;
+    const side = 2 * size + 8;
+    pen.drawImage(this.chip(kind, size), x - side / 2, y - side / 2, side, side);
+  }
+
+  // The picture of a letter, made once for each kind and size.
+  chip(kind, size) {
+    const key = `${kind.name} ${size} ${this.scale}`;
+    if (!this.chips.has(key)) this.chips.set(key, paintChip(kind, size, this.scale));
+    return this.chips.get(key);
+  }
+}
+
+// Adds the end of an arrow to a path.
+function addTip(pen, x, y, size, towards) {
+  pen.moveTo(x, y);
+  pen.lineTo(x - 1.6 * size * towards, y - size);
+  pen.lineTo(x - 1.6 * size * towards, y + size);
+  pen.closePath();
+}
+
+function paintChip(kind, size, scale) {
+  const side = 2 * size + 8;
+  const picture = document.createElement("canvas");
+  picture.width = Math.ceil(side * scale);
+  picture.height = picture.width;
+  const pen = picture.getContext("2d");
+  pen.scale(picture.width / side, picture.height / side);
+  pen.beginPath();
+  outline(pen, kind.group, side / 2, side / 2, size);
+  pen.fillStyle = COLOURS[kind.name];
+  pen.fill();
+  pen.strokeStyle = kind.name === "no vote" ? MARKS.illegal : "rgba(0,0,0,0.55)";
+  pen.stroke();
+  if (size >= 5) {
     pen.fillStyle = inkOn(COLOURS[kind.name]);
     pen.font = `bold ${Math.round(1.3 * size)}px ${FONT}`;
     pen.textAlign = "center";
     pen.textBaseline = "middle";
-    pen.fillText(kind.letter, x, y + 0.5);
+    pen.fillText(kind.letter, side / 2, side / 2 + 0.5);
   }
+  return picture;
 }
 
 function outline(pen, group, x, y, size) {
@@ -254,4 +278,20 @@ function outline(pen, group, x, y, size) {
     }
     pen.closePath();
   } else pen.rect(x - size * 0.92, y - size * 0.92, 1.84 * size, 1.84 * size);
+}
+
+function hatch(pen, left, top, width, height) {
+  pen.save();
+  pen.beginPath();
+  pen.rect(left, top, width, height);
+  pen.clip();
+  pen.strokeStyle = "#e3d3d3";
+  pen.lineWidth = 1;
+  pen.beginPath();
+  for (let y = top - width; y < top + height; y += 9) {
+    pen.moveTo(left, y + width);
+    pen.lineTo(left + width, y);
+  }
+  pen.stroke();
+  pen.restore();
 }

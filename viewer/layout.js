@@ -5,8 +5,8 @@ export const HEAD = 34;
 // from this height on a row has its texts
 export const TEXT_HEIGHT = 14;
 
-const COLUMNS = [["post", 8, 56], ["vote", 66, 92], ["epoch", 158, 40], ["lane", 200, 36], ["round", 238, 42], ["says", 282, 50]];
-const GUTTER = 336;
+const COLUMNS = [["post", 8], ["vote", 66], ["epoch", 152], ["lane", 202], ["round", 242], ["says", 292]];
+const GUTTER = 342;
 
 export class Layout {
   constructor(nodes) {

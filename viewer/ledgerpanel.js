@@ -1,5 +1,5 @@
 // The ledgers of the nodes side by side, epoch by epoch; equal ones are folded into one with the nodes' names.
-import { counted, element, postLink } from "./dom.js";
+import { counted, element, fill, postLink } from "./dom.js";
 import { equalClosings, ledgerLines, ledgerOf, transactionText } from "./ledgers.js";
 
 // so many transactions of a batch are shown at once
@@ -52,10 +52,10 @@ export function fillLedgers(section, world) {
   const nodes = Array.from({ length: config.n }, (_, node) => node).filter((node) => !history.isLiar(node));
   const ledgers = new Map(nodes.map((node) => [node, ledgerOf(history, world.lanes, node)]));
   const liars = config.liars.length > 0 ? ` Nothing is shown of ${names(config.liars).replace("Node", "node")}, of whom nothing is promised.` : "";
-  section.append(
+  fill(section, [
     element("h2", {}, "Ledgers"),
     element("p", {}, `What the desks of the correct nodes closed. Equal lists stand in one column.${liars}`),
-    difference(world, ledgers, nodes) ?? "",
-    ...Array.from({ length: config.epochs }, (_, epoch) => epochSection(world, ledgers, epoch, nodes)),
-  );
+    difference(world, ledgers, nodes),
+    Array.from({ length: config.epochs }, (_, epoch) => epochSection(world, ledgers, epoch, nodes)),
+  ]);
 }

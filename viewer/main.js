@@ -1,5 +1,5 @@
 // Begins: reads the history, makes the views, and follows the address of the page, in which each view has its place.
-import { element, followWords } from "./dom.js";
+import { element, fill, followWords } from "./dom.js";
 import { decodeVote, voteText } from "./votes.js";
 import { readTrace } from "./loader.js";
 import { World } from "./world.js";
@@ -96,7 +96,7 @@ class Page {
   }
 
   fill(children) {
-    this.run.panel.replaceChildren(...children.flat().filter((child) => child !== null));
+    fill(this.run.panel, children);
     this.run.panel.scrollTop = 0;
   }
 

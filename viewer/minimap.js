@@ -60,7 +60,7 @@ export class Minimap {
     if (length === 0) return;
     const top = (view.top / length) * canvas.height;
     const height = Math.max(6, (Math.min(rows, length) / length) * canvas.height);
-    pen.fillStyle = "rgba(255,233,168,0.35)";
+    pen.fillStyle = "rgba(255,233,168,0.18)";
     pen.fillRect(0, top, canvas.width, height);
     pen.strokeStyle = "#1b1b1b";
     pen.lineWidth = 2;

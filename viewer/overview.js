@@ -1,5 +1,5 @@
 // The overview: what stands out in a run, its nodes, and a grid for each epoch with the state of each lane.
-import { counted, element, postLink, table, word } from "./dom.js";
+import { counted, element, fill, postLink, table, word } from "./dom.js";
 import { stateOf, stateText } from "./lanes.js";
 import { brokenRules } from "./liars.js";
 import { lieText, planTexts } from "./scenario.js";
@@ -22,22 +22,26 @@ function verdictItem(world) {
   return item("alarm", word("The audit", "audit"), ` found the history illegal: post ${verdict.post} may not follow those before it. `, shown);
 }
 
-function accusedItem(world, { node, posts: [first, second] }) {
-  return item("alarm", `Node ${node} contradicts itself: posts ${first} and ${second} cannot both be of a correct node. `,
-    element("a", { href: `#pair-${first}-${second}` }, "Show both side by side"));
+function pairLink(first, second) {
+  return element("a", { href: `#pair-${first}-${second}` }, `posts ${first} and ${second}`);
 }
 
-// A liar: how it lies, and, when it is found, the first posts that break a rule.
+// A node whose posts contradict each other though it is no liar: that is so only in a history that is not legal.
+function accusedItem({ node, posts: [first, second] }) {
+  return item("alarm", `Node ${node} contradicts itself in `, pairLink(first, second), ".");
+}
+
+// A liar: how it lies, the two posts that convict it, and, when they are found, the first posts that break a rule.
 function liarItem(world, node) {
   const name = world.lieName(node);
-  const how = name ? ` (${name}): it ${lieText(name)}.` : ".";
-  const broken = element("span", {}, " Looking for posts that break a rule …");
-  const said = world.history.from.includes(node);
+  const accused = world.accused.find((one) => one.node === node);
+  const broken = element("span", {}, " …");
   brokenRules(world, node).then((posts) => {
-    const text = said ? " None of its posts breaks a rule." : " It said nothing.";
-    broken.replaceChildren(...(posts.length > 0 ? [" First posts, of each kind, that a correct node would not have been allowed: ", ...posts.flatMap((k) => [postLink(world.history, k), " "])] : [text]));
+    if (posts.length > 0) broken.replaceChildren(" First posts of each kind that break a rule: ", ...posts.flatMap((k) => [postLink(world.history, k, `${k}`), " "]));
+    else broken.textContent = world.history.from.includes(node) ? " None of its posts breaks a rule." : "";
   });
-  return item("liar", `Node ${node} is a `, word("liar"), how, broken);
+  return item(accused ? "liar alarm" : "liar", `Node ${node} is a `, word("liar"), name ? ` (${name}): it ${lieText(name)}.` : ".",
+    accused ? [" It contradicts itself in ", pairLink(...accused.posts), "."] : null, broken);
 }
 
 function endedItem(world, node) {
@@ -62,7 +66,7 @@ function findings(world) {
   const nodes = Array.from({ length: config.n }, (_, node) => node);
   const found = [];
   if (fault) found.push(item("alarm", `Line ${fault.line} of the history is none: ${fault.reason}. What came before it is shown. `, fault.text ? element("code", {}, fault.text) : ""));
-  found.push(verdictItem(world), ...world.accused.map((one) => accusedItem(world, one)));
+  found.push(verdictItem(world), ...world.accused.filter(({ node }) => !world.history.isLiar(node)).map(accusedItem));
   for (const node of nodes) {
     const state = world.nodeState(node);
     if (state === "liar") found.push(liarItem(world, node));
@@ -82,7 +86,7 @@ function nodeTable(world) {
     const shown = state === "unknown" ? "correct" : state;
     return [`node ${node}`, [word(shown, state), lie ? ` (${lie})` : ""], history.isLiar(node) ? "–" : `${world.lanes.closedCount(node)} of ${config.epochs}`, count.toLocaleString("en")];
   });
-  return table("Nodes", ["Node", "State", "Epochs closed", "Posts"], rows, { class: "nodes" });
+  return table("The nodes of the run", ["Node", "State", "Epochs closed", "Posts"], rows, { class: "nodes" });
 }
 
 function laneCell(world, epoch, node, lane, isFirst) {
@@ -109,8 +113,8 @@ function grid(world, epoch) {
       lanes.map((lane) => laneCell(world, epoch, node, lane, node === 0 && lane === 0)), deskCell(world, epoch, node));
   });
   return element("section", { class: "epoch", style: `contain-intrinsic-size:auto ${n * 44 + 110}px auto ${n * 25 + 70}px` },
-    element("h3", { id: `epoch-${epoch}` }, `Epoch ${epoch}`),
-    element("table", { class: "grid", onkeydown: moveInGrid }, element("caption", { class: "unseen" }, `Epoch ${epoch}: a row for each node, a column for each lane`), element("thead", {}, head), element("tbody", {}, rows)));
+    element("h4", {}, `Epoch ${epoch}`),
+    element("table", { class: n > 8 ? "grid many" : "grid", onkeydown: moveInGrid }, element("caption", { class: "unseen" }, `Epoch ${epoch}: a row for each node, a column for each lane`), element("thead", {}, head), element("tbody", {}, rows)));
 }
 
 // Arrow keys move from cell to cell of a grid.
@@ -129,7 +133,7 @@ function moveInGrid(event) {
 function legend() {
   const states = STATES.map((name) => element("li", {}, element("span", { class: `swatch ${STYLES[name]}` }, SIGNS[name]), word(name)));
   return element("ul", { class: "legend" }, states, element("li", {}, element("span", { class: "swatch closed" }, "✓"), word("closed")),
-    element("li", {}, element("span", { class: "swatch liar" }, " "), word("liar")), element("li", {}, element("span", { class: "swatch ended" }, " "), word("ended")), element("li", {}, "r0: the round in which it decided"));
+    element("li", {}, element("span", { class: "swatch liar" }, "\u00a0"), word("liar")), element("li", {}, element("span", { class: "swatch ended" }, "\u00a0"), word("ended")), element("li", {}, "r0: the round in which it decided"));
 }
 
 function summary(world) {
@@ -145,14 +149,25 @@ function plans(world) {
   return element("section", {}, element("h3", {}, "What the scenario plans"), element("ul", {}, texts.map((text) => element("li", {}, text))));
 }
 
+// Adds the grids of all epochs, some at a time, so that the first are there at once.
+function addGrids(place, world, first) {
+  const last = Math.min(first + 2, world.config.epochs);
+  for (let epoch = first; epoch < last; epoch += 1) place.append(grid(world, epoch));
+  if (last < world.config.epochs) setTimeout(() => addGrids(place, world, last));
+}
+
 export function fillOverview(section, world) {
   const workers = world.scenario && world.scenario.workers > 0;
-  section.append(
+  const grids = element("div", { class: "epochs" });
+  fill(section, [
     element("h2", {}, "Overview"), summary(world),
     workers ? element("p", { class: "note" }, "The scenario has workers: each run has another history. This is one of them.") : null,
     element("section", {}, element("h3", {}, "What stands out"), findings(world)),
-    element("div", { class: "beside" }, nodeTable(world), plans(world)),
-    element("section", {}, element("h3", {}, "How far each lane came"), element("p", {}, "A row for each node, a column for each lane. A click opens the lane; within a grid the arrow keys move."), legend()),
-    element("div", { class: "epochs" }, Array.from({ length: world.config.epochs }, (_, epoch) => grid(world, epoch))),
-  );
+    element("div", { class: "beside" },
+      element("section", { class: "nodes-part" }, element("h3", {}, "Nodes"), nodeTable(world), plans(world)),
+      element("section", { class: "lanes-part" }, element("h3", {}, "How far each lane came"),
+        element("p", { class: "note" }, "A row for each node, a column for each lane. A click opens the lane; within a grid the arrow keys move."),
+        legend(), grids)),
+  ]);
+  addGrids(grids, world, 0);
 }

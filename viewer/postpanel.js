@@ -1,29 +1,42 @@
 // The panel of one post: what it says, whom it reaches, and why it was allowed.
 import { chip, counted, element, postLink, table, word } from "./dom.js";
 import { addressText, addressWord } from "./reach.js";
-import { bitsText, hexOf, kindNamed } from "./votes.js";
+import { bitsText, decodeBatch, hexOf, kindNamed } from "./votes.js";
+import { transactionText } from "./ledgers.js";
 import { meaningOf } from "./words.js";
 import { lieText } from "./scenario.js";
 
 const SHOWN_HEX = 400;
 const SHOWN_POSTS = 20;
+const SHOWN_TRANSACTIONS = 3;
 const SHAPES = { once: "arrives", twice: "arrives twice", late: "arrives late", drop: "is dropped on the way" };
 
 function shortHex(history, place) {
   const text = hexOf(history.bytes, place, 8);
-  return place.length > 8 ? `${text}… (${counted(place.length, "byte")})` : text || "no bytes";
+  return place.length > 8 ? `${text}… (${place.length.toLocaleString("en")} bytes)` : text || "no bytes";
+}
+
+// The transactions of a batch: how many there are, and the first few.
+function batchText(history, place) {
+  const transactions = decodeBatch(history.bytes, place);
+  if (transactions.length === 0) return `no transactions (${place.length} bytes)`;
+  const first = transactions.slice(0, SHOWN_TRANSACTIONS).map((one) => transactionText(hexOf(history.bytes, one)));
+  const more = transactions.length > first.length ? " …" : "";
+  return `${counted(transactions.length, "transaction")}: ${first.join(", ")}${more}`;
 }
 
 // The value of a field, in words.
 function fieldCell(history, vote, field) {
   const part = vote[field];
   if (field === "bits") return bitsText(part);
+  if (field === "root") return `${hexOf(history.bytes, part, 8)}…`;
   if (field === "target") return `node ${part}`;
-  if (field === "branch") return part.length === 0 ? "empty: there is one leaf" : `${counted(part.length / 32, "digest")}: ${shortHex(history, part)}`;
+  if (field === "branch") return part.length === 0 ? "empty: there is one leaf" : `${counted(part.length / 32, "digest")}: ${hexOf(history.bytes, part, 8)}…`;
   if (field === "items") {
     if (part.length === 0) return "no batches";
-    return element("ul", {}, part.map((item) => element("li", {}, `batch of node ${item.node}: ${shortHex(history, item.value)}`)));
+    return element("ul", {}, part.map((item) => element("li", {}, `batch of node ${item.node}: `, batchText(history, item.value))));
   }
+  if (field === "value") return batchText(history, part);
   return typeof part === "number" ? `${part}` : shortHex(history, part);
 }
 
@@ -129,6 +142,17 @@ export function postPanel(world, k, why) {
   ];
 }
 
+// In what two posts contradict each other.
+function contradictionText(history, first, second) {
+  const [one, other] = [first, second].map((k) => history.vote(k));
+  const name = history.kindName(first);
+  if (!one || !other || one.kind !== other.kind) return "";
+  const when = one.round === undefined ? `epoch ${one.epoch}` : `epoch ${one.epoch}, round ${one.round}`;
+  if (name !== "VAL") return `Both are its ${name} of ${when}, and they differ: it said two things where one may be said.`;
+  if (!history.samePart(one.root, other.root)) return `Both hand out shards of its batch of ${when}, but the roots differ: these are two batches.`;
+  return `Both are its shard of ${when} for node ${one.target}, and they differ.`;
+}
+
 // Fills the panel with two posts side by side; rows in which they differ are marked.
 export function pairPanel(world, first, second) {
   const { history } = world;
@@ -154,6 +178,7 @@ export function pairPanel(world, first, second) {
   const lie = world.lieName(node);
   return [
     element("h2", {}, `Node ${node} contradicts itself`),
+    element("p", { class: "alarm" }, contradictionText(history, first, second)),
     element("p", {}, "A correct node says only one of these two. Only liars are accused."),
     lie ? element("p", { class: "liar" }, `By the scenario node ${node} is a liar (${lie}): it ${lieText(lie)}.`) : null,
     element("table", { class: "pair" }, element("caption", {}, `Posts ${first} and ${second}`), element("thead", {}, head), element("tbody", {}, rows)),

@@ -16,6 +16,7 @@ export class RunView {
     this.layout = new Layout(world.config.n);
     this.view = { list: new Uint32Array(0), top: 0, selected: null, rests: new Set() };
     this.isDue = false;
+    this.isSized = false;
     this.build();
     this.filter({});
     new ResizeObserver(() => this.resize()).observe(this.canvas);
@@ -96,7 +97,7 @@ export class RunView {
   bringInSight() {
     const place = placeOf(this.view.list, this.view.selected);
     const { rows } = this.layout;
-    if (place < this.view.top + 1 || place > this.view.top + rows - 2) this.scrollTo(place - rows / 3);
+    if (place < this.view.top + 1 || place > this.view.top + rows - 2) this.scrollTo(Math.floor(place - rows / 3));
   }
 
   scrollTo(top) {
@@ -107,7 +108,7 @@ export class RunView {
 
   // Draws once before the next frame, however often it is asked for.
   redraw() {
-    if (this.isDue) return;
+    if (this.isDue || !this.isSized) return;
     this.isDue = true;
     requestAnimationFrame(() => {
       this.isDue = false;
@@ -118,7 +119,7 @@ export class RunView {
 
   resize() {
     if (this.canvas.clientWidth === 0) return;
-    const wasEmpty = this.layout.height === 0 || this.isSized !== true;
+    const wasEmpty = !this.isSized;
     this.isSized = true;
     this.drawing.resize();
     this.minimap.paint(this.view.list);
