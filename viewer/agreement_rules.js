@@ -8,10 +8,10 @@ const setOf = (bit) => bit + 1;
 // The coin of a round with the shares that this actor could hear.
 function coinPart(scene, round, bit) {
   const { f } = scene.config;
-  const coin = scene.world.coins.of(scene.epoch, scene.actor, round);
-  const heard = coin.shares.filter((k) => k < scene.before && scene.world.reach.arrives(k, scene.node, scene.actor));
+  const coin = scene.world.coins.bit(scene.epoch, scene.actor, round);
+  const heard = scene.world.coins.shares(scene.epoch, scene.actor, round).filter((k) => k < scene.before && scene.world.reach.arrives(k, scene.node, scene.actor));
   const parts = [asks(`good shares (COIN) of round ${round} from f + 1 = ${f + 1} nodes`, f + 1, heard)];
-  if (bit !== null && heard.length > f) parts.push(holds(`the coin of round ${round} is ${bit}; here it is ${coin.bit}`, coin.bit === bit));
+  if (bit !== null && heard.length > f) parts.push(holds(`the coin of round ${round} is ${bit}; here it is ${coin}`, coin === bit));
   return parts;
 }
 
@@ -82,9 +82,8 @@ export function restsOfPick(scene, vote) {
 export function restsOfCoin(scene, vote, k) {
   const parts = [asks(`its own PICK of round ${vote.round}`, 1, scene.ownVote("PICK", vote.round))];
   if (k !== undefined) {
-    const { shares } = scene.world.coins.of(scene.epoch, scene.actor, vote.round);
-    const isGood = shares.includes(k) || shares.some((other) => scene.history.sameBytes(other, k) && scene.history.from[other] === scene.node);
-    parts.push(holds("the share leads to the root to which the other shares of this round lead", isGood));
+    const root = scene.world.coins.deal.root(scene.epoch, scene.actor, vote.round);
+    parts.push(holds("the share, its salt and its branch lead to the root that was dealt for this round", scene.world.coins.isGood(k, root)));
   }
   return [{ text: "", parts }];
 }

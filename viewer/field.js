@@ -26,11 +26,6 @@ export function weightsAt(points, x) {
   });
 }
 
-// The value at a point of the polynomial through points and values.
-export function valueAt(points, values, x) {
-  return weightsAt(points, x).reduce((sum, weight, i) => sum ^ times(weight, values[i]), 0);
-}
-
 // All n shards of the codeword through k of them. Null where the shards differ in length.
 export function completeShards(indices, shards, n) {
   const size = shards[0].length;

@@ -6,22 +6,15 @@ const NONE = -1;
 
 // What the posts say of the lanes: one entry for each epoch, node and lane.
 export class Lanes {
-  // `coinOf` answers the coin of an epoch, a lane and a round.
-  constructor(history, coinOf) {
-    this.history = history;
+  constructor(history, coins) {
+    Object.assign(this, { history, coins });
     const { n, epochs } = history.config;
     this.cells = Array.from({ length: epochs * n * n }, () => ({
       begun: NONE, delivered: NONE, decided: NONE, bit: null, round: null, lastRound: NONE, spent: false, picks: [0, 0],
     }));
     this.closings = new Int32Array(epochs * n).fill(NONE);
     for (let k = 0; k < history.count; k += 1) this.note(k);
-    const known = new Map();
-    const kept = (epoch, lane, round) => {
-      const key = (epoch * n + lane) * 32 + round;
-      if (!known.has(key)) known.set(key, coinOf(epoch, lane, round));
-      return known.get(key);
-    };
-    this.cells.forEach((cell, place) => this.findRound(cell, place, kept));
+    this.cells.forEach((cell, place) => this.findRound(cell, place));
   }
 
   cell(epoch, node, lane) {
@@ -77,14 +70,14 @@ export class Lanes {
   }
 
   // The round of a decision: the first in which the lane picked the bit alone and whose coin is the bit.
-  findRound(cell, place, coinOf) {
+  findRound(cell, place) {
     if (cell.decided === NONE) return;
     cell.spent = false;
     const { n, rounds } = this.history.config;
     const epoch = Math.floor(place / (n * n));
     for (let round = 0; round < rounds && cell.round === null; round += 1) {
       const isPicked = (cell.picks[cell.bit] & (1 << round)) !== 0;
-      if (isPicked && coinOf(epoch, place % n, round) === cell.bit) cell.round = round;
+      if (isPicked && this.coins.bit(epoch, place % n, round) === cell.bit) cell.round = round;
     }
   }
 }

@@ -20,8 +20,7 @@ export class World {
     this.coins = new Coins(this.history);
     this.rules = new Rules(this.history, this.reach, this.coins);
     this.verdict = readVerdict(data.audit);
-    const isLegal = this.verdict !== null && this.verdict.legal;
-    this.lanes = new Lanes(this.history, (...place) => (isLegal ? this.coins.quickBit(...place) : this.coins.of(...place).bit));
+    this.lanes = new Lanes(this.history, this.coins);
     this.run = readRun(data.run);
     this.accused = this.findAccused();
     this.marks = this.findMarks();
