@@ -19,9 +19,10 @@ export function fill(parent, children) {
   parent.replaceChildren(...children.flat(Infinity).filter((child) => child !== null && child !== undefined));
 }
 
-// A word that shows its meaning where the pointer or the keyboard comes to it.
-export function word(text, name = text) {
-  return meaningOf(name) ? element("span", { class: "word", tabindex: "0", "data-word": name }, text) : text;
+// A word that shows its meaning where the pointer or the keyboard comes to it. Where a word stands many times the keyboard may
+// pass it by.
+export function word(text, name = text, isStop = true) {
+  return meaningOf(name) ? element("span", { class: "word", tabindex: isStop ? "0" : null, "data-word": name }, text) : text;
 }
 
 // The letter of a kind of vote on its colour.

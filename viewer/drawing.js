@@ -3,7 +3,7 @@
 import { COLOURS, inkOn } from "./words.js";
 import { KIND_LIST, bitsText } from "./votes.js";
 import { HEAD, TEXT_HEIGHT } from "./layout.js";
-import { NO_ROUND } from "./history.js";
+import { NO_KIND, NO_ROUND } from "./history.js";
 
 const INK = "#1b1b1b";
 const FAINT = "#5c5c5c";
@@ -104,6 +104,7 @@ export class Drawing {
     this.drawBack(view, k, y);
     pen.globalAlpha = 1;
     if (layout.rowHeight >= TEXT_HEIGHT) this.drawTexts(k, y);
+    else if (place % Math.ceil(TEXT_HEIGHT / layout.rowHeight) === 0) this.drawNumber(k, y);
     this.drawArrows(k, y + layout.rowHeight / 2);
     this.drawChip(k, y + layout.rowHeight / 2);
   }
@@ -146,6 +147,17 @@ export class Drawing {
       pen.fillStyle = at === 0 ? FAINT : INK;
       if (text) pen.fillText(text, layout.textColumns[at][1], middle);
     });
+  }
+
+  // Where rows are too low for texts, some have their number and epoch.
+  drawNumber(k, y) {
+    const { pen, layout, history } = this;
+    pen.font = `11px ${FONT}`;
+    pen.textBaseline = "middle";
+    pen.textAlign = "left";
+    pen.fillStyle = FAINT;
+    pen.fillText(`${k}`, layout.textColumns[0][1], y + layout.rowHeight / 2);
+    if (history.kind[k] !== NO_KIND) pen.fillText(`${history.epoch[k]}`, layout.textColumns[2][1], y + layout.rowHeight / 2);
   }
 
   drawArrows(k, y) {

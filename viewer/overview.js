@@ -84,7 +84,7 @@ function nodeTable(world) {
     const state = world.nodeState(node);
     const lie = world.lieName(node);
     const shown = state === "unknown" ? "correct" : state;
-    return [`node ${node}`, [word(shown, state), lie ? ` (${lie})` : ""], history.isLiar(node) ? "–" : `${world.lanes.closedCount(node)} of ${config.epochs}`, count.toLocaleString("en")];
+    return [`node ${node}`, [word(shown, state, false), lie ? ` (${lie})` : ""], history.isLiar(node) ? "–" : `${world.lanes.closedCount(node)} of ${config.epochs}`, count.toLocaleString("en")];
   });
   return table("The nodes of the run", ["Node", "State", "Epochs closed", "Posts"], rows, { class: "nodes" });
 }

@@ -55,7 +55,7 @@ export function meaningOf(word) {
 // The colour of each kind of vote. They differ in lightness too, and a letter always stands beside them.
 export const COLOURS = {
   PROPOSE: "#332288", VAL: "#0072b2", ECHO: "#56b4e9", READY: "#009e73", DELIVERED: "#00503c",
-  EST: "#f0e442", BVAL: "#e69f00", AUX: "#d55e00", CONF: "#8c8c2e", PICK: "#f3b6cf", COIN: "#882255", DECIDED: "#c051a8",
+  EST: "#f0e442", BVAL: "#e69f00", AUX: "#d55e00", CONF: "#117733", PICK: "#f3b6cf", COIN: "#882255", DECIDED: "#c051a8",
   NOMORE: "#7a7a7a", CLOSED: "#111111", "no vote": "#ffffff",
 };
 

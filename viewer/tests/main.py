@@ -5,6 +5,7 @@ import tempfile
 from pathlib import Path
 
 import browser
+import colours
 import decoding
 import pages
 import texts
@@ -37,8 +38,9 @@ def check_scenario(checks, driver, name, folder, shots):
         pages.check_filters(checks, shown, trace)
     pages.check_ledgers(checks, shown, ledgers)
     if name == "equivocating_liar":
-        pages.check_keys(checks, shown, trace)
         check_two_clicks(checks, driver, page)
+        pages.check_keys(checks, browser.Shown(driver, page), trace)
+        shown = browser.Shown(driver, page, shots)
     checks.same("the first post of a correct node without a reason", pages.first_without_reason(shown), None)
     pages.shoot_views(shown, trace)
     checks.same("errors on the console", shown.errors(), [])
@@ -119,6 +121,7 @@ def with_browser(checks, chromium, chromedriver, shots):
     try:
         with tempfile.TemporaryDirectory() as name:
             folder = Path(name)
+            colours.check(checks)
             check_command(checks, folder)
             for scenario in SCENARIOS:
                 check_scenario(checks, driver, scenario, folder, shots)

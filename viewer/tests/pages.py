@@ -155,10 +155,7 @@ def check_links(checks, shown, trace):
 
 def check_keys(checks, shown, trace):
     """The keyboard reaches views, grid, picture, panel, filters and the number of a post."""
-    shown.go("overview")
-    shown.wait("return document.querySelector('.grid td a')")
     reached = set()
-    shown.run("document.activeElement.blur()")
     for _ in range(60):
         shown.press("TAB")
         reached.add(shown.run("(document.activeElement.getAttribute('href') || document.activeElement.dataset.word || '').replace(/-.*/, '')"))

@@ -1,0 +1,78 @@
+"""Measures the page of a large run: how long it takes to open, and the longest frames while it is scrolled."""
+import json
+import random
+import subprocess
+import sys
+import tempfile
+from pathlib import Path
+
+import browser
+import texts
+
+# Scrolls by wheel events, one for each frame, and answers the times between frames, in milliseconds.
+SCROLL = """
+const [rows, frames, done] = arguments;
+const { run } = window.shownRun.page;
+const gaps = [];
+let last = null;
+function frame(now) {
+  if (last !== null) gaps.push(now - last);
+  last = now;
+  run.canvas.dispatchEvent(new WheelEvent("wheel", { deltaY: rows * run.layout.rowHeight, bubbles: true, cancelable: true }));
+  if (gaps.length < frames) requestAnimationFrame(frame);
+  else done(gaps);
+}
+requestAnimationFrame(frame);
+"""
+FRAMES = 200
+
+
+def largest():
+    """A scenario of 16 nodes and 32 epochs with transactions of 256 bytes, in which nobody lies."""
+    draw = random.Random(32)
+    submit = [{"node": node, "tx": draw.randbytes(256).hex()} for _ in range(120) for node in range(16)]
+    return json.dumps({"nodes": 16, "faulty": 5, "epochs": 32, "submit": submit})
+
+
+def make(folder):
+    """The page of that scenario."""
+    scenario, page = Path(folder, "largest.json"), Path(folder, "largest.html")
+    scenario.write_text(largest())
+    subprocess.run([texts.TOP / "tools" / "view", scenario, page], check=True)
+    return page
+
+
+def scrolled(shown, zoom, rows):
+    """The frames of a scroll at a zoom, by so many rows each."""
+    shown.run("(() => { const { run } = window.shownRun.page; run.zoom(-9); run.zoom(arguments[0]); run.scrollTo(0); })()", zoom)
+    return sorted(shown.driver.execute_async_script(SCROLL, rows, FRAMES))
+
+
+def measure(driver, page):
+    """Prints what was measured of a page."""
+    driver.set_script_timeout(300)
+    shown = browser.Shown(driver, page)
+    ready = shown.run("Number(document.documentElement.dataset.ready)")
+    shown.wait("return performance.timing.loadEventEnd")
+    load = shown.run("performance.timing.loadEventEnd - performance.timing.navigationStart")
+    posts = shown.run("window.shownRun.world.history.count")
+    print(f"page of {page.stat().st_size / 1e6:.1f} MB, {posts:,} posts")
+    print(f"load event {load / 1000:.1f} s after the start, first view {ready / 1000:.1f} s after the start")
+    shown.go("run")
+    for zoom, rows in ((0, 40), (2, 10), (4, 3), (4, 900), (6, 3)):
+        frames = scrolled(shown, zoom, rows)
+        print(f"zoom {zoom}, {rows} rows a frame: median {frames[len(frames) // 2]:.0f} ms, longest {frames[-1]:.0f} ms of {len(frames)} frames")
+
+
+def main():
+    """Measures the page that is named, or that of the large scenario."""
+    driver = browser.start(sys.argv[1], sys.argv[2])
+    try:
+        with tempfile.TemporaryDirectory() as folder:
+            measure(driver, Path(sys.argv[3]).resolve() if len(sys.argv) > 3 else make(folder))
+    finally:
+        driver.quit()
+
+
+if __name__ == "__main__":
+    main()
