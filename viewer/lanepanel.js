@@ -6,6 +6,7 @@ import { stateOf, stateText } from "./lanes.js";
 import { saysText } from "./drawing.js";
 import { NO_ROUND } from "./history.js";
 import { waysList } from "./postpanel.js";
+import { causeText } from "./texts.js";
 
 const SHOWN = 200;
 
@@ -16,7 +17,8 @@ function ownPosts(history, node, actor, epoch) {
 
 function saidTable(history, posts) {
   const rows = posts.slice(0, SHOWN).map((k) => [postLink(history, k, `post ${k}`), history.kindName(k), history.round[k] === NO_ROUND ? "" : `${history.round[k]}`, saysText(history, k)]);
-  return table(posts.length > SHOWN ? `The first ${SHOWN} of ${posts.length} posts` : "What it said", ["Post", "Vote", "Round", "Says"], rows);
+  const more = posts.length > SHOWN ? element("p", { class: "note" }, `The first ${SHOWN} of ${posts.length} posts.`) : null;
+  return [table("What it said", ["Post", "Vote", "Round", "Says"], rows, { class: "said" }), more];
 }
 
 // How many posts of others to this actor were lost on their way.
@@ -29,6 +31,12 @@ function droppedText(world, node, actor, epoch) {
   const lost = droppedPosts(world, node, actor, epoch);
   if (lost.length === 0) return null;
   return element("p", { class: "alarm" }, `${counted(lost.length, "post")} of other nodes to this lane ${lost.length === 1 ? "was" : "were"} dropped by the scenario's links, the first is `, postLink(world.history, lost[0]), ".");
+}
+
+// How an actor ended, if it did.
+function endedText(world, node, actor) {
+  const found = world.run ? world.run.nodes[node].ended.find((one) => one.actor === actor) : null;
+  return found ? element("p", { class: "alarm" }, `It ended for good: it ${causeText(found.cause)}.`) : null;
 }
 
 // A vote that the actor did not cast, with what it would have asked for.
@@ -82,10 +90,17 @@ export function lanePanel(world, epoch, node, lane) {
     element("h2", {}, `Lane ${lane} of node ${node}, epoch ${epoch}`),
     element("p", { class: "meaning" }, word(stateText(cell), state.name), ". ", `Here node ${node} works on the batch that node ${lane} proposed.`),
     cell.decided >= 0 ? element("p", {}, "It decided with ", postLink(history, cell.decided), ".") : null,
+    endedText(world, node, lane),
     droppedText(world, node, lane, epoch),
     found.length > 0 && !history.isLiar(node) ? element("section", {}, element("h3", {}, "What it lacks at the end"), lackingList(history, found)) : null,
     element("section", {}, element("h3", {}, "What it said"), posts.length > 0 ? saidTable(history, posts) : element("p", {}, "Nothing.")),
   ];
+}
+
+// What a desk lacks to close an epoch; without the lanes' decisions nothing can be said of their batches.
+function lackingClosed(world, epoch, node) {
+  const [title, ways] = lacking(world, node, world.config.n, { kind: "CLOSED", epoch });
+  return [[title, ways.map((way) => ({ ...way, parts: way.parts.filter((part) => part.need > 0) }))]];
 }
 
 // Fills the panel with the desk of a node in an epoch.
@@ -100,7 +115,8 @@ export function deskPanel(world, epoch, node) {
   return [
     element("h2", {}, `Desk of node ${node}, epoch ${epoch}`),
     closing >= 0 ? element("p", { class: "meaning" }, "It closed the epoch with ", postLink(history, closing), ".") : element("p", { class: "alarm" }, "It did not close this epoch."),
-    closing < 0 && !history.isLiar(node) ? element("section", {}, element("h3", {}, "What it lacks at the end"), lackingList(history, [lacking(world, node, config.n, { kind: "CLOSED", epoch })])) : null,
+    endedText(world, node, config.n),
+    closing < 0 && !history.isLiar(node) ? element("section", {}, element("h3", {}, "What it lacks at the end"), lackingList(history, lackingClosed(world, epoch, node))) : null,
     table("Its lanes", ["Lane", "State"], lanes),
     element("section", {}, element("h3", {}, "What it said"), posts.length > 0 ? saidTable(history, posts) : element("p", {}, "Nothing.")),
   ];

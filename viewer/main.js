@@ -86,12 +86,12 @@ class Page {
   }
 
   lane(epoch, node, lane) {
-    this.run.filter({ epoch: `${epoch}`, lane: `${lane}` });
+    this.run.showOnly({ epoch: `${epoch}`, lane: `${lane}` });
     this.fill(lanePanel(this.world, epoch, node, lane));
   }
 
   desk(epoch, node) {
-    this.run.filter({ epoch: `${epoch}`, lane: "desk" });
+    this.run.showOnly({ epoch: `${epoch}`, lane: "desk" });
     this.fill(deskPanel(this.world, epoch, node));
   }
 

@@ -65,13 +65,13 @@ function findings(world) {
   const { config, fault } = world;
   const nodes = Array.from({ length: config.n }, (_, node) => node);
   const found = [];
-  if (fault) found.push(item("alarm", `Line ${fault.line} of the history is none: ${fault.reason}. What came before it is shown. `, fault.text ? element("code", {}, fault.text) : ""));
+  if (fault) found.push(item("alarm", `Line ${fault.line} of the text is no line of a history: ${fault.reason}. What came before it is shown. `, fault.text ? element("code", {}, fault.text) : ""));
   found.push(verdictItem(world), ...world.accused.filter(({ node }) => !world.history.isLiar(node)).map(accusedItem));
   for (const node of nodes) {
     const state = world.nodeState(node);
     if (state === "liar") found.push(liarItem(world, node));
     if (state === "ended") found.push(endedItem(world, node));
-    if (state !== "liar" && world.lanes.closedCount(node) < config.epochs) found.push(openItem(world, node));
+    if (state !== "liar" && !fault && world.lanes.closedCount(node) < config.epochs) found.push(openItem(world, node));
   }
   return element("ul", { class: "findings" }, found);
 }

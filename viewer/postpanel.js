@@ -86,8 +86,9 @@ function verdictOf(world, k, why) {
 
 function whySection(world, k, why) {
   const { history } = world;
+  const title = why.met ? "Why it was allowed" : "Why it was not allowed";
   return element("section", {},
-    element("h3", {}, history.isLiar(history.from[k]) ? "What a correct node would need" : "Why it was allowed"),
+    element("h3", {}, history.isLiar(history.from[k]) ? "What a correct node would need" : title),
     verdictOf(world, k, why),
     why.again !== null ? element("p", {}, "It was said before, and an actor that was switched on again may repeat what it said: ", postLink(history, why.again)) : null,
     why.faults.length > 0 ? element("ul", { class: "parts" }, why.faults.map((part) => partItem(history, part))) : null,

@@ -79,6 +79,15 @@ export class RunView {
     this.scrollTo(placeOf(this.view.list, kept) - this.layout.rows / 3);
   }
 
+  // Shows the posts that pass these filters from the first on, and none is selected.
+  showOnly(wanted) {
+    this.view.selected = null;
+    this.view.rests = new Set();
+    this.number.value = "";
+    this.filter(wanted);
+    this.scrollTo(0);
+  }
+
   // Selects a post and brings it in sight; where the filters hide it they are cleared.
   choose(k, rests) {
     this.view.selected = k;

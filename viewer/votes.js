@@ -150,23 +150,26 @@ export function hexOf(bytes, place, most = Infinity) {
   return text;
 }
 
-// The vote in words: roots by their first eight hex digits, shards and values by length.
+// The vote in words: digests by their first eight hex digits, shards and values by length.
 export function voteText(bytes, vote) {
   if (!vote) return "no vote";
-  const kind = kindNamed(vote.kind);
   const words = [vote.kind, `epoch ${vote.epoch}`];
-  for (const field of kind.fields) words.push(fieldText(bytes, vote, field));
+  for (const field of kindNamed(vote.kind).fields) words.push(fieldText(bytes, field, vote[field]));
   return words.join(" ");
 }
 
-function fieldText(bytes, vote, field) {
-  const part = vote[field];
-  if (field === "root") return `root ${hexOf(bytes, part, 4)}`;
-  if (field === "bits") return `bits ${bitsText(part)}`;
-  if (field === "items") return `batches of ${part.map((item) => `node ${item.node} (${item.value.length} bytes)`).join(", ") || "nobody"}`;
-  if (field === "branch") return `branch of ${part.length / 32} digests`;
-  if (typeof part === "number") return `${field} ${part}`;
-  return `${field} of ${part.length} bytes`;
+function fieldText(bytes, field, part) {
+  if (field === "bits") return `bits ${[0, 1].filter((bit) => hasBit(part, bit)).join(" ")}`;
+  if (field === "items") return [`values ${part.length}`, ...part.map((item) => `node ${item.node} value length ${item.value.length}`)].join(" ");
+  if (field === "root" || field === "salt") return `${field} ${hexOf(bytes, part, 4)}`;
+  if (field === "branch") return `branch ${branchText(bytes, part)}`;
+  return typeof part === "number" ? `${field} ${part}` : `${field} length ${part.length}`;
+}
+
+// The digests of a branch from the bottom up, or a dash where there is none.
+function branchText(bytes, branch) {
+  const starts = Array.from({ length: branch.length / 32 }, (_, level) => ({ at: branch.at + 32 * level, length: 4 }));
+  return starts.map((start) => hexOf(bytes, start)).join(" ") || "-";
 }
 
 const BY_NAME = new Map([...KINDS.values()].map((kind) => [kind.name, kind]));

@@ -17,19 +17,18 @@ import bundle  # noqa: E402
 
 SCENARIOS = ["four_nodes", "equivocating_liar", "torn_stops", "version_2", "sixteen_nodes", "workers"]
 
-# Answers the vote of each hex string of a list, with its parts in hex.
+# Answers the vote of each hex string of a list, with its parts in hex, and the vote in words.
 HARNESS = """
-const { decodeVote, hexOf } = modules["votes.js"];
+const { decodeVote, hexOf, voteText } = modules["votes.js"];
 const plain = (bytes, part) => typeof part === "object" ? hexOf(bytes, part) : part;
 function named(hex, nodes, version) {
   const bytes = Uint8Array.from(hex.match(/../g) || [], (pair) => parseInt(pair, 16));
   const vote = decodeVote(bytes, 0, bytes.length, nodes, version);
-  if (!vote) return null;
-  const shown = {};
-  for (const [name, part] of Object.entries(vote)) {
+  const shown = vote && {};
+  for (const [name, part] of Object.entries(vote || {})) {
     shown[name] = name === "items" ? part.map((item) => [item.node, plain(bytes, item.value)]) : plain(bytes, part);
   }
-  return shown;
+  return [shown, voteText(bytes, vote)];
 }
 const answer = ({ strings, nodes, version }) => strings.map((hex) => named(hex, nodes, version));
 """
@@ -71,43 +70,26 @@ def has_votes():
     return "--votes" in (texts.TOP / "run").read_text()
 
 
-def words_of(line):
-    """The kind and the numbers of a line of `--votes`: the vote stands behind the first colon."""
-    said = line.partition(": ")[2]
-    if said.startswith("no vote"):
-        return None
-    kind = said.split()[0].upper().replace("_", "")
-    return {"kind": kind, **{name: int(number) for name, number in re.findall(r"\b(epoch|round|bit|target) (\d+)", said)}}
-
-
-def against_program(strings, nodes, version, own):
-    """The strings of which `--votes` names another vote."""
+def by_program(strings, nodes, version):
+    """The votes in words as `./run --votes` prints them."""
     with tempfile.NamedTemporaryFile("w", suffix=".trace") as file:
         file.write(as_trace(strings, nodes, version))
         file.flush()
         lines = texts.program("--votes", file.name).splitlines()
-    told = [words_of(line) for line in lines if line.startswith("post ")]
-    assert len(told) == len(strings), f"--votes printed {len(told)} posts of {len(strings)}"
-    wrong = []
-    for data, one, other in zip(strings, own, told):
-        names = {"kind", *(other or {})}
-        if (one and {name: one[name] for name in names & one.keys()}) != other:
-            wrong.append(data.hex())
-    return wrong
+    return [line.partition(": ")[2] for line in lines if line.startswith("post ")]
 
 
-def check(trace, answer):
-    """What is wrong with the page's decoder on all posts of a history and on 200 broken byte strings."""
+def check_decoder(checks, trace, answer):
+    """The page's decoder on all posts of a history and on 200 broken byte strings."""
     strings = trace.bytes + votes.broken([data for data in trace.bytes if data], 200)
     own = [votes.decode(data, trace.nodes, trace.version) for data in strings]
-    question = {"strings": [data.hex() for data in strings], "nodes": trace.nodes, "version": trace.version}
-    found = answer(question)
-    wrong = [data.hex() for data, one, other in zip(strings, own, found) if one != other]
-    if sum(vote is None for vote in own[-200:]) < 100:
-        wrong.append("fewer than half of the broken strings are no vote")
+    checks.true("more than half of the broken strings are no vote", sum(vote is None for vote in own[-200:]) > 100)
+    found = answer({"strings": [data.hex() for data in strings], "nodes": trace.nodes, "version": trace.version})
+    words = [votes.words(vote) for vote in own]
+    differ = [data.hex() for data, vote, text, other in zip(strings, own, words, found) if [vote, text] != other]
+    checks.same("the strings that the page decodes otherwise", (len(found), differ), (len(strings), []))
     if has_votes():
-        wrong += against_program(strings, trace.nodes, trace.version, own)
-    return wrong
+        checks.same("the votes in words of ./run --votes", by_program(strings, trace.nodes, trace.version), words)
 
 
 class Checks:
@@ -132,11 +114,6 @@ class Checks:
         self.count += 1
         if found != wanted:
             self.fail(f"{text}: {str(found)[:300]} in the place of {str(wanted)[:300]}")
-
-
-def check_decoder(checks, trace, answer):
-    """The decoder on the posts of a history and on broken strings."""
-    checks.same("what the decoder reads otherwise", check(trace, answer), [])
 
 
 def end(checks):

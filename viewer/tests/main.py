@@ -38,7 +38,7 @@ def check_scenario(checks, driver, name, folder, shots):
         pages.check_filters(checks, shown, trace)
     pages.check_ledgers(checks, shown, ledgers)
     if name == "equivocating_liar":
-        check_two_clicks(checks, driver, page)
+        check_two_clicks(checks, driver, page, shots)
         pages.check_keys(checks, browser.Shown(driver, page), trace)
         shown = browser.Shown(driver, page, shots)
     checks.same("the first post of a correct node without a reason", pages.first_without_reason(shown), None)
@@ -46,12 +46,14 @@ def check_scenario(checks, driver, name, folder, shots):
     checks.same("errors on the console", shown.errors(), [])
 
 
-def check_two_clicks(checks, driver, page):
+def check_two_clicks(checks, driver, page, shots):
     """One click on the page that opens shows the two posts that convict the liar."""
     shown = browser.Shown(driver, page)
     shown.all('.findings a[href^="#pair"]')[0].click()
     shown.wait("return document.querySelector('#panel .pair')")
     checks.same("the posts side by side", shown.texts(".pair thead a"), ["Vpost 3", "Vpost 5"])
+    shown.shots = shots
+    shown.shoot("pair")
 
 
 def check_bent(checks, driver, folder, shots):

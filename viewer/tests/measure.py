@@ -58,6 +58,7 @@ def measure(driver, page):
     posts = shown.run("window.shownRun.world.history.count")
     print(f"page of {page.stat().st_size / 1e6:.1f} MB, {posts:,} posts")
     print(f"load event {load / 1000:.1f} s after the start, first view {ready / 1000:.1f} s after the start")
+    shown.wait("return document.querySelectorAll('.grid').length === window.shownRun.world.config.epochs")
     shown.go("run")
     for zoom, rows in ((0, 40), (2, 10), (4, 3), (4, 900), (6, 3)):
         frames = scrolled(shown, zoom, rows)

@@ -99,6 +99,30 @@ def decode(data, nodes, version):
     return None if rest else {"kind": kind, "epoch": epoch, **found}
 
 
+def digests(branch_hex):
+    """The digests of a branch by their first eight digits, or a dash."""
+    return " ".join(branch_hex[at:at + 8] for at in range(0, len(branch_hex), 64)) or "-"
+
+
+def words(vote):
+    """A vote in words, as `./run --votes` prints it."""
+    if vote is None:
+        return "no vote"
+    told = [f"{vote['kind']} epoch {vote['epoch']}"]
+    for name, part in list(vote.items())[2:]:
+        if name == "bits":
+            told.append("bits " + ("", "0", "1", "0 1")[part])
+        elif name == "items":
+            told.append(f"values {len(part)}" + "".join(f" node {node} value length {len(value) // 2}" for node, value in part))
+        elif name == "branch":
+            told.append(f"branch {digests(part)}")
+        elif isinstance(part, int):
+            told.append(f"{name} {part}")
+        else:
+            told.append(f"{name} {part[:8]}" if name in ("root", "salt") else f"{name} length {len(part) // 2}")
+    return " ".join(told)
+
+
 def broken(samples, count):
     """Byte strings made of votes by a change: cut, longer, with another byte, or with a field at the edge of its range."""
     draw = random.Random(54)
