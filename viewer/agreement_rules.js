@@ -9,9 +9,13 @@ const setOf = (bit) => bit + 1;
 function coinPart(scene, round, bit) {
   const { f } = scene.config;
   const coin = scene.world.coins.bit(scene.epoch, scene.actor, round);
-  const heard = scene.world.coins.shares(scene.epoch, scene.actor, round).filter((k) => k < scene.before && scene.world.reach.arrives(k, scene.node, scene.actor));
+  const heard = scene.world.coins.shares(scene.epoch, scene.actor, round).filter(
+    (k) => k < scene.before && scene.world.reach.arrives(k, scene.node, scene.actor),
+  );
   const parts = [asks(`good shares (COIN) of round ${round} from f + 1 = ${f + 1} nodes`, f + 1, heard)];
-  if (bit !== null && heard.length > f) parts.push(holds(`the coin of round ${round} is ${bit}; here it is ${coin}`, coin === bit));
+  if (bit !== null && heard.length > f) {
+    parts.push(holds(`the coin of round ${round} is ${bit}; here it is ${coin}`, coin === bit));
+  }
   return parts;
 }
 
@@ -24,7 +28,9 @@ function begins(scene, vote) {
 export function restsOfEst(scene, vote) {
   if (vote.round === 0) return begins(scene, vote);
   const before = vote.round - 1;
-  const alone = [asks(`its own PICK of round ${before} with {${vote.bit}} alone`, 1, scene.ownVote("PICK", before, setOf(vote.bit)))];
+  const alone = [
+    asks(`its own PICK of round ${before} with {${vote.bit}} alone`, 1, scene.ownVote("PICK", before, setOf(vote.bit))),
+  ];
   const both = [asks(`its own PICK of round ${before} with both bits`, 1, scene.ownVote("PICK", before, BOTH))];
   return [
     { text: "by a picked bit", parts: [...alone, ...coinPart(scene, before, null)] },
@@ -35,7 +41,11 @@ export function restsOfEst(scene, vote) {
 export function restsOfBval(scene, vote) {
   const { f } = scene.config;
   const { round, bit } = vote;
-  const supported = asks(`BVAL ${bit} of round ${round} from f + 1 = ${f + 1} nodes`, f + 1, scene.heardVotes("BVAL", round, bit));
+  const supported = asks(
+    `BVAL ${bit} of round ${round} from f + 1 = ${f + 1} nodes`,
+    f + 1,
+    scene.heardVotes("BVAL", round, bit),
+  );
   return [
     { text: "by its own estimate", parts: [asks(`its own EST ${bit} of round ${round}`, 1, scene.ownVote("EST", round, bit))] },
     { text: "by others", parts: [asks(`its own EST of round ${round}`, 1, scene.ownVote("EST", round)), supported] },
@@ -61,12 +71,26 @@ function left(scene, round, bits, kind) {
   for (const bit of chosen) parts.push(supports(scene, round, bit));
   if (bits === BOTH) {
     for (const bit of chosen) {
-      parts.push(asks(`${kind} with ${bit} from some node`, 1, scene.heard((k) => scene.is(k, kind, round) && saysBit(k, bit)).slice(0, 1)));
+      parts.push(
+        asks(
+          `${kind} with ${bit} from some node`,
+          1,
+          scene.heard((k) => scene.is(k, kind, round) && saysBit(k, bit)).slice(0, 1),
+        ),
+      );
     }
-    parts.push(asks(`${kind} of round ${round} from n - f = ${need} nodes, with either bit`, need, scene.heardVotes(kind, round)));
+    parts.push(
+      asks(`${kind} of round ${round} from n - f = ${need} nodes, with either bit`, need, scene.heardVotes(kind, round)),
+    );
   } else {
     const says = kind === "AUX" ? chosen[0] : bits;
-    parts.push(asks(`${kind} of round ${round} with ${chosen[0]} alone from n - f = ${need} nodes`, need, scene.heardVotes(kind, round, says)));
+    parts.push(
+      asks(
+        `${kind} of round ${round} with ${chosen[0]} alone from n - f = ${need} nodes`,
+        need,
+        scene.heardVotes(kind, round, says),
+      ),
+    );
   }
   return parts;
 }
@@ -83,7 +107,12 @@ export function restsOfCoin(scene, vote, k) {
   const parts = [asks(`its own PICK of round ${vote.round}`, 1, scene.ownVote("PICK", vote.round))];
   if (k !== undefined) {
     const root = scene.world.coins.deal.root(scene.epoch, scene.actor, vote.round);
-    parts.push(holds("the share, its salt and its branch lead to the root that was dealt for this round", scene.world.coins.isGood(k, root)));
+    parts.push(
+      holds(
+        "the share, its salt and its branch lead to the root that was dealt for this round",
+        scene.world.coins.isGood(k, root),
+      ),
+    );
   }
   return [{ text: "", parts }];
 }
@@ -97,7 +126,10 @@ export function restsOfDecided(scene, vote) {
     const picked = scene.ownVote("PICK", round, setOf(vote.bit));
     if (picked.length > 0) {
       const others = left(scene, round, setOf(vote.bit), scene.config.version === 2 ? "CONF" : "AUX");
-      const parts = [asks(`its own PICK of round ${round} with {${vote.bit}} alone`, 1, picked), ...coinPart(scene, round, vote.bit)];
+      const parts = [
+        asks(`its own PICK of round ${round} with {${vote.bit}} alone`, 1, picked),
+        ...coinPart(scene, round, vote.bit),
+      ];
       ways.push({ text: `in round ${round}`, parts: [...parts, others[others.length - 1]] });
     }
   }

@@ -75,7 +75,9 @@ export function restsOfReady(scene, vote) {
   const { n, f } = scene.config;
   const echoes = validEchoes(scene, vote.root);
   const byEchoes = [asks(`ECHO for this root from n - f = ${n - f} nodes, with branches that lead to it`, n - f, echoes)];
-  if (echoes.length >= n - f) byEchoes.push(holds("the shards of these ECHOes rebuild to the root", rebuildsTo(scene, echoes, vote.root)));
+  if (echoes.length >= n - f) {
+    byEchoes.push(holds("the shards of these ECHOes rebuild to the root", rebuildsTo(scene, echoes, vote.root)));
+  }
   const byReadies = [asks(`READY for this root from f + 1 = ${f + 1} nodes`, f + 1, readies(scene, vote.root))];
   return [{ text: "by echoes", parts: byEchoes }, { text: "by others that are ready", parts: byReadies }];
 }
@@ -97,15 +99,14 @@ export function leadingRoot(scene) {
 }
 
 export function restsOfDelivered(scene, vote) {
-  const { config } = scene;
-  const k = dataCount(config);
+  const { f } = scene.config;
+  const k = dataCount(scene.config);
   const root = leadingRoot(scene);
-  if (root === null) return [{ text: "", parts: [asks(`READY for one root from 2f + 1 = ${2 * config.f + 1} nodes`, 2 * config.f + 1, [])] }];
+  const ready = root === null ? [] : readies(scene, root);
+  const parts = [asks(`READY for one root from 2f + 1 = ${2 * f + 1} nodes`, 2 * f + 1, ready)];
+  if (root === null) return [{ text: "", parts }];
   const echoes = validEchoes(scene, root);
-  const parts = [
-    asks(`READY for one root from 2f + 1 = ${2 * config.f + 1} nodes`, 2 * config.f + 1, readies(scene, root)),
-    asks(`ECHO for that root from n - 2f = ${k} nodes, whose shards give the value`, k, echoes),
-  ];
+  parts.push(asks(`ECHO for that root from n - 2f = ${k} nodes, whose shards give the value`, k, echoes));
   const shards = vote.value ? rebuilt(scene, echoes) : null;
   if (shards !== null) {
     const isValue = sameBytes(valueOfShards(shards, k), bytesAt(scene.history, vote.value));

@@ -9,7 +9,8 @@ const NEVER = new Set(["BVAL", "NOMORE", "no vote"]);
 export function excludes(history, one, other) {
   const same = (table) => table[one] === table[other];
   const kind = KIND_LIST[history.kind[one]].name;
-  if (NEVER.has(kind) || !same(history.kind) || !same(history.epoch) || !same(history.round) || history.sameBytes(one, other)) return false;
+  const isOfOneKind = same(history.kind) && same(history.epoch) && same(history.round);
+  if (NEVER.has(kind) || !isOfOneKind || history.sameBytes(one, other)) return false;
   if (kind !== "VAL" || same(history.says)) return true;
   return !history.samePart(history.vote(one).root, history.vote(other).root);
 }

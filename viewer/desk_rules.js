@@ -10,12 +10,15 @@ function opened(scene) {
 // The first DECIDED of each own lane.
 function decisions(scene, bit) {
   const posts = [];
-  for (let lane = 0; lane < scene.config.n; lane += 1) posts.push(...scene.home(lane, (k) => scene.is(k, "DECIDED", undefined, bit)));
+  for (let lane = 0; lane < scene.config.n; lane += 1) {
+    posts.push(...scene.home(lane, (k) => scene.is(k, "DECIDED", undefined, bit)));
+  }
   return posts;
 }
 
 export function restsOfPropose(scene) {
-  return [{ text: "", parts: [...opened(scene), holds("the batch has the oldest transactions that were submitted here and stand in no closed epoch", true)] }];
+  const isOldest = "the batch has the oldest transactions that were submitted here and stand in no closed epoch";
+  return [{ text: "", parts: [...opened(scene), holds(isOldest, true)] }];
 }
 
 export function restsOfNomore(scene) {

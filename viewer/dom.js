@@ -28,20 +28,49 @@ export function word(text, name = text, isStop = true) {
 // The letter of a kind of vote on its colour.
 export function chip(name) {
   const kind = kindNamed(name);
-  const colour = COLOURS[name];
-  return element("span", { class: `chip ${kind.group}`, style: `background:${colour};color:${inkOn(colour)}`, "aria-hidden": "true" }, kind.letter);
+  const style = `background:${COLOURS[name]};color:${inkOn(COLOURS[name])}`;
+  return element("span", { class: `chip ${kind.group}`, style, "aria-hidden": "true" }, kind.letter);
 }
 
-export function postLink(history, k, text = null) {
+export function postLink(history, k, text = `post ${k} of node ${history.from[k]}`) {
   const name = history.kindName(k);
-  return element("a", { class: "post", href: `#post-${k}`, "data-word": name }, chip(name), text || `post ${k} of node ${history.from[k]}`);
+  return element("a", { class: "post", href: `#post-${k}`, "data-word": name }, chip(name), text);
+}
+
+// A paragraph of a style.
+export function para(style, ...children) {
+  return element("p", { class: style || null }, children);
+}
+
+// A section with a heading.
+export function part(title, ...children) {
+  return element("section", {}, element("h3", {}, title), children);
+}
+
+// A head of a column or of a row, and a row.
+export function head(scope, ...children) {
+  return element("th", { scope }, children);
+}
+
+export function row(...cells) {
+  return element("tr", {}, cells);
+}
+
+// A table of rows that are made.
+export function tableOf(attributes, caption, heads, rows) {
+  return element("table", attributes, caption, element("thead", {}, heads), element("tbody", {}, rows));
+}
+
+// A caption that only a screen reader tells.
+export function unseenCaption(text) {
+  return element("caption", { class: "unseen" }, text);
 }
 
 // A table with a caption, the heads of its columns, and rows of cells, of which the first is a head.
 export function table(caption, heads, rows, attributes = {}) {
-  const head = element("tr", {}, heads.map((text) => element("th", { scope: "col" }, text)));
-  const body = rows.map((cells) => element("tr", {}, cells.map((cell, at) => element(at === 0 ? "th" : "td", at === 0 ? { scope: "row" } : {}, cell))));
-  return element("table", attributes, element("caption", {}, caption), element("thead", {}, head), element("tbody", {}, body));
+  const cells = ([first, ...others]) => row(head("row", first), others.map((cell) => element("td", {}, cell)));
+  const top = row(heads.map((text) => head("col", text)));
+  return tableOf(attributes, element("caption", {}, caption), top, rows.map(cells));
 }
 
 // A count with its noun.

@@ -176,7 +176,9 @@ export class Drawing {
     pen.globalAlpha = 1;
     pen.fillStyle = pen.strokeStyle;
     if (layout.rowHeight >= 8) this.drawTips(k, targets, y);
-    else if (targets.length < 3) for (const node of targets) pen.fillRect(layout.nodeX(node) - 1.5, y - 1, 3, Math.min(3, layout.rowHeight));
+    else if (targets.length < 3) {
+      for (const node of targets) pen.fillRect(layout.nodeX(node) - 1.5, y - 1, 3, Math.min(3, layout.rowHeight));
+    }
   }
 
   // The ends of the arrows of a row: full where the post comes once, doubled, hollow where it is late, a cross where it is

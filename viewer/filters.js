@@ -11,7 +11,9 @@ export function choices(history) {
   const upTo = (count, text) => Array.from({ length: count }, (_, i) => [`${i}`, `${text} ${i}`]);
   let rounds = 0;
   for (let k = 0; k < history.count; k += 1) if (history.round[k] !== NO_ROUND) rounds = Math.max(rounds, history.round[k] + 1);
-  const kinds = KIND_LIST.filter((kind) => kind.name !== "CONF" || version === 2).map((kind) => [kind.name, `${kind.letter}  ${kind.name}`]);
+  const kinds = KIND_LIST.filter((kind) => kind.name !== "CONF" || version === 2).map(
+    (kind) => [kind.name, `${kind.letter}  ${kind.name}`],
+  );
   return {
     epoch: [["", "all epochs"], ...upTo(epochs, "epoch")],
     lane: [["", "all lanes, desks"], ...upTo(n, "lane"), ["desk", "desks"]],

@@ -1,5 +1,5 @@
 // The panels of a lane and of a desk in an epoch: what it said, and what it lacks to go on.
-import { counted, element, postLink, table, word } from "./dom.js";
+import { counted, element, para, part, postLink, table, word } from "./dom.js";
 import { leadingRoot } from "./broadcast_rules.js";
 import { asks } from "./scene.js";
 import { stateOf, stateText } from "./lanes.js";
@@ -16,32 +16,41 @@ function ownPosts(history, node, actor, epoch) {
 }
 
 function saidTable(history, posts) {
-  const rows = posts.slice(0, SHOWN).map((k) => [postLink(history, k, `post ${k}`), history.kindName(k), history.round[k] === NO_ROUND ? "" : `${history.round[k]}`, saysText(history, k)]);
-  const more = posts.length > SHOWN ? element("p", { class: "note" }, `The first ${SHOWN} of ${posts.length} posts.`) : null;
+  const rows = posts.slice(0, SHOWN).map((k) => {
+    const round = history.round[k] === NO_ROUND ? "" : `${history.round[k]}`;
+    return [postLink(history, k, `post ${k}`), history.kindName(k), round, saysText(history, k)];
+  });
+  const more = posts.length > SHOWN ? para("note", `The first ${SHOWN} of ${posts.length} posts.`) : null;
   return [table("What it said", ["Post", "Vote", "Round", "Says"], rows, { class: "said" }), more];
 }
 
 // How many posts of others to this actor were lost on their way.
 function droppedPosts(world, node, actor, epoch) {
   const { history, reach } = world;
-  return [...history.ofActor(actor, epoch)].filter((k) => history.from[k] !== node && reach.reaches(k, node, actor) && reach.shape(k, node) === "drop");
+  return [...history.ofActor(actor, epoch)].filter(
+    (k) => history.from[k] !== node && reach.reaches(k, node, actor) && reach.shape(k, node) === "drop",
+  );
 }
 
 function droppedText(world, node, actor, epoch) {
   const lost = droppedPosts(world, node, actor, epoch);
   if (lost.length === 0) return null;
-  return element("p", { class: "alarm" }, `${counted(lost.length, "post")} of other nodes to this lane ${lost.length === 1 ? "was" : "were"} dropped by the scenario's links, the first is `, postLink(world.history, lost[0]), ".");
+  const many = `${counted(lost.length, "post")} of other nodes to this lane ${lost.length === 1 ? "was" : "were"} dropped`;
+  const first = postLink(world.history, lost[0]);
+  return para("alarm", `${many} by the scenario's links, the first is `, first, ".");
 }
 
 // How an actor ended, if it did.
 function endedText(world, node, actor) {
   const found = world.run ? world.run.nodes[node].ended.find((one) => one.actor === actor) : null;
-  return found ? element("p", { class: "alarm" }, `It ended for good: it ${causeText(found.cause)}.`) : null;
+  return found ? para("alarm", `It ended for good: it ${causeText(found.cause)}.`) : null;
 }
 
 // A vote that the actor did not cast, with what it would have asked for.
 function lacking(world, node, actor, vote) {
-  return [`For ${vote.kind}${vote.bit === undefined ? "" : ` ${vote.bit}`}${vote.round === undefined ? "" : ` in round ${vote.round}`}`, world.rules.ways(node, actor, vote, world.history.count)];
+  const bit = vote.bit === undefined ? "" : ` ${vote.bit}`;
+  const round = vote.round === undefined ? "" : ` in round ${vote.round}`;
+  return [`For ${vote.kind}${bit}${round}`, world.rules.ways(node, actor, vote, world.history.count)];
 }
 
 // What a lane lacks in its broadcast, first the vote that comes first.
@@ -51,7 +60,8 @@ function lackingBroadcast(world, scene) {
   const root = leadingRoot(scene);
   if (scene.ownVote("ECHO").length === 0) {
     const vals = scene.heard((k) => scene.is(k, "VAL", undefined, node) && world.history.from[k] === actor);
-    found.push(["For ECHO", [{ text: "", parts: [asks(`a VAL of node ${actor} to this node whose branch leads to its root`, 1, vals)] }]]);
+    const val = asks(`a VAL of node ${actor} to this node whose branch leads to its root`, 1, vals);
+    found.push(["For ECHO", [{ text: "", parts: [val] }]]);
   }
   if (scene.ownVote("READY").length === 0 && root) found.push(lacking(world, node, actor, { kind: "READY", epoch, root }));
   if (scene.ownVote("DELIVERED").length === 0) found.push(lacking(world, node, actor, { kind: "DELIVERED", epoch }));
@@ -69,31 +79,39 @@ function lackingAgreement(world, scene) {
   if (scene.ownVote("AUX", round).length === 0) return [0, 1].map((bit) => need("AUX", { round, bit }));
   if (version === 2 && scene.ownVote("CONF", round).length === 0) return [1, 2].map((bits) => need("CONF", { round, bits }));
   if (scene.ownVote("PICK", round).length === 0) return [1, 2].map((bits) => need("PICK", { round, bits }));
-  if (cell.spent) return [[`It went through all its ${counted(rounds, "round")}: in none did the coin fall on the bit that it picked.`, []]];
+  if (cell.spent) return [[`It spent all its ${counted(rounds, "round")}: in none did the coin fall on the bit that it picked.`, []]];
   return [0, 1].map((bit) => need("DECIDED", { bit }));
 }
 
-function lackingList(history, found) {
-  return found.map(([title, ways]) => [element("h4", {}, title), ...waysList(history, ways)]);
+function saidPart(history, posts) {
+  return part("What it said", posts.length > 0 ? saidTable(history, posts) : para("", "Nothing."));
+}
+
+function lackingPart(history, found) {
+  return part("What it lacks at the end", found.map(([title, ways]) => [element("h4", {}, title), ...waysList(history, ways)]));
+}
+
+// What a lane lacks, unless it has decided and, where that was 1, delivered.
+function lackingOfLane(world, cell, scene) {
+  const isOver = cell.decided >= 0 && (cell.bit === 0 || cell.delivered >= 0);
+  if (isOver || world.history.isLiar(scene.node)) return [];
+  const ofBroadcast = cell.delivered < 0 ? lackingBroadcast(world, scene) : [];
+  return cell.decided < 0 ? [...ofBroadcast, ...lackingAgreement(world, scene)] : ofBroadcast;
 }
 
 // Fills the panel with a lane of a node in an epoch.
 export function lanePanel(world, epoch, node, lane) {
   const { history } = world;
   const cell = world.lanes.cell(epoch, node, lane);
-  const scene = world.rules.scene(node, lane, epoch);
-  const isOver = cell.decided >= 0 && (cell.bit === 0 || cell.delivered >= 0);
-  const found = isOver ? [] : [...(cell.delivered < 0 ? lackingBroadcast(world, scene) : []), ...(cell.decided < 0 ? lackingAgreement(world, scene) : [])];
-  const posts = ownPosts(history, node, lane, epoch);
-  const state = stateOf(cell);
+  const found = lackingOfLane(world, cell, world.rules.scene(node, lane, epoch));
   return [
     element("h2", {}, `Lane ${lane} of node ${node}, epoch ${epoch}`),
-    element("p", { class: "meaning" }, word(stateText(cell), state.name), ". ", `Here node ${node} works on the batch that node ${lane} proposed.`),
-    cell.decided >= 0 ? element("p", {}, "It decided with ", postLink(history, cell.decided), ".") : null,
+    para("meaning", word(stateText(cell), stateOf(cell).name), `. Here node ${node} works on the batch that node ${lane} proposed.`),
+    cell.decided >= 0 ? para("", "It decided with ", postLink(history, cell.decided), ".") : null,
     endedText(world, node, lane),
     droppedText(world, node, lane, epoch),
-    found.length > 0 && !history.isLiar(node) ? element("section", {}, element("h3", {}, "What it lacks at the end"), lackingList(history, found)) : null,
-    element("section", {}, element("h3", {}, "What it said"), posts.length > 0 ? saidTable(history, posts) : element("p", {}, "Nothing.")),
+    found.length > 0 ? lackingPart(history, found) : null,
+    saidPart(history, ownPosts(history, node, lane, epoch)),
   ];
 }
 
@@ -107,17 +125,18 @@ function lackingClosed(world, epoch, node) {
 export function deskPanel(world, epoch, node) {
   const { history, config } = world;
   const closing = world.lanes.closed(epoch, node);
-  const posts = ownPosts(history, node, config.n, epoch);
+  const isOpen = closing < 0 && !history.isLiar(node);
   const lanes = Array.from({ length: config.n }, (_, lane) => {
-    const cell = world.lanes.cell(epoch, node, lane);
-    return [element("a", { href: `#lane-${epoch}-${node}-${lane}` }, `lane ${lane}`), stateText(cell)];
+    const link = element("a", { href: `#lane-${epoch}-${node}-${lane}` }, `lane ${lane}`);
+    return [link, stateText(world.lanes.cell(epoch, node, lane))];
   });
   return [
     element("h2", {}, `Desk of node ${node}, epoch ${epoch}`),
-    closing >= 0 ? element("p", { class: "meaning" }, "It closed the epoch with ", postLink(history, closing), ".") : element("p", { class: "alarm" }, "It did not close this epoch."),
+    closing >= 0 ? para("meaning", "It closed the epoch with ", postLink(history, closing), ".") : null,
+    closing < 0 ? para("alarm", "It did not close this epoch.") : null,
     endedText(world, node, config.n),
-    closing < 0 && !history.isLiar(node) ? element("section", {}, element("h3", {}, "What it lacks at the end"), lackingList(history, lackingClosed(world, epoch, node))) : null,
+    isOpen ? lackingPart(history, lackingClosed(world, epoch, node)) : null,
     table("Its lanes", ["Lane", "State"], lanes),
-    element("section", {}, element("h3", {}, "What it said"), posts.length > 0 ? saidTable(history, posts) : element("p", {}, "Nothing.")),
+    saidPart(history, ownPosts(history, node, config.n, epoch)),
   ];
 }

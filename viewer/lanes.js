@@ -84,7 +84,12 @@ export class Lanes {
 
 // The state of a lane: a name, and the short text that stands in the grid.
 export function stateOf(cell) {
-  if (cell.decided !== NONE) return { name: `decided ${cell.bit}`, style: `decided${cell.bit}`, text: `${cell.bit}`, round: cell.round };
+  if (cell.decided !== NONE) return {
+    name: `decided ${cell.bit}`,
+    style: `decided${cell.bit}`,
+    text: `${cell.bit}`,
+    round: cell.round,
+  };
   if (cell.spent) return { name: "spent", style: "spent", text: "S", round: null };
   if (cell.delivered !== NONE) return { name: "delivered", style: "delivered", text: "L", round: null };
   if (cell.begun !== NONE) return { name: "begun", style: "begun", text: "b", round: null };

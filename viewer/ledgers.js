@@ -42,7 +42,9 @@ export function equalClosings(history, lanes, epoch, nodes) {
   const groups = [];
   for (const node of nodes) {
     const post = lanes.closed(epoch, node);
-    const group = groups.find((other) => (post < 0 || other.post < 0 ? post === other.post : history.sameBytes(post, other.post)));
+    const group = groups.find(
+      (other) => (post < 0 || other.post < 0 ? post === other.post : history.sameBytes(post, other.post)),
+    );
     if (group) group.nodes.push(node);
     else groups.push({ post, nodes: [node] });
   }

@@ -21,7 +21,10 @@ class Page {
       overview: (section) => fillOverview(section, world),
       run: (section) => {
         this.run = new RunView(section, world, (k) => this.select(k));
-        this.run.panel.replaceChildren(element("h2", {}, "Nothing is selected"), element("p", {}, "Click a row, or press an arrow key, to see what a post says and why it was allowed."));
+        this.run.panel.replaceChildren(
+          element("h2", {}, "Nothing is selected"),
+          element("p", {}, "Click a row, or press an arrow key, to see what a post says and why it was allowed."),
+        );
       },
       ledgers: (section) => fillLedgers(section, world),
       words: fillWords,
@@ -53,7 +56,12 @@ class Page {
   follow() {
     const [name, ...numbers] = (location.hash.slice(1) || this.start()).split("-");
     const places = numbers.map(Number);
-    const acts = { post: () => this.post(...places), pair: () => this.pair(...places), lane: () => this.lane(...places), desk: () => this.desk(...places) };
+    const acts = {
+      post: () => this.post(...places),
+      pair: () => this.pair(...places),
+      lane: () => this.lane(...places),
+      desk: () => this.desk(...places),
+    };
     if (acts[name] && this.isKnown(name, places)) {
       this.show("run");
       acts[name]();
@@ -64,7 +72,9 @@ class Page {
     const { count } = this.world.history;
     const { n, epochs } = this.world.config;
     const wanted = { post: [count], pair: [count, count], lane: [epochs, n, n], desk: [epochs, n] }[name];
-    return places.length === wanted.length && wanted.every((limit, at) => Number.isInteger(places[at]) && places[at] >= 0 && places[at] < limit);
+    return places.length === wanted.length && wanted.every(
+      (limit, at) => Number.isInteger(places[at]) && places[at] >= 0 && places[at] < limit,
+    );
   }
 
   // Where the page opens: at the post that the audit names, if there is one.
@@ -127,7 +137,11 @@ function tellNothing(fault) {
   byId("verdict").textContent = "";
   const line = fault.text ? [element("p", {}, "The line:"), element("pre", {}, fault.text)] : [];
   byId("overview").hidden = false;
-  byId("overview").append(element("h2", {}, "There is no history to show"), element("p", { class: "alarm" }, `Line ${fault.line}: ${fault.reason}.`), ...line);
+  byId("overview").append(
+    element("h2", {}, "There is no history to show"),
+    element("p", { class: "alarm" }, `Line ${fault.line}: ${fault.reason}.`),
+    ...line,
+  );
 }
 
 async function begin() {

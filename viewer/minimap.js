@@ -36,7 +36,12 @@ export class Minimap {
       if (history.from[k] < config.n) {
         const colour = COLOURS[KIND_LIST[history.kind[k]].name];
         pen.fillStyle = colour === "#ffffff" ? "#b00020" : colour;
-        pen.fillRect(4 + history.from[k] * width, (Math.floor(at) / list.length) * picture.height, Math.max(1, width - 1), height);
+        pen.fillRect(
+          4 + history.from[k] * width,
+          (Math.floor(at) / list.length) * picture.height,
+          Math.max(1, width - 1),
+          height,
+        );
       }
     }
     this.paintMarks(pen, list);

@@ -1,5 +1,5 @@
 // The overview: what stands out in a run, its nodes, and a grid for each epoch with the state of each lane.
-import { counted, element, fill, postLink, table, word } from "./dom.js";
+import { counted, element, fill, head, para, part, postLink, row, table, tableOf, unseenCaption, word } from "./dom.js";
 import { stateOf, stateText } from "./lanes.js";
 import { brokenRules } from "./liars.js";
 import { lieText, planTexts } from "./scenario.js";
@@ -8,7 +8,14 @@ import { meaningOf } from "./words.js";
 
 const STATES = ["not begun", "begun", "delivered", "decided 1", "decided 0", "spent"];
 const SIGNS = { "not begun": "–", begun: "b", delivered: "L", "decided 1": "1", "decided 0": "0", spent: "S" };
-const STYLES = { "not begun": "none", begun: "begun", delivered: "delivered", "decided 1": "decided1", "decided 0": "decided0", spent: "spent" };
+const STYLES = {
+  "not begun": "none",
+  begun: "begun",
+  delivered: "delivered",
+  "decided 1": "decided1",
+  "decided 0": "decided0",
+  spent: "spent",
+};
 
 function item(kind, ...children) {
   return element("li", { class: kind }, children);
@@ -16,14 +23,19 @@ function item(kind, ...children) {
 
 function verdictItem(world) {
   const { verdict, data } = world;
-  if (verdict && verdict.legal) return item("good", word("The audit", "audit"), ` found the history legal: each of ${counted(verdict.posts, "post")} was allowed.`);
   if (!verdict) return item("warn", `The history was not audited${data.refused ? ` (${data.refused})` : ""}.`);
-  const shown = verdict.post < world.history.count ? element("a", { href: `#post-${verdict.post}` }, `Show post ${verdict.post}`) : "";
-  return item("alarm", word("The audit", "audit"), ` found the history illegal: post ${verdict.post} may not follow those before it. `, shown);
+  const judge = word("The audit", "audit");
+  if (verdict.legal) return item("good", judge, ` found the history legal: each of ${counted(verdict.posts, "post")} was allowed.`);
+  const link = verdict.post < world.history.count ? linkTo(`post-${verdict.post}`, `Show post ${verdict.post}`) : null;
+  return item("alarm", judge, ` found the history illegal: post ${verdict.post} may not follow those before it. `, link);
+}
+
+function linkTo(place, text) {
+  return element("a", { href: `#${place}` }, text);
 }
 
 function pairLink(first, second) {
-  return element("a", { href: `#pair-${first}-${second}` }, `posts ${first} and ${second}`);
+  return linkTo(`pair-${first}-${second}`, `posts ${first} and ${second}`);
 }
 
 // A node whose posts contradict each other though it is no liar: that is so only in a history that is not legal.
@@ -31,22 +43,30 @@ function accusedItem({ node, posts: [first, second] }) {
   return item("alarm", `Node ${node} contradicts itself in `, pairLink(first, second), ".");
 }
 
-// A liar: how it lies, the two posts that convict it, and, when they are found, the first posts that break a rule.
+// The first posts of each kind of a liar that break a rule, when they are found.
+function brokenText(world, node) {
+  const broken = element("span", {}, " …");
+  brokenRules(world, node).then((posts) => {
+    const links = posts.flatMap((k) => [postLink(world.history, k, `${k}`), " "]);
+    const isSilent = !world.history.from.includes(node);
+    if (posts.length > 0) broken.replaceChildren(" First posts of each kind that break a rule: ", ...links);
+    else broken.textContent = isSilent ? "" : " None of its posts breaks a rule.";
+  });
+  return broken;
+}
+
+// A liar: how it lies, the two posts that convict it, and the first posts that break a rule.
 function liarItem(world, node) {
   const name = world.lieName(node);
   const accused = world.accused.find((one) => one.node === node);
-  const broken = element("span", {}, " …");
-  brokenRules(world, node).then((posts) => {
-    if (posts.length > 0) broken.replaceChildren(" First posts of each kind that break a rule: ", ...posts.flatMap((k) => [postLink(world.history, k, `${k}`), " "]));
-    else broken.textContent = world.history.from.includes(node) ? " None of its posts breaks a rule." : "";
-  });
-  return item(accused ? "liar alarm" : "liar", `Node ${node} is a `, word("liar"), name ? ` (${name}): it ${lieText(name)}.` : ".",
-    accused ? [" It contradicts itself in ", pairLink(...accused.posts), "."] : null, broken);
+  const how = name ? ` (${name}): it ${lieText(name)}.` : ".";
+  const pair = accused ? [" It contradicts itself in ", pairLink(...accused.posts), "."] : null;
+  return item("liar", `Node ${node} is a `, word("liar"), how, pair, brokenText(world, node));
 }
 
 function endedItem(world, node) {
-  const { n } = world.config;
-  const causes = world.run.nodes[node].ended.map(({ actor, cause }) => `${actor === n ? "its desk" : `its lane ${actor}`} ${causeText(cause)}`);
+  const name = (actor) => (actor === world.config.n ? "its desk" : `its lane ${actor}`);
+  const causes = world.run.nodes[node].ended.map(({ actor, cause }) => `${name(actor)} ${causeText(cause)}`);
   return item("warn", `Node ${node} `, word("ended"), `: ${causes.join("; ")}.`);
 }
 
@@ -56,18 +76,22 @@ function openItem(world, node) {
   let epoch = 0;
   while (world.lanes.closed(epoch, node) >= 0) epoch += 1;
   const lost = world.reach.droppedTo(node);
-  const why = lost > 0 ? ` ${counted(lost, "post")} of other nodes to it ${lost === 1 ? "was" : "were"} dropped on the way.` : "";
-  return item("warn", `Node ${node} closed ${world.lanes.closedCount(node)} of ${counted(epochs, "epoch")}.${why} `,
-    element("a", { href: `#desk-${epoch}-${node}` }, `Show what it lacks in epoch ${epoch}`));
+  const dropped = ` ${counted(lost, "post")} of other nodes to it ${lost === 1 ? "was" : "were"} dropped on the way.`;
+  const closed = `Node ${node} closed ${world.lanes.closedCount(node)} of ${counted(epochs, "epoch")}.`;
+  return item("warn", closed, lost > 0 ? dropped : "", " ", linkTo(`desk-${epoch}-${node}`, `Show what it lacks in epoch ${epoch}`));
+}
+
+// A line of the text that is no line of a history.
+function faultItem({ line, reason, text }) {
+  const told = `Line ${line} of the text is no line of a history: ${reason}. What came before it is shown. `;
+  return item("alarm", told, text ? element("code", {}, text) : null);
 }
 
 function findings(world) {
   const { config, fault } = world;
-  const nodes = Array.from({ length: config.n }, (_, node) => node);
-  const found = [];
-  if (fault) found.push(item("alarm", `Line ${fault.line} of the text is no line of a history: ${fault.reason}. What came before it is shown. `, fault.text ? element("code", {}, fault.text) : ""));
+  const found = fault ? [faultItem(fault)] : [];
   found.push(verdictItem(world), ...world.accused.filter(({ node }) => !world.history.isLiar(node)).map(accusedItem));
-  for (const node of nodes) {
+  for (let node = 0; node < config.n; node += 1) {
     const state = world.nodeState(node);
     if (state === "liar") found.push(liarItem(world, node));
     if (state === "ended") found.push(endedItem(world, node));
@@ -84,37 +108,61 @@ function nodeTable(world) {
     const state = world.nodeState(node);
     const lie = world.lieName(node);
     const shown = state === "unknown" ? "correct" : state;
-    return [`node ${node}`, [word(shown, state, false), lie ? ` (${lie})` : ""], history.isLiar(node) ? "–" : `${world.lanes.closedCount(node)} of ${config.epochs}`, count.toLocaleString("en")];
+    return [
+      `node ${node}`,
+      [word(shown, state, false), lie ? ` (${lie})` : ""],
+      history.isLiar(node) ? "–" : `${world.lanes.closedCount(node)} of ${config.epochs}`,
+      count.toLocaleString("en"),
+    ];
   });
   return table("The nodes of the run", ["Node", "State", "Epochs closed", "Posts"], rows, { class: "nodes" });
 }
 
-function laneCell(world, epoch, node, lane, isFirst) {
+// A cell of a grid, which leads to a panel. The keyboard comes to the first of a grid, and from it to the others by arrows.
+function gridCell(style, place, name, title, isFirst, ...children) {
+  const attributes = { href: `#${place}`, title, "aria-label": name, tabindex: isFirst ? "0" : "-1" };
+  return element("td", { class: style }, element("a", attributes, children));
+}
+
+function laneCell(world, epoch, node, lane) {
   const cell = world.lanes.cell(epoch, node, lane);
   const state = stateOf(cell);
   const name = `node ${node}, lane ${lane}: ${stateText(cell)}`;
-  return element("td", { class: state.style }, element("a", { href: `#lane-${epoch}-${node}-${lane}`, title: `${name}. ${meaningOf(state.name)}`, "aria-label": name, tabindex: isFirst ? "0" : "-1" },
-    state.text, state.round === null ? null : element("small", {}, ` r${state.round}`)));
+  const round = state.round === null ? null : element("small", {}, ` r${state.round}`);
+  const title = `${name}. ${meaningOf(state.name)}`;
+  return gridCell(state.style, `lane-${epoch}-${node}-${lane}`, name, title, node === 0 && lane === 0, state.text, round);
 }
 
 function deskCell(world, epoch, node) {
   const isClosed = world.lanes.closed(epoch, node) >= 0;
   const name = `desk of node ${node}: epoch ${epoch} ${isClosed ? "closed" : "not closed"}`;
-  return element("td", { class: isClosed ? "closed" : "open" }, element("a", { href: `#desk-${epoch}-${node}`, title: name, "aria-label": name, tabindex: "-1" }, isClosed ? "✓" : "✗"));
+  return gridCell(isClosed ? "closed" : "open", `desk-${epoch}-${node}`, name, name, false, isClosed ? "✓" : "✗");
+}
+
+function gridHead(lanes) {
+  const isNarrow = lanes.length > 8;
+  const laneHead = (lane) => {
+    const title = `lane ${lane}: the batch of node ${lane}`;
+    return element("th", { scope: "col", title }, isNarrow ? `${lane}` : `lane ${lane}`);
+  };
+  return row(head("col", "Node"), lanes.map(laneHead), element("th", { scope: "col", title: meaningOf("desk") }, "desk"));
+}
+
+function gridRow(world, epoch, node, lanes) {
+  const state = world.nodeState(node);
+  const told = state === "liar" || state === "ended" ? element("small", {}, ` ${state}`) : null;
+  const cells = lanes.map((lane) => laneCell(world, epoch, node, lane));
+  return element("tr", { class: state }, head("row", `${node}`, told), cells, deskCell(world, epoch, node));
 }
 
 function grid(world, epoch) {
   const { n } = world.config;
   const lanes = Array.from({ length: n }, (_, lane) => lane);
-  const head = element("tr", {}, element("th", { scope: "col" }, "Node"), lanes.map((lane) => element("th", { scope: "col", title: `lane ${lane}: the batch of node ${lane}` }, n > 8 ? `${lane}` : `lane ${lane}`)), element("th", { scope: "col", title: meaningOf("desk") }, "desk"));
-  const rows = lanes.map((node) => {
-    const state = world.nodeState(node);
-    return element("tr", { class: state }, element("th", { scope: "row" }, `${node}`, state === "liar" || state === "ended" ? element("small", {}, ` ${state}`) : null),
-      lanes.map((lane) => laneCell(world, epoch, node, lane, node === 0 && lane === 0)), deskCell(world, epoch, node));
-  });
-  return element("section", { class: "epoch", style: `contain-intrinsic-size:auto ${n * 44 + 110}px auto ${n * 25 + 70}px` },
-    element("h4", {}, `Epoch ${epoch}`),
-    element("table", { class: n > 8 ? "grid many" : "grid", onkeydown: moveInGrid }, element("caption", { class: "unseen" }, `Epoch ${epoch}: a row for each node, a column for each lane`), element("thead", {}, head), element("tbody", {}, rows)));
+  const style = `contain-intrinsic-size:auto ${n * 44 + 110}px auto ${n * 25 + 70}px`;
+  const caption = unseenCaption(`Epoch ${epoch}: a row for each node, a column for each lane`);
+  const rows = lanes.map((node) => gridRow(world, epoch, node, lanes));
+  const cells = tableOf({ class: n > 8 ? "grid many" : "grid", onkeydown: moveInGrid }, caption, gridHead(lanes), rows);
+  return element("section", { class: "epoch", style }, element("h4", {}, `Epoch ${epoch}`), cells);
 }
 
 // Arrow keys move from cell to cell of a grid.
@@ -130,23 +178,30 @@ function moveInGrid(event) {
   if (link) link.focus();
 }
 
+function legendItem(style, sign, ...text) {
+  return element("li", {}, element("span", { class: `swatch ${style}` }, sign), text);
+}
+
 function legend() {
-  const states = STATES.map((name) => element("li", {}, element("span", { class: `swatch ${STYLES[name]}` }, SIGNS[name]), word(name)));
-  return element("ul", { class: "legend" }, states, element("li", {}, element("span", { class: "swatch closed" }, "✓"), word("closed")),
-    element("li", {}, element("span", { class: "swatch liar" }, "\u00a0"), word("liar")), element("li", {}, element("span", { class: "swatch ended" }, "\u00a0"), word("ended")), element("li", {}, "r0: the round in which it decided"));
+  const states = STATES.map((name) => legendItem(STYLES[name], SIGNS[name], word(name)));
+  const others = [["closed", "✓"], ["liar", "\u00a0"], ["ended", "\u00a0"]].map(([name, sign]) => legendItem(name, sign, word(name)));
+  return element("ul", { class: "legend" }, states, others, element("li", {}, "r0: the round in which it decided"));
 }
 
 function summary(world) {
   const { config, history, run } = world;
-  const parts = [`${counted(config.n, "node")}, of which at most ${config.f} may lie; ${counted(config.epochs, "epoch")}; version ${config.version} of the rules; seed ${config.seed}; ${counted(history.count, "post")}.`];
-  if (run && run.status !== null) parts.push(` The run ended with status ${run.status}: ${statusText(run.status)}.`);
-  return element("p", {}, parts);
+  const numbers = [
+    `${counted(config.n, "node")}, of which at most ${config.f} may lie`, counted(config.epochs, "epoch"),
+    `version ${config.version} of the rules`, `seed ${config.seed}`, counted(history.count, "post"),
+  ];
+  const ended = run && run.status !== null ? ` The run ended with status ${run.status}: ${statusText(run.status)}.` : "";
+  return para("", `${numbers.join("; ")}.${ended}`);
 }
 
 function plans(world) {
   const texts = world.scenario ? planTexts(world.scenario) : [];
-  if (texts.length === 0) return null;
-  return element("section", {}, element("h3", {}, "What the scenario plans"), element("ul", {}, texts.map((text) => element("li", {}, text))));
+  const list = element("ul", {}, texts.map((text) => element("li", {}, text)));
+  return texts.length === 0 ? null : part("What the scenario plans", list);
 }
 
 // Adds the grids of all epochs, some at a time, so that the first are there at once.
@@ -156,18 +211,18 @@ function addGrids(place, world, first) {
   if (last < world.config.epochs) setTimeout(() => addGrids(place, world, last));
 }
 
+const WORKERS = "The scenario has workers: each run has another history. This is one of them.";
+const GUIDE = "A row for each node, a column for each lane. A click opens the lane; within a grid the arrow keys move.";
+
 export function fillOverview(section, world) {
-  const workers = world.scenario && world.scenario.workers > 0;
   const grids = element("div", { class: "epochs" });
+  const hasWorkers = world.scenario && world.scenario.workers > 0;
+  const nodes = element("section", { class: "nodes-part" }, element("h3", {}, "Nodes"), nodeTable(world), plans(world));
+  const title = element("h3", {}, "How far each lane came");
+  const lanes = element("section", { class: "lanes-part" }, title, para("note", GUIDE), legend(), grids);
   fill(section, [
-    element("h2", {}, "Overview"), summary(world),
-    workers ? element("p", { class: "note" }, "The scenario has workers: each run has another history. This is one of them.") : null,
-    element("section", {}, element("h3", {}, "What stands out"), findings(world)),
-    element("div", { class: "beside" },
-      element("section", { class: "nodes-part" }, element("h3", {}, "Nodes"), nodeTable(world), plans(world)),
-      element("section", { class: "lanes-part" }, element("h3", {}, "How far each lane came"),
-        element("p", { class: "note" }, "A row for each node, a column for each lane. A click opens the lane; within a grid the arrow keys move."),
-        legend(), grids)),
+    element("h2", {}, "Overview"), summary(world), hasWorkers ? para("note", WORKERS) : null,
+    part("What stands out", findings(world)), element("div", { class: "beside" }, nodes, lanes),
   ]);
   addGrids(grids, world, 0);
 }

@@ -13,7 +13,15 @@ const RULES = {
   DECIDED: restsOfDecided, PROPOSE: restsOfPropose, NOMORE: restsOfNomore, CLOSED: restsOfClosed,
 };
 
-const ADDRESSES = { DELIVERED: "home", DECIDED: "home", PROPOSE: "home", NOMORE: "home", EST: "book", PICK: "book", CLOSED: "book" };
+const ADDRESSES = {
+  DELIVERED: "home",
+  DECIDED: "home",
+  PROPOSE: "home",
+  NOMORE: "home",
+  EST: "book",
+  PICK: "book",
+  CLOSED: "book",
+};
 
 // The world that the rules look at: history, reach and coins.
 export class Rules {
@@ -43,7 +51,13 @@ export class Rules {
     const again = this.saidBefore(k, vote);
     const ways = this.ways(node, history.actor[k], vote, k, k);
     const met = ways.filter((way) => way.met);
-    return { vote, faults, again, ways: met.length > 0 ? met : ways, met: faults.length === 0 && (again !== null || met.length > 0) };
+    return {
+      vote,
+      faults,
+      again,
+      ways: met.length > 0 ? met : ways,
+      met: faults.length === 0 && (again !== null || met.length > 0),
+    };
   }
 
   // The earlier post by which the actor said just this, or null.
@@ -65,15 +79,21 @@ export class Rules {
     if (!vote) return [stop("the bytes spell no vote")];
     if (actor > n) return [stop(`node ${node} has no actor ${actor}`)];
     const isDesk = kindNamed(vote.kind).group === "desk";
-    if (isDesk !== (actor === n)) return [stop(isDesk ? "only a desk casts this, and this actor is a lane" : "only a lane casts this, and this actor is the desk")];
+    if (isDesk !== (actor === n)) return [
+      stop(isDesk ? "only a desk casts this, and this actor is a lane" : "only a lane casts this, and this actor is the desk"),
+    ];
     if (vote.epoch >= epochs) return [stop(`the run has no epoch ${vote.epoch}`)];
     if ((vote.round ?? 0) >= rounds) return [stop(`the run has no round ${vote.round}`)];
     const faults = [];
     const wanted = vote.kind === "VAL" ? `node ${vote.target}` : ADDRESSES[vote.kind] || "all";
-    if (addressWord(history, k) !== wanted) faults.push(holds(`it goes to "${addressWord(history, k)}", and should go to "${wanted}"`, false));
+    if (addressWord(history, k) !== wanted) faults.push(
+      holds(`it goes to "${addressWord(history, k)}", and should go to "${wanted}"`, false),
+    );
     const scene = this.scene(node, actor, vote.epoch, k);
     const other = scene.own((p) => excludes(history, p, k));
-    if (other.length > 0) faults.push({ text: "the actor had said something else before that excludes it", need: 0, posts: other, met: false });
+    if (other.length > 0) faults.push(
+      { text: "the actor had said something else before that excludes it", need: 0, posts: other, met: false },
+    );
     return faults;
   }
 }

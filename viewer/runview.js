@@ -8,6 +8,7 @@ import { addressText } from "./reach.js";
 import { meaningOf } from "./words.js";
 import { voteText } from "./votes.js";
 
+const KEYS = "The posts as a picture. Arrow keys select a post, page keys scroll, plus and minus zoom, Enter leads to the panel.";
 const EMPTY = { epoch: "", lane: "", node: "", kind: "", round: "" };
 
 export class RunView {
@@ -27,31 +28,32 @@ export class RunView {
     this.number = element("input", { type: "text", inputmode: "numeric", id: "number", size: "7", autocomplete: "off" });
     this.number.addEventListener("change", () => this.goTo(this.number.value));
     this.shown = element("span", { id: "shown", role: "status" });
-    this.canvas = element("canvas", { id: "picture", tabindex: "0", role: "application", "aria-roledescription": "picture of a run", "aria-describedby": "said",
-      "aria-label": "The posts in order. Arrow keys select a post, page keys scroll, plus and minus zoom, Enter leads to the panel." });
+    const attributes = { id: "picture", tabindex: "0", role: "application", "aria-label": KEYS, "aria-describedby": "said" };
+    this.canvas = element("canvas", attributes);
     this.map = element("canvas", { id: "minimap", "aria-hidden": "true" });
     this.said = element("p", { id: "said", class: "unseen", "aria-live": "polite" });
     this.panel = element("aside", { id: "panel", tabindex: "-1", "aria-label": "What is selected" });
-    this.section.append(element("h2", { class: "unseen" }, "Run"), this.bar(), element("div", { id: "stage" }, this.canvas, this.map, this.panel), this.said);
+    const stage = element("div", { id: "stage" }, this.canvas, this.map, this.panel);
+    this.section.append(element("h2", { class: "unseen" }, "Run"), this.bar(), stage, this.said);
     this.drawing = new Drawing(this.canvas, this.world, this.layout);
-    this.minimap = new Minimap(this.map, this.world, (share) => this.scrollTo(share * this.view.list.length - this.layout.rows / 2));
+    const toShare = (share) => this.scrollTo(share * this.view.list.length - this.layout.rows / 2);
+    this.minimap = new Minimap(this.map, this.world, toShare);
     this.listen();
   }
 
   select(name) {
     const options = choices(this.history)[name].map(([value, text]) => element("option", { value }, text));
-    return element("select", { id: `filter-${name}`, "aria-label": `Show ${name}`, onchange: () => this.filter(this.chosen()) }, options);
+    const onchange = () => this.filter(this.chosen());
+    return element("select", { id: `filter-${name}`, "aria-label": `Show ${name}`, onchange }, options);
   }
 
   bar() {
-    const button = (text, label, act, id) => element("button", { type: "button", "aria-label": label, title: label, id, onclick: act }, text);
-    return element("div", { id: "bar", role: "group", "aria-label": "Filters and zoom" },
-      Object.values(this.selects),
-      button("Show all", "Show all posts", () => this.filter({}), "show-all"),
-      this.shown,
-      element("span", { class: "right" },
-        button("−", "Zoom out", () => this.zoom(-1), "zoom-out"), button("+", "Zoom in", () => this.zoom(1), "zoom-in"),
-        element("label", { for: "number" }, "Post"), this.number));
+    const button = (text, title, onclick, id) => element("button", { type: "button", "aria-label": title, title, id, onclick }, text);
+    const zooms = [button("−", "Zoom out", () => this.zoom(-1), "zoom-out"), button("+", "Zoom in", () => this.zoom(1), "zoom-in")];
+    const right = element("span", { class: "right" }, zooms, element("label", { for: "number" }, "Post"), this.number);
+    const all = button("Show all", "Show all posts", () => this.filter({}), "show-all");
+    const attributes = { id: "bar", role: "group", "aria-label": "Filters and zoom" };
+    return element("div", attributes, Object.values(this.selects), all, this.shown, right);
   }
 
   listen() {
@@ -100,7 +102,9 @@ export class RunView {
   }
 
   words(k) {
-    return `Post ${k} from node ${this.history.from[k]}, ${this.history.actorName(this.history.actor[k])}: ${voteText(this.history.bytes, this.history.vote(k))}. To ${addressText(this.history, k)}.`;
+    const { history } = this;
+    const sender = `node ${history.from[k]}, ${history.actorName(history.actor[k])}`;
+    return `Post ${k} from ${sender}: ${voteText(history.bytes, history.vote(k))}. To ${addressText(history, k)}.`;
   }
 
   bringInSight() {
@@ -165,7 +169,9 @@ export class RunView {
     const { list, selected } = this.view;
     if (selected === null) return;
     let place = placeOf(list, selected) + direction;
-    while (place >= 0 && place < list.length && this.history.from[list[place]] !== this.history.from[selected]) place += direction;
+    while (
+      place >= 0 && place < list.length && this.history.from[list[place]] !== this.history.from[selected]
+    ) place += direction;
     if (place >= 0 && place < list.length) this.onSelect(list[place]);
   }
 

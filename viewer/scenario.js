@@ -29,7 +29,10 @@ const SHAPES = {
 
 function linkText(link) {
   const which = link.every === 1 ? "each post" : `each post whose number leaves ${link.at} when divided by ${link.every}`;
-  const ends = [link.from === undefined ? "from any node" : `from node ${link.from}`, link.to === undefined ? "to any other node" : `to node ${link.to}`];
+  const ends = [
+    link.from === undefined ? "from any node" : `from node ${link.from}`,
+    link.to === undefined ? "to any other node" : `to node ${link.to}`,
+  ];
   return `Links: ${which} ${ends.join(" ")} ${SHAPES[link.shape]}.`;
 }
 
@@ -48,8 +51,12 @@ export function planTexts(scenario) {
   const texts = [];
   for (const link of scenario.links) texts.push(linkText(link));
   for (const stop of scenario.stops) {
-    texts.push(`Power: ${actorText(stop, scenario.nodes)} loses its power at call ${stop.call} of its disk; ${LEAVES[stop.leave]}.`);
+    texts.push(
+      `Power: ${actorText(stop, scenario.nodes)} loses its power at call ${stop.call} of its disk; ${LEAVES[stop.leave]}.`,
+    );
   }
-  for (const fault of scenario.faults) texts.push(`Disk: call ${fault.call} of the disk of ${actorText(fault, scenario.nodes)} fails.`);
+  for (const fault of scenario.faults) texts.push(
+    `Disk: call ${fault.call} of the disk of ${actorText(fault, scenario.nodes)} fails.`,
+  );
   return texts;
 }

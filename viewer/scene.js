@@ -51,7 +51,9 @@ export class Scene {
     const found = new Map();
     for (const k of this.posts(this.actor)) {
       const from = this.history.from[k];
-      if (from < this.config.n && !found.has(from) && test(k) && this.world.reach.arrives(k, this.node, this.actor)) found.set(from, k);
+      if (
+        from < this.config.n && !found.has(from) && test(k) && this.world.reach.arrives(k, this.node, this.actor)
+      ) found.set(from, k);
     }
     return [...found.values()];
   }

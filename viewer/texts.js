@@ -34,7 +34,11 @@ export function readRun(text) {
   return { nodes, status };
 }
 
-const CAUSES = { memory: "found no memory", journal: "could not keep its journal: a call of its disk failed", full: "found the book of posts full" };
+const CAUSES = {
+  memory: "found no memory",
+  journal: "could not keep its journal: a call of its disk failed",
+  full: "found the book of posts full",
+};
 
 export function causeText(cause) {
   return CAUSES[cause];

@@ -160,7 +160,10 @@ export function voteText(bytes, vote) {
 
 function fieldText(bytes, field, part) {
   if (field === "bits") return `bits ${[0, 1].filter((bit) => hasBit(part, bit)).join(" ")}`;
-  if (field === "items") return [`values ${part.length}`, ...part.map((item) => `node ${item.node} value length ${item.value.length}`)].join(" ");
+  if (field === "items") return [
+    `values ${part.length}`,
+    ...part.map((item) => `node ${item.node} value length ${item.value.length}`),
+  ].join(" ");
   if (field === "root" || field === "salt") return `${field} ${hexOf(bytes, part, 4)}`;
   if (field === "branch") return `branch ${branchText(bytes, part)}`;
   return typeof part === "number" ? `${field} ${part}` : `${field} length ${part.length}`;

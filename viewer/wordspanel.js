@@ -1,5 +1,5 @@
 // The words of the page with their meanings, the letters and colours of the votes, and the keys.
-import { chip, element, table } from "./dom.js";
+import { chip, element, fill, table } from "./dom.js";
 import { KIND_LIST } from "./votes.js";
 import { MEANINGS } from "./words.js";
 
@@ -30,15 +30,20 @@ const PICTURE = [
   ["grey column", "a node that ended"],
 ];
 
+// A heading, and a table whose caption repeats it for a screen reader.
+function listed(title, heads, rows) {
+  return [element("h3", {}, title), table(title, heads, rows, { class: "words" })];
+}
+
 export function fillWords(section) {
   const kinds = KIND_LIST.map((kind) => [[chip(kind.name), ` ${kind.name}`], GROUPS[kind.group], MEANINGS.get(kind.name)]);
   const isKind = new Set(KIND_LIST.map((kind) => kind.name));
   const others = [...MEANINGS].filter(([name]) => !isKind.has(name)).sort(([one], [other]) => one.localeCompare(other));
-  section.append(
+  fill(section, [
     element("h2", {}, "Words and keys"),
-    element("h3", {}, "Votes"), table("Each kind of vote, with its letter", ["Vote", "Part", "Meaning"], kinds, { class: "words" }),
-    element("h3", {}, "The picture of a run"), table("What is drawn", ["Sign", "Meaning"], PICTURE, { class: "words" }),
-    element("h3", {}, "Keys"), table("Keys", ["Key", "What it does"], KEYS, { class: "words" }),
-    element("h3", {}, "Other words"), table("Words", ["Word", "Meaning"], others, { class: "words" }),
-  );
+    listed("Votes", ["Vote", "Part", "Meaning"], kinds),
+    listed("The picture of a run", ["Sign", "Meaning"], PICTURE),
+    listed("Keys", ["Key", "What it does"], KEYS),
+    listed("Other words", ["Word", "Meaning"], others),
+  ]);
 }
