@@ -2,13 +2,22 @@
 import time
 
 from selenium import webdriver
+from selenium.common.exceptions import WebDriverException
 from selenium.webdriver.chrome.options import Options
 from selenium.webdriver.chrome.service import Service
 from selenium.webdriver.common.by import By
 from selenium.webdriver.common.keys import Keys
+from selenium.webdriver.remote.remote_connection import RemoteConnection
+from urllib3.exceptions import HTTPError
 
 WIDTH, HEIGHT = 1280, 720
-PATIENCE = 60
+# seconds for a page to show something, and for an answer of the driver
+PATIENCE = 120
+LONGEST = 300
+
+
+# what the driver or a page that does not answer ends with
+SILENCE = (WebDriverException, HTTPError, AssertionError)
 
 
 def start(chromium, chromedriver):
@@ -18,9 +27,17 @@ def start(chromium, chromedriver):
     for word in ("--headless=new", "--no-sandbox", "--disable-gpu", f"--window-size={WIDTH},{HEIGHT}"):
         options.add_argument(word)
     options.set_capability("goog:loggingPrefs", {"browser": "ALL"})
+    RemoteConnection.set_timeout(LONGEST)
     driver = webdriver.Chrome(options=options, service=Service(chromedriver))
-    driver.execute_cdp_cmd("Emulation.setDeviceMetricsOverride", {"width": WIDTH, "height": HEIGHT, "deviceScaleFactor": 1, "mobile": False})
+    driver.set_page_load_timeout(PATIENCE)
+    driver.set_script_timeout(PATIENCE)
+    size = {"width": WIDTH, "height": HEIGHT, "deviceScaleFactor": 1, "mobile": False}
+    driver.execute_cdp_cmd("Emulation.setDeviceMetricsOverride", size)
     return driver
+
+
+# Answers once two frames were drawn.
+TWO_FRAMES = "const done = arguments[0]; setTimeout(() => requestAnimationFrame(() => requestAnimationFrame(done)));"
 
 
 class Shown:
@@ -50,7 +67,7 @@ class Shown:
     def go(self, place):
         """Follows a link of the page, and waits until it is drawn."""
         self.driver.execute_script("location.hash = arguments[0];", place)
-        self.driver.execute_async_script("const done = arguments[0]; setTimeout(() => requestAnimationFrame(() => requestAnimationFrame(done)));")
+        self.driver.execute_async_script(TWO_FRAMES)
 
     def all(self, selector):
         """The elements that a selector finds."""

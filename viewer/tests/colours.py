@@ -1,5 +1,5 @@
-"""Whether the colours of votes can be told apart by people who see fewer colours, by simulations of Machado, Oliveira and Fernandes
-(2009). Letters and forms stand beside the colours, so only kinds of one form are compared."""
+"""Whether the colours of votes can be told apart by people who see fewer colours, by simulations of Machado, Oliveira and
+Fernandes (2009). Letters and forms stand beside the colours, so only kinds of one form are compared."""
 import itertools
 import re
 
@@ -16,7 +16,11 @@ TO_XYZ = ((0.4124, 0.3576, 0.1805), (0.2126, 0.7152, 0.0722), (0.0193, 0.1192, 0
 WHITE = (0.9505, 1.0, 1.089)
 # a difference of about 2 can just be seen where colours lie side by side
 LEAST = 15
-FORMS = {"square": "VAL ECHO READY DELIVERED", "round": "EST BVAL AUX CONF PICK COIN DECIDED", "six-sided": "PROPOSE NOMORE CLOSED"}
+FORMS = {
+    "square": "VAL ECHO READY DELIVERED",
+    "round": "EST BVAL AUX CONF PICK COIN DECIDED",
+    "six-sided": "PROPOSE NOMORE CLOSED",
+}
 
 
 def linear(colour):

@@ -1,6 +1,11 @@
 """The coins that are dealt before a run, by the stream of ChaCha20 (RFC 8439) with the seed in its key."""
 import struct
 
+# the words of each quarter round: four columns, four diagonals
+QUARTERS = [
+    (0, 4, 8, 12), (1, 5, 9, 13), (2, 6, 10, 14), (3, 7, 11, 15), (0, 5, 10, 15), (1, 6, 11, 12), (2, 7, 8, 13), (3, 4, 9, 14),
+]
+
 
 def rotate(word, by):
     """A word of 32 bits turned to the left."""
@@ -20,7 +25,7 @@ def word(seed, place):
     start = [0x61707865, 0x3320646E, 0x79622D32, 0x6B206574, *key, place // 16, 0, 0, 0]
     words = start[:]
     for _ in range(10):
-        for at in ((0, 4, 8, 12), (1, 5, 9, 13), (2, 6, 10, 14), (3, 7, 11, 15), (0, 5, 10, 15), (1, 6, 11, 12), (2, 7, 8, 13), (3, 4, 9, 14)):
+        for at in QUARTERS:
             quarter(words, *at)
     return (words[place % 16] + start[place % 16]) & 0xFFFFFFFF
 

@@ -42,8 +42,9 @@ def script():
 def by_node(question):
     """What the page's decoder answers under node."""
     with tempfile.TemporaryDirectory() as folder:
-        Path(folder, "decode.js").write_text(script() + 'console.log(JSON.stringify(answer(JSON.parse(require("fs").readFileSync(0, "utf8")))));')
-        done = subprocess.run(["node", f"{folder}/decode.js"], input=json.dumps(question), capture_output=True, text=True, check=True)
+        path = Path(folder, "decode.js")
+        path.write_text(script() + 'console.log(JSON.stringify(answer(JSON.parse(require("fs").readFileSync(0, "utf8")))));')
+        done = subprocess.run(["node", path], input=json.dumps(question), capture_output=True, text=True, check=True)
     return json.loads(done.stdout)
 
 

@@ -62,12 +62,16 @@ def measure(driver, page):
     shown.go("run")
     for zoom, rows in ((0, 40), (2, 10), (4, 3), (4, 900), (6, 3)):
         frames = scrolled(shown, zoom, rows)
-        print(f"zoom {zoom}, {rows} rows a frame: median {frames[len(frames) // 2]:.0f} ms, longest {frames[-1]:.0f} ms of {len(frames)} frames")
+        median = frames[len(frames) // 2]
+        print(f"zoom {zoom}, {rows} rows a frame, {len(frames)} frames: median {median:.0f} ms, longest {frames[-1]:.0f} ms")
 
 
 def main():
     """Measures the page that is named, or that of the large scenario."""
-    driver = browser.start(sys.argv[1], sys.argv[2])
+    try:
+        driver = browser.start(sys.argv[1], sys.argv[2])
+    except browser.SILENCE as silence:
+        sys.exit(f"viewer/test: the browser did not start: {str(silence).splitlines()[0]}")
     try:
         with tempfile.TemporaryDirectory() as folder:
             measure(driver, Path(sys.argv[3]).resolve() if len(sys.argv) > 3 else make(folder))

@@ -3,6 +3,47 @@ import re
 
 import deal
 
+# The labels of the cells of each grid.
+GRIDS = """[...document.querySelectorAll('.grid')].map(
+  (one) => [...one.querySelectorAll('td a')].map((link) => link.getAttribute('aria-label')))"""
+# The links to two posts that contradict each other, with the texts in which they stand.
+PAIRS = """[...document.querySelectorAll('.findings a[href^="#pair"]')].map(
+  (link) => [link.closest('li').textContent, link.getAttribute('href')])"""
+# Sets a filter, as a user does.
+CHOOSE = """(() => {
+  const select = document.getElementById(arguments[0]);
+  select.value = arguments[1];
+  select.dispatchEvent(new Event('change'));
+})()"""
+# Of each epoch the columns of its ledgers: the nodes, the style of the cell, and the batches with their transactions.
+LEDGERS = """(() => {
+  const listed = (li) => [...li.querySelectorAll('ul li')].map((one) => [one.title || one.textContent, one.className]);
+  const column = (head, cell) => {
+    for (const details of cell.querySelectorAll('details')) {
+      details.open = true;
+      details.dispatchEvent(new Event('toggle'));
+    }
+    const batches = [...cell.querySelectorAll('.batches > li')].map((li) => [li.textContent, listed(li)]);
+    return [head.textContent, cell.className, batches];
+  };
+  return [...document.querySelectorAll('.ledger')].map((section) => {
+    const cells = section.querySelectorAll('tbody td');
+    return [...section.querySelectorAll('thead th')].map((head, at) => column(head, cells[at]));
+  });
+})()"""
+# What has the focus.
+FOCUS = "document.activeElement.getAttribute('href') || document.activeElement.dataset.word || ''"
+# How many things can be used and have no name for a screen reader.
+UNNAMED = """[...document.querySelectorAll('button, select, input, canvas')].filter((one) => {
+  const isLabelled = one.getAttribute('aria-label') || (one.labels && one.labels.length > 0) || one.textContent.trim();
+  return !isLabelled && one.getAttribute('aria-hidden') !== 'true';
+}).length"""
+# The first post of a correct node for which the page finds no reason.
+WITHOUT_REASON = """(() => {
+  const { history, rules } = window.shownRun.world;
+  for (let k = 0; k < history.count; k += 1) if (!history.isLiar(history.from[k]) && !rules.why(k).met) return k;
+  return null;
+})()"""
 LANE = re.compile(r"node (\d+), lane (\d+): (.*)")
 DECIDED = re.compile(r"decided ([01]) in round (\d+)")
 
@@ -11,7 +52,7 @@ def grid(shown, epochs):
     """Of each epoch, node and lane the state that the overview tells, and the epochs that desks closed."""
     shown.wait(f"return document.querySelectorAll('.grid').length === {epochs}")
     lanes, closed = {}, set()
-    tables = shown.run("[...document.querySelectorAll('.grid')].map((one) => [...one.querySelectorAll('td a')].map((a) => a.getAttribute('aria-label')))")
+    tables = shown.run(GRIDS)
     for epoch, labels in enumerate(tables):
         for label in labels:
             lane = LANE.fullmatch(label)
@@ -46,7 +87,7 @@ def check_overview(checks, shown, trace, ledgers):
 
 def check_accused(checks, shown, wanted, has_workers):
     """The accused nodes and their posts; with workers each run has other posts."""
-    links = shown.run("[...document.querySelectorAll('.findings a[href^=\"#pair\"]')].map((a) => [a.closest('li').textContent, a.getAttribute('href')])")
+    links = shown.run(PAIRS)
     found = [(int(re.search(r"Node (\d+)", text)[1]), *map(int, re.findall(r"\d+", href))) for text, href in links]
     if has_workers:
         checks.same("the accused nodes", [node for node, *_ in found], [node for node, *_ in wanted])
@@ -61,7 +102,12 @@ def shown_count(shown):
 
 def choose(shown, name, value):
     """Sets a filter, as a user does."""
-    shown.run("(() => { const s = document.getElementById(arguments[0]); s.value = arguments[1]; s.dispatchEvent(new Event('change')); })()", f"filter-{name}", value)
+    shown.run(CHOOSE, f"filter-{name}", value)
+
+
+def is_kind(value):
+    """Whether a choice of the filter is a kind; the others are groups of kinds, and all."""
+    return value == "no vote" or value.isupper()
 
 
 def listed(shown):
@@ -74,7 +120,7 @@ def check_filters(checks, shown, trace):
     shown.go("run")
     shown.run("document.getElementById('show-all').click()")
     checks.same("the number of posts", shown_count(shown), (len(trace.posts),) * 2)
-    for kind in shown.run("[...document.getElementById('filter-kind').options].map((o) => o.value).filter((v) => v && v === v.toUpperCase() || v === 'no vote')"):
+    for kind in filter(is_kind, shown.run("[...document.getElementById('filter-kind').options].map((one) => one.value)")):
         choose(shown, "kind", kind)
         checks.same(f"the number of {kind}", shown_count(shown)[0], trace.kinds().get(kind, 0))
     choose(shown, "kind", "")
@@ -107,12 +153,7 @@ def reaches(post, node, nodes):
 def page_ledgers(shown, nodes):
     """The ledgers that the page shows, as lines like those of a run."""
     shown.go("ledgers")
-    cells = shown.run("""[...document.querySelectorAll('.ledger')].map((section) => [...section.querySelectorAll('thead th')].map((head, at) => {
-      const cell = section.querySelectorAll('tbody td')[at];
-      for (const details of cell.querySelectorAll('details')) { details.open = true; details.dispatchEvent(new Event('toggle')); }
-      const batches = [...cell.querySelectorAll('.batches > li')].map((li) => [li.textContent, [...li.querySelectorAll('ul li')].map((tx) => [tx.title || tx.textContent, tx.className])]);
-      return [head.textContent, cell.className, batches];
-    }))""")
+    cells = shown.run(LEDGERS)
     lines = {node: [] for node in nodes}
     for epoch, groups in enumerate(cells):
         for head, style, batches in groups:
@@ -150,7 +191,7 @@ def check_links(checks, shown, trace):
         links[0].click()
         shown.wait(f"return document.querySelector('#panel h2').textContent.includes('{kind}')")
     found = int(re.search(r"Post (\d+)", shown.texts("#panel h2")[0])[1])
-    checks.same(f"the vote at the end of the links from the CLOSED of epoch {epoch} of node {node}", trace.posts[found][3]["kind"], "VAL")
+    checks.same(f"the end of the links from the CLOSED of node {node} in epoch {epoch}", trace.posts[found][3]["kind"], "VAL")
 
 
 def check_keys(checks, shown, trace):
@@ -158,10 +199,11 @@ def check_keys(checks, shown, trace):
     reached = set()
     for _ in range(60):
         shown.press("TAB")
-        reached.add(shown.run("(document.activeElement.getAttribute('href') || document.activeElement.dataset.word || '').replace(/-.*/, '')"))
+        reached.add(shown.run(FOCUS).partition("-")[0])
         if shown.run("document.activeElement.closest('.grid') !== null"):
             break
-    checks.true("Tab reaches the views, the words and the grid", {"#overview", "#run", "#ledgers", "#words", "liar", "#lane"} <= reached)
+    wanted = {"#overview", "#run", "#ledgers", "#words", "liar", "#lane"}
+    checks.same("what Tab does not reach of views, words and grid", wanted - reached, set())
     shown.press("ARROW_RIGHT", "ARROW_DOWN")
     checks.same("arrows move in the grid", shown.run("document.activeElement.getAttribute('href')"), "#lane-0-1-1")
     shown.press("ENTER")
@@ -182,19 +224,17 @@ def check_keys(checks, shown, trace):
     shown.press("ENTER")
     checks.same("Enter leads to the panel", shown.run("document.activeElement.id"), "panel")
     shown.press("TAB")
-    checks.true("Tab leads on to a link of the panel", shown.run("document.activeElement.closest('#panel') !== null && document.activeElement.id !== 'panel'"))
+    checks.true("Tab leads on to a link of the panel", shown.run("document.activeElement.matches('#panel *')"))
     shown.press("ESCAPE")
     checks.same("Escape leads back to the picture", shown.run("document.activeElement.id"), "picture")
-    unnamed = shown.run("[...document.querySelectorAll('button, select, input, canvas')].filter((one) => !one.getAttribute('aria-label') && !(one.labels && one.labels.length) && one.getAttribute('aria-hidden') !== 'true' && !one.textContent.trim()).length")
+    unnamed = shown.run(UNNAMED)
     checks.same("what can be used and has no name", unnamed, 0)
     checks.same("posts after the keys", len(trace.posts), shown_count(shown)[1])
 
 
 def first_without_reason(shown):
     """The first post of a correct node for which the page finds no reason, or None."""
-    return shown.run("""(() => { const { world } = window.shownRun;
-      for (let k = 0; k < world.history.count; k += 1) if (!world.history.isLiar(world.history.from[k]) && !world.rules.why(k).met) return k;
-      return null; })()""")
+    return shown.run(WITHOUT_REASON)
 
 
 def shoot_views(shown, trace):

@@ -2,8 +2,8 @@
 import random
 
 HEADS = {
-    1: "VAL", 2: "ECHO", 3: "READY", 4: "DELIVERED", 5: "EST", 6: "BVAL", 7: "AUX", 8: "PICK", 9: "COIN", 10: "DECIDED", 11: "CONF",
-    16: "PROPOSE", 17: "NOMORE", 18: "CLOSED",
+    1: "VAL", 2: "ECHO", 3: "READY", 4: "DELIVERED", 5: "EST", 6: "BVAL", 7: "AUX", 8: "PICK", 9: "COIN", 10: "DECIDED",
+    11: "CONF", 16: "PROPOSE", 17: "NOMORE", 18: "CLOSED",
 }
 LONGEST_VALUE, LONGEST_SHARD = 16_514, 16_520
 
