@@ -17,16 +17,16 @@ VIEW = texts.TOP / "tools" / "view"
 
 
 def view(*words):
-    """Runs tools/view; answers its status and what it said on standard error."""
+    """Runs tools/view; answers its status and the last line on standard error. A program that is built first says so there."""
     done = subprocess.run([VIEW, *words], capture_output=True, text=True, check=False)
-    return done.returncode, done.stderr
+    return done.returncode, (done.stderr.splitlines() or [""])[-1]
 
 
 def check_scenario(checks, driver, name, folder, shots):
     """The page of a scenario."""
     checks.about = name
     page = folder / f"{name}.html"
-    checks.same("tools/view", view(str(texts.scenario(name)), str(page)), (0, ""))
+    checks.same("the status of tools/view", view(str(texts.scenario(name)), str(page))[0], 0)
     shown = browser.Shown(driver, page, shots)
     trace = texts.Trace(decoding.trace_in(page))
     ledgers = texts.ledgers(texts.program(str(texts.scenario(name))))
@@ -64,7 +64,7 @@ def check_bent(checks, driver, folder, shots):
             checks.about = f"{name}, {command}"
             path = folder / "bent.trace"
             path.write_text(texts.bent(text, command))
-            checks.same("tools/view --trace", view("--trace", str(path), str(folder / "bent.html")), (0, ""))
+            checks.same("the status of tools/view", view("--trace", str(path), str(folder / "bent.html"))[0], 0)
             shown = browser.Shown(driver, folder / "bent.html", shots)
             verdict, number = answer.split()
             wanted = int(number) if verdict == "illegal" else None
@@ -101,7 +101,7 @@ def check_faults(checks, driver, folder, shots):
         path.write_text(bent)
         status, told = view("--trace", str(path), str(folder / f"{name}.html"))
         checks.same("the status", status, 0)
-        checks.same("the line that the audit names", told.strip().rpartition(" ")[2], f"line={line}")
+        checks.same("the line that the audit names", told.rpartition(" ")[2], f"line={line}")
         shown = browser.Shown(driver, folder / f"{name}.html", shots if name in ("cut_off", "empty") else None)
         shown.shoot("overview")
         checks.true(f"it names line {line}", any(f"Line {line}" in one for one in shown.texts("#overview .alarm")))
@@ -118,7 +118,7 @@ def check_command(checks, folder):
     out = folder / "out"
     out.mkdir()
     page = str(out / "page.html")
-    checks.same("a scenario that is refused", view(str(refused), page), (3, "refused 7 OutOfRange top 0 epochs value=33\n"))
+    checks.same("a scenario that is refused", view(str(refused), page), (3, "refused 7 OutOfRange top 0 epochs value=33"))
     checks.same("a scenario that is not there", view("nothing.json", page)[0], 6)
     checks.same("a history that is not there", view("--trace", "nothing", page)[0], 6)
     for words in ([], [scenario], ["--other", scenario], ["--trace", scenario], [scenario, page, page]):
