@@ -1,5 +1,5 @@
 """For each check a change of the test that it reads, in one place, which it has to notice: the crate and the file, what stands
-there, and what is put in its place."""
+there, and what is put in its place. The file is a source, or the output of a stored run."""
 
 SOURCE = "crates/{}/src/{}.rt"
 LIBRARIES, LANES, DESKS = "library_calls", "lane_cases", "epoch_cases"
@@ -43,10 +43,13 @@ CHANGES = {
     "trace_texts": (TEXTS, "traces", "to node 255 0001", "to node 255 0002"),
     "posts_that_may_follow": (JUDGES, "two_nodes", r'''(0, 1, To::Book, b"\x08\x00\x01\x02")''',
                               r'''(0, 1, To::Book, b"\x08\x00\x01\x01")'''),
+    "words_of_votes": ("votes_cases", "rows", "PICK epoch 0 round 4 bits 0 1", "PICK epoch 0 round 4 bits 1"),
+    "words_of_a_run": ("hb_votes", "stdout", "AUX epoch 0 round 0 bit 1", "AUX epoch 0 round 0 bit 0"),
 }
 
 
 def change_of(check):
     """The path of the test, and the two texts."""
     crate, name, old, new = CHANGES[check]
-    return SOURCE.format(crate, name), old, new
+    path = f"crates/{crate}/stdout" if name == "stdout" else SOURCE.format(crate, name)
+    return path, old, new
