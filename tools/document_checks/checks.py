@@ -17,6 +17,7 @@ CHECKS = {
     "limits of keys": lambda root: scenario_document.key_limits(root, schema_checks.load(root)),
     "liars": scenario_document.liars,
     "votes": scenario_document.votes,
+    "words of votes": scenario_document.words_of_votes,
     "statuses": scenario_document.statuses,
     "lines of texts": scenario_document.lines,
     "examples": scenario_document.examples,

@@ -127,19 +127,35 @@ def votes(root):
     return some(kinds, "votes")
 
 
-def statuses(root):
-    """The statuses that the program answers, each with the lines that may be told with it on standard error."""
-    told = {name: line for name, line in re.findall(r'const (\w+): &\[u8; \d+\] = b"(.*)\\n"', source(root, "hb_app", "telling"))}
+def words_of_votes(root):
+    """The word that a history in words has for each vote, by its name."""
+    return some(dict(re.findall(r'Vote::(\w+) \{ \.\. \} => "(\w+) epoch "', source(root, "vote_words", "vote"))), "words of votes")
+
+
+def answered(root, crate, names):
+    """The statuses that these files of a crate answer, each with the lines that may be told with it on standard error."""
+    told = {name: line for name, line in re.findall(r'const (\w+): &\[u8; \d+\] = b"(.*)\\n"', source(root, crate, "telling"))}
     found = {}
-    for name in ("telling", "auditing", "alone", "top"):
-        text = source(root, "hb_app", name)
+    for name in names:
+        text = source(root, crate, name)
         for constant, status in re.findall(r"\b(?:tell|hint)\((\w+), (\d+),", text):
             found.setdefault(int(status), set()).add(told[constant])
         for status in re.findall(r"(?:Ok\(\(\)\)|Err\(_\)|\{ \.\. \}) => (\d+),", text):
             found.setdefault(int(status), set())
+    return some(found, f"statuses of {crate}")
+
+
+def statuses(root):
+    """The statuses that hb_ledger answers, with their lines."""
+    found = answered(root, "hb_app", ("telling", "auditing", "alone", "top"))
     for status in re.findall(r"\n\s+(\d+)(?=\n)", "\n" + function(source(root, "run_status", "outcome"), "status") + "\n"):
         found.setdefault(int(status), set())
-    return some(found, "statuses")
+    return found
+
+
+def votes_statuses(root):
+    """The statuses that hb_votes answers, with their lines."""
+    return answered(root, "votes_app", ("telling", "top"))
 
 
 def fillings(root, text, name, line):

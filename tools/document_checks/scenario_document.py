@@ -5,6 +5,8 @@ import re
 from . import facts, markdown
 
 NAME = "docs/SCENARIOS.md"
+# The heading of the words of votes.
+WORDS = "votes: a history in words"
 # How the document tells where a vote goes.
 PLACES = {"Book": "book", "Home": "home", "All": "to all", "Node": "to the target"}
 # A hole of a line in the code, which the document may call as it likes.
@@ -104,11 +106,29 @@ def votes(root):
     return wrong
 
 
+def words_of_votes(root):
+    """The word for each vote in a history in words stands there, with the vote."""
+    rows, wrong = rows_under(read(root), WORDS, "Words")
+    first = [(row[1], (markdown.spans(row[0]) or [""])[0]) for _, row in rows]
+    found = {span.split()[0]: re.split(r"\W", vote)[0] for vote, span in first if " epoch " in span}
+    wanted = {word: vote for vote, word in facts.words_of_votes(root).items()}
+    wrong += compare("word of a vote", wanted, found)
+    return wrong + [f"{NAME}: the word {word} is that of {vote} in the code" for word, vote in wanted.items()
+                    if found.get(word, vote) != vote]
+
+
 def statuses(root):
-    """Each status stands there, with what is told on standard error."""
-    rows, wrong = rows_under(read(root), "Statuses and standard error", "Status")
+    """Each status of either program stands there, with what is told on standard error."""
+    wrong = []
+    for heading, wanted in (("Statuses and standard error", facts.statuses(root)), (WORDS, facts.votes_statuses(root))):
+        wrong += statuses_under(read(root), heading, wanted)
+    return wrong
+
+
+def statuses_under(text, heading, wanted):
+    """What is wrong with the table of statuses under a heading."""
+    rows, wrong = rows_under(text, heading, "Status")
     found = {int(row[0]): row for _, row in rows if row[0].isdigit()}
-    wanted = facts.statuses(root)
     wrong += compare("status", wanted, found)
     for status, told in wanted.items():
         lost = [line for line in told if line not in markdown.spans(found[status][2])] if status in found else []
