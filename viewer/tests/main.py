@@ -42,6 +42,7 @@ def check_scenario(checks, driver, name, folder, shots):
         pages.check_keys(checks, browser.Shown(driver, page), trace)
         shown = browser.Shown(driver, page, shots)
     checks.same("the first post of a correct node without a reason", pages.first_without_reason(shown), None)
+    pages.check_window(checks, shown)
     pages.shoot_views(shown, trace)
     checks.same("errors on the console", shown.errors(), [])
 
@@ -75,6 +76,7 @@ def check_bent(checks, driver, folder, shots):
             checks.same("the first post of a correct node without a reason", pages.first_without_reason(shown), wanted)
             checks.same("errors on the console", shown.errors(), [])
         shown.shoot(name)
+        pages.check_window(checks, shown)
 
 
 def faulty_texts(text, lines):

@@ -237,6 +237,13 @@ def first_without_reason(shown):
     return shown.run(WITHOUT_REASON)
 
 
+def check_window(checks, shown):
+    """Views and panels scroll within the window: the page as a whole does not."""
+    for view in ("overview", "run", "ledgers", "words", "lane-0-2-2", "desk-0-2"):
+        shown.go(view)
+        checks.true(f"{view} stays in the window", shown.run("document.documentElement.scrollHeight <= innerHeight"))
+
+
 def shoot_views(shown, trace):
     """Keeps a picture of each view."""
     for view in ("overview", "run", "ledgers", "words"):
