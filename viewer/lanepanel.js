@@ -115,6 +115,20 @@ export function lanePanel(world, epoch, node, lane) {
   ];
 }
 
+// The lanes of a desk with their states and, where links dropped posts to any of them, how many.
+function lanesTable(world, epoch, node) {
+  const lanes = Array.from({ length: world.config.n }, (_, lane) => lane);
+  const lost = lanes.map((lane) => droppedPosts(world, node, lane, epoch).length);
+  const isLossy = lost.some((count) => count > 0);
+  const rows = lanes.map((lane) => {
+    const link = element("a", { href: `#lane-${epoch}-${node}-${lane}` }, `lane ${lane}`);
+    const cells = [link, stateText(world.lanes.cell(epoch, node, lane))];
+    return isLossy ? [...cells, `${lost[lane]}`] : cells;
+  });
+  const heads = ["Lane", "State"];
+  return table("Its lanes", isLossy ? [...heads, "Posts dropped"] : heads, rows);
+}
+
 // What a desk lacks to close an epoch; without the lanes' decisions nothing can be said of their batches.
 function lackingClosed(world, epoch, node) {
   const [title, ways] = lacking(world, node, world.config.n, { kind: "CLOSED", epoch });
@@ -126,17 +140,13 @@ export function deskPanel(world, epoch, node) {
   const { history, config } = world;
   const closing = world.lanes.closed(epoch, node);
   const isOpen = closing < 0 && !history.isLiar(node);
-  const lanes = Array.from({ length: config.n }, (_, lane) => {
-    const link = element("a", { href: `#lane-${epoch}-${node}-${lane}` }, `lane ${lane}`);
-    return [link, stateText(world.lanes.cell(epoch, node, lane))];
-  });
   return [
     element("h2", {}, `Desk of node ${node}, epoch ${epoch}`),
     closing >= 0 ? para("meaning", "It closed the epoch with ", postLink(history, closing), ".") : null,
     closing < 0 ? para("alarm", "It did not close this epoch.") : null,
     endedText(world, node, config.n),
     isOpen ? lackingPart(history, lackingClosed(world, epoch, node)) : null,
-    table("Its lanes", ["Lane", "State"], lanes),
+    lanesTable(world, epoch, node),
     saidPart(history, ownPosts(history, node, config.n, epoch)),
   ];
 }
