@@ -61,7 +61,7 @@ export function fillLedgers(section, world) {
   const { config, history } = world;
   const nodes = Array.from({ length: config.n }, (_, node) => node).filter((node) => !history.isLiar(node));
   const ledgers = new Map(nodes.map((node) => [node, ledgerOf(history, world.lanes, node)]));
-  const liars = config.liars.length > 0 ? ` ${names(config.liars)} may say anything, and nothing is shown of them.` : "";
+  const liars = config.liars.length > 0 ? ` Nothing is shown of liars: ${names(config.liars).toLowerCase()} may say anything.` : "";
   fill(section, [
     element("h2", {}, "Ledgers"),
     para("", `What the desks of the correct nodes closed. Equal lists stand in one column.${liars}`),

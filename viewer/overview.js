@@ -21,11 +21,18 @@ function item(kind, ...children) {
   return element("li", { class: kind }, children);
 }
 
+// A liar's posts are no part of what the audit allows.
+function legalText({ verdict, config }) {
+  const posts = counted(verdict.posts, "post");
+  if (config.liars.length === 0) return `the history legal: each of ${posts} was allowed.`;
+  return `the history of ${posts} legal: each post of a correct node was allowed, and a liar may say anything.`;
+}
+
 function verdictItem(world) {
   const { verdict, data } = world;
   if (!verdict) return item("warn", `The history was not audited${data.refused ? ` (${data.refused})` : ""}.`);
   const judge = word("The audit", "audit");
-  if (verdict.legal) return item("good", judge, ` found the history legal: each of ${counted(verdict.posts, "post")} was allowed.`);
+  if (verdict.legal) return item("good", judge, ` found ${legalText(world)}`);
   const link = verdict.post < world.history.count ? linkTo(`post-${verdict.post}`, `Show post ${verdict.post}`) : null;
   return item("alarm", judge, ` found the history illegal: post ${verdict.post} may not follow those before it. `, link);
 }
@@ -188,11 +195,16 @@ function legend() {
   return element("ul", { class: "legend" }, states, others, element("li", {}, "r0: the round in which it decided"));
 }
 
+function liarCount({ liars }) {
+  if (liars.length === 0) return "none is a liar";
+  return liars.length === 1 ? "1 is a liar" : `${liars.length} are liars`;
+}
+
 function summary(world) {
   const { config, history, run } = world;
   const numbers = [
-    `${counted(config.n, "node")}, of which at most ${config.f} may lie`, counted(config.epochs, "epoch"),
-    `version ${config.version} of the rules`, `seed ${config.seed}`, counted(history.count, "post"),
+    `${counted(config.n, "node")}, of which at most ${config.f} may lie, and ${liarCount(config)}`,
+    counted(config.epochs, "epoch"), `version ${config.version} of the rules`, `seed ${config.seed}`, counted(history.count, "post"),
   ];
   const ended = run && run.status !== null ? ` The run ended with status ${run.status}: ${statusText(run.status)}.` : "";
   return para("", `${numbers.join("; ")}.${ended}`);

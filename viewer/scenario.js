@@ -55,6 +55,7 @@ export function planTexts(scenario) {
       `Power: ${actorText(stop, scenario.nodes)} loses its power at call ${stop.call} of its disk; ${LEAVES[stop.leave]}.`,
     );
   }
+  if (scenario.stops.length > 0) texts.push("What loses its power is restarted at once, from its disk.");
   for (const fault of scenario.faults) texts.push(
     `Disk: call ${fault.call} of the disk of ${actorText(fault, scenario.nodes)} fails.`,
   );
