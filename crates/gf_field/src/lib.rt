@@ -9,7 +9,7 @@ mod polynomial;
 mod tables;
 
 pub use laws::{field_laws, polynomial_laws};
-pub use polynomial::{eval, interpolate_at};
+pub use polynomial::{basis_at, eval, interpolate_at};
 use tables::{logarithm, power};
 
 /// The sum of two elements.

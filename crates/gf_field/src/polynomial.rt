@@ -2,7 +2,7 @@
 
 ghost use Rattle.std.specs.Prelude.{◌≡◌, ℕ, ◌<◌, List, length};
 ghost use Rattle.gf_field.specs.Polynomial.{polynomial_at, AreDistinct, Interpolates, unit_values, product_of_differences};
-ghost use Rattle.gf_field.specs.Interpolation.{interpolation};
+ghost use Rattle.gf_field.specs.Interpolation.{interpolation, basis_polynomial};
 
 use crate::{add, inv, mul};
 
@@ -32,11 +32,12 @@ pub fn interpolate_at(points: &[u8], values: &[u8], x: u8) -> u8
     sum
 }
 
-/// The value at `x` of the polynomial that is 1 at the point `i` and 0 at the others.
-fn basis_at(points: &[u8], i: usize, x: u8) -> u8
+/// The value at `x` of the polynomial that is 1 at the point at `i` and 0 at the others, of a degree below their number.
+pub fn basis_at(points: &[u8], i: usize, x: u8) -> u8
     requires within { i < length points.now }
     requires distinct { AreDistinct points.now }
-    ensures { (cs : List ℕ) → Interpolates points.now (unit_values (length points.now) i) cs → result ≡ polynomial_at cs x }
+    ensures exists { Interpolates points.now (unit_values (length points.now) i) (basis_polynomial points.now i) }
+    ensures value { (cs : List ℕ) → Interpolates points.now (unit_values (length points.now) i) cs → result ≡ polynomial_at cs x }
 {
     let before = &points[..i];
     let after = &points[i + 1..];

@@ -1,13 +1,13 @@
 //! From some shards of a codeword to all of them.
 
-ghost use Rattle.std.specs.Prelude.{◌≡◌, ◌≢◌, ℕ, ◌<◌, ◌≤◌, length, List, MatchOption, IfOk, All, map, take, slice_index, EachIndex};
+ghost use Rattle.std.specs.Prelude.{◌≡◌, ◌≢◌, ℕ, ◌*◌, ◌^◌, ◌<◌, ◌≤◌, length, List, MatchOption, IfOk, All, map, take, slice_index, EachIndex};
 ghost use Rattle.gf_field.specs.Field.{field_sum, field_product};
 ghost use Rattle.gf_field.specs.Polynomial.{AreDistinct, AreWeightsAt, sum_of_products};
 ghost use Rattle.rs_shards.specs.Rebuilding.{AreShards};
 ghost use Rattle.rs_shards.specs.Completing.{completed, completed_shard};
 ghost use Rattle.rs_shards.specs.Column.{indices_of, shard_at, column_of, AreEven};
 
-use gf_field::{interpolate_at, mul};
+use gf_field::{basis_at, mul};
 use hb_base::Bytes;
 use std::alloc::{AllocError, Global};
 
@@ -65,12 +65,9 @@ fn weights(alloc: Global, points: &[u8], x: u8) -> Result<Vec<u8>, AllocError>
     ensures len { IfOk result (λ weights. length weights.items ≡ length points.now) }
     ensures weights { IfOk result (λ weights. AreWeightsAt x points.now weights.items) }
 {
-    let mut unit = vec![in alloc; 0; points.len()]?;
     let mut weights = Vec::with_capacity(alloc, points.len())?;
     for i in 0..points.len() {
-        unit[i] = 1;
-        weights.push(interpolate_at(points, &unit, x))?;
-        unit[i] = 0;
+        weights.push(basis_at(points, i, x))?;
     }
     Ok(weights)
 }
@@ -113,13 +110,27 @@ fn add_multiple(sum: &mut [u8], weight: u8, shard: &[u8])
     }
 }
 
-/// The products of an element with all others.
+/// The products of an element with all others. Each power of two doubles the row, since the product is additive.
 fn multiples(weight: u8) -> [u8; 256]
     ensures { (b : ℕ) → b < 256 → slice_index result b ≡ field_product weight b }
 {
     let mut row = [0; 256];
-    for b in 0..row.len() {
-        row[b] = mul(weight, b as u8);
+    let mut half = 1;
+    for place in 0..8u8 {
+        double(&mut row, weight, half);
+        half *= 2;
     }
     row
+}
+
+/// Fills in the products with the elements from `half` on, a power of two, to twice that, from those below.
+fn double(row: &mut [u8; 256], weight: u8, half: usize)
+    requires power { (i : ℕ) × (i < 8) × (half ≡ 2 ^ i) }
+    requires below { (b : ℕ) → b < half → slice_index row.old b ≡ field_product weight b }
+    ensures { (b : ℕ) → b < half * 2 → slice_index row.new b ≡ field_product weight b }
+{
+    let top = mul(weight, half as u8);
+    for b in 0..half {
+        row[half + b] = top ^ row[b];
+    }
 }

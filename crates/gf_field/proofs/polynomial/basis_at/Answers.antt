@@ -29,8 +29,12 @@ inv-requires c =
     c.differences-3.ensures c.differences-4.ensures c.mul-denominator.ensures))
     (others_at-some ps hp c.requires.distinct i c.requires.within)
 
-pub returns : goal.returns
-returns c cs h =
+pub returns-clause-exists : goal.returns-clause-exists
+returns-clause-exists c =
+    basis-interpolates c.args.points.now (AreBytes-from_fits c.args.points.now c.type_inv.points) c.requires.distinct c.args.i c.requires.within
+
+pub returns-clause-value : goal.returns-clause-value
+returns-clause-value c cs h =
     let ps = c.args.points.now in
     let i = c.args.i in
     let x = c.args.x in

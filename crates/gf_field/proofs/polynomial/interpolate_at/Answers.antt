@@ -2,7 +2,7 @@ use Rattle.std.proofs.Common.{◌≡◌, length, get_or, sym, ap, ap₂, ◌∙�
 use Rattle.gf_field.specs.Field.{field_product}
 use Rattle.gf_field.specs.Polynomial.{polynomial_at}
 use Rattle.gf_field.specs.Interpolation.{basis_polynomial, interpolation_to}
-use Rattle.gf_field.proofs.Interpolation.{AreBytes-from_fits, basis-interpolates, interpolation_to-none, interpolation_to-suc, interpolation-interpolates, interpolation-only}
+use Rattle.gf_field.proofs.Interpolation.{AreBytes-from_fits, interpolation_to-none, interpolation_to-suc, interpolation-interpolates, interpolation-only}
 use Rattle.gf_field.proofs.polynomial.interpolate_at.Goals as goal
 
 pub loop-i-init : goal.loop-i-init
@@ -17,7 +17,7 @@ loop-i-preserved c =
     let hv = AreBytes-from_fits vs c.type_inv.values in
     c.add-sum.ensures
     ∙ ap₂ bit_xor c.loop-i.invariant
-    (c.mul.ensures ∙ ap (field_product (get_or vs i 0)) (c.basis_at.ensures (basis_polynomial ps i) (basis-interpolates ps hp c.requires.distinct i c.loop-i-test.true)))
+    (c.mul.ensures ∙ ap (field_product (get_or vs i 0)) (c.basis_at.ensures.value (basis_polynomial ps i) c.basis_at.ensures.exists))
     ∙ sym (interpolation_to-suc ps hp c.requires.distinct vs hv c.requires.same_length i c.args.x c.loop-i-test.true c.ranges.x.fits)
     ∙ ap (λ k. polynomial_at (interpolation_to ps vs k) c.args.x) (sym (add-one i))
 

@@ -1,10 +1,10 @@
-use Rattle.std.proofs.Common.{◌≡◌, ℕ, ◌<◌, get_or, length}
+use Rattle.std.proofs.Common.{◌≡◌, ℕ, ◌^◌, ◌<◌, get_or}
 use Rattle.gf_field.specs.Field.{field_product}
 use Rattle.rs_shards.proofs.completing.multiples.Given as goal
 
--- the products with the elements below b stand in the row
-abbrev pub invariant-loop-b : goal.invariant-loop-b
-invariant-loop-b l = record {
-  whole : length l.row ≡ 256;
-  so_far : (k : ℕ) → k < l.b → get_or l.row k 0 ≡ field_product l.weight k;
+-- the products with the elements below half stand in the row
+abbrev pub invariant-loop-place : goal.invariant-loop-place
+invariant-loop-place l = record {
+  power : l.half ≡ 2 ^ l.place;
+  so_far : (b : ℕ) → b < l.half → get_or l.row b 0 ≡ field_product l.weight b;
 }
