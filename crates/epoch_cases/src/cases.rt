@@ -1,5 +1,5 @@
-//! Runs of one desk. What it casts was worked out by a separate program in Python, which goes through the rows of the desk's
-//! rules again and again until nothing is owed.
+//! Runs of one desk. What it casts is what `tools/oracles/run desks` makes, which goes through the rows of the desk's rules
+//! again and again until nothing is owed.
 
 /// A run of a desk, of three epochs.
 #[derive(Clone, Copy)]

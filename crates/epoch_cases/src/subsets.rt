@@ -1,5 +1,5 @@
-//! What no clause says: that calls find memory, and what whole epochs come to. The rows were worked out by a separate
-//! program in Python.
+//! What no clause says: that calls find memory, and what whole epochs come to. `tools/oracles/run subsets` works the rows
+//! out.
 ghost use Rattle.std.specs.Prelude.{◌≡◌, OnOk};
 ghost use Rattle.acs_core.specs.Subset.{node_epoch_of};
 

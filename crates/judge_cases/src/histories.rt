@@ -1,4 +1,4 @@
-//! Histories that accuse nodes. The answers are those of a separate program in Python, which tries all pairs of posts.
+//! Histories that accuse nodes. The answers are those of `tools/oracles/run accusations`, which tries all pairs of posts.
 
 use crate::posts::{History, check_all};
 use std::test::Fail;

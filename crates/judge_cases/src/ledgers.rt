@@ -1,5 +1,5 @@
-//! Whether acs_world's definitions of ledgers say what is meant: histories whose answers were worked out by a separate program in
-//! Python. Four nodes, of which node 3 lies; actor 4 of a node is its desk, and a list has to have three items.
+//! Whether acs_world's definitions of ledgers say what is meant: histories whose answers `tools/oracles/run answers_on_ledgers`
+//! works out. Four nodes, of which node 3 lies; actor 4 of a node is its desk, and a list has to have three items.
 
 use acs_world::{batches_ok, common_epochs, comparable, unaltered};
 use disk_model::{MemoryDisk, Plan, Power};

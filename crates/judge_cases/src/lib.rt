@@ -1,5 +1,5 @@
-//! Histories made by hand and by a separate program: whether their deliveries and ledgers agree, whom they accuse, the texts of that,
-//! and what those say of them that judge votes and posts.
+//! Histories by hand, whose answers are by hand or by an oracle: whether their deliveries and ledgers agree, whom they accuse,
+//! the texts of that, and what those say of them that judge votes and posts.
 //!
 //! `callers` is as any user might write it, and what is proved of it stands on the contract of accuse alone.
 #![tactic(auto)]

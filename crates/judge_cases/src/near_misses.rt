@@ -1,4 +1,4 @@
-//! Histories that accuse nobody, by the same program.
+//! Histories that accuse nobody, by the same oracle.
 
 use crate::posts::{History, check_all};
 use std::test::Fail;

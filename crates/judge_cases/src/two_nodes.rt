@@ -1,6 +1,6 @@
-//! What no clause says: that calls find memory, and what a judge answers along a history of two nodes under version 1 of the rules, as
-//! a separate program made it, and at posts that are not as they should be. None of the two nodes may lie, so that n - f is 2 and f + 1
-//! is 1.
+//! What no clause says: that calls find memory, and what a judge answers along a history of two nodes under version 1 of the
+//! rules, and at posts that are not as they should be. `tools/oracles/run posts_that_may_follow` finds which posts may follow.
+//! None of the two nodes may lie, so that n - f is 2 and f + 1 is 1.
 ghost use Rattle.std.specs.Prelude.{◌≡◌, IfOk};
 
 use hb_base::{Bytes, Config, NodeSet};

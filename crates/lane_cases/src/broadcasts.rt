@@ -1,5 +1,5 @@
-//! What no clause says: that calls find memory, and what whole broadcasts come to. The roots were worked out from the
-//! formats by a separate program in Python; the votes by the numbers of the rules.
+//! What no clause says: that calls find memory, and what whole broadcasts come to. `tools/oracles/run broadcast_roots` works
+//! the roots out from the formats; the votes are by the numbers of the rules.
 ghost use Rattle.std.specs.Prelude.{◌≡◌, ◌<◌, ◌≤◌, length, IfOk, OnOk};
 ghost use Rattle.hb_base.specs.Limits.{most_nodes, longest_value};
 ghost use Rattle.merkle_branch.specs.Digests.{leaf_digests};

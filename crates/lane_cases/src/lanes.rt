@@ -1,5 +1,5 @@
-//! What no clause says: that calls find memory, and what whole epochs come to. The texts are of runs of a separate program
-//! in Python, which has the rules and the coins from their definitions.
+//! What no clause says: that calls find memory, and what whole epochs come to. The texts are of runs of the oracle
+//! `tools/oracles/run lanes`, which has the rules and the coins from their definitions.
 ghost use Rattle.std.specs.Prelude.{◌≡◌, ◌<◌, true};
 ghost use Rattle.rbc_core.specs.Broadcast.{IsShort};
 

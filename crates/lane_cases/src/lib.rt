@@ -1,6 +1,7 @@
-//! Broadcasts, binary agreements and lanes in small runs: the roots of broadcasts and the votes of agreements and lanes were worked out
-//! by programs in Python that go by the definitions, the votes of broadcasts by the numbers of the rules; and histories of which it was
-//! worked out by hand whether their agreements agree.
+//! Broadcasts, binary agreements and lanes in small runs. The roots of broadcasts and the votes of agreements and lanes are those
+//! of oracles that go by the definitions: `tools/oracles/run broadcast_roots`, `alone`, `fronts`, `lanes`, and four `splits`. The
+//! votes of broadcasts are by the numbers of the rules. Beside them histories of which it was worked out by hand whether their
+//! agreements agree.
 //!
 //! `callers` is as any user might write it, and what is proved of it stands on the contracts of aba_core alone.
 #![tactic(auto)]

@@ -1,4 +1,5 @@
-//! What no clause says: that calls find memory and succeed, and that the deals are those that Python gives.
+//! What no clause says: that calls find memory and succeed, and that the deals are those that `tools/oracles/run dealt_coins`
+//! makes.
 
 ghost use Rattle.std.specs.Prelude.{◌≡◌, ◌≤◌, length, IfOk};
 ghost use Rattle.coin_deal.specs.Sharing.{AreOfDistinctNodes};
@@ -10,7 +11,7 @@ use std::alloc::{AllocError, Global};
 use std::process::Abort;
 use std::test::Fail;
 
-/// What Python gave for a coin: the words by the package `cryptography`, the root by hashlib.
+/// What the oracle `dealt_coins` gives for a coin.
 struct Row {
     seed: u64,
     n: u8,
@@ -200,7 +201,7 @@ fn compare_share(rt: &impl Abort, row: &Row, m: u8, dealt: &DealtShare) {
     }
 }
 
-/// Shares of the nodes 0, 3, 6 .., a secret, and the coefficients that Lagrange's formula gave in Python.
+/// Shares of the nodes 0, 3, 6 .., a secret, and the coefficients that the oracle `dealt_coins` gives.
 const FITS: [(&[u8], u8, &[u8]); 9] = [
     (&[0xB5], 0x35, &[0x35, 0x80]),
     (&[0xD6], 0x76, &[0x76, 0xA0]),

@@ -1,5 +1,5 @@
-//! What the six kinds of liars of liar_cast say, against bytes that a separate program in Python put together from the formats. Tables are
-//! texts, a row a line.
+//! What the six kinds of liars of liar_cast say, against bytes that `tools/oracles/run said_by_liars` puts together from the
+//! formats. Tables are texts, a row a line.
 
 mod limits;
 mod said;

@@ -1,4 +1,4 @@
-//! What no clause says: that calls find memory and succeed, and that the shards are those that were worked out elsewhere.
+//! What no clause says: that calls find memory and succeed, and that the shards are those of `tools/oracles/run shards`.
 
 ghost use Rattle.std.specs.Prelude.{◌≡◌, ◌<◌, ◌≤◌, ◌^◌, length, IfOk, All, slice_get};
 ghost use Rattle.hb_base.specs.Limits.{most_nodes, longest_value, longest_shard};

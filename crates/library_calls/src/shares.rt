@@ -1,4 +1,4 @@
-//! Shares of small deals. Keys, polynomials, salts and roots were worked out with Python's integers and hashlib.
+//! Shares of small deals. Keys, polynomials, salts and roots are those of `tools/oracles/run shares_of_coins`.
 
 ghost use Rattle.std.specs.Prelude.{◌≡◌, ◌*◌, ◌<◌, ◌≤◌, ◌⊎◌, [], false, length, IfOk, IsSome, IfSome, Any};
 ghost use Rattle.coin_deal.specs.Deal.{dealt_coin};

@@ -1,5 +1,5 @@
-//! What no clause says: that there is memory, and that the bytes are those that were meant. They come from a Python
-//! program that knows the formats alone: digests by hashlib, words by the package `cryptography`.
+//! What no clause says: that there is memory, and that the bytes are those that were meant. Those of the Val and
+//! of the Coin come from `tools/oracles/run votes_of_libraries`, which knows the formats alone.
 ghost use Rattle.std.specs.Prelude.{◌≡◌, false, replicate};
 ghost use Rattle.hb_base.specs.Limits.{most_nodes};
 ghost use Rattle.hb_base.specs.Numbers.{numbers};

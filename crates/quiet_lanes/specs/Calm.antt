@@ -10,7 +10,8 @@ use Rattle.hb_rules.specs.Report.{is_drop, is_running, IsQuiet}
 use Rattle.hb_rules.specs.Strings.{NoCollision}
 
 -- The report of a run whose running nodes lose nothing of one another's posts. Its history is legal, and no two hashed strings
--- share a digest. At least n - f nodes run, and no post of one of them is dropped on its way to another.
+-- share a digest. At least n - f nodes run, and no rule on links drops a post of one of them towards another, whether the post
+-- is addressed there or not.
 pub record IsLossless (report : Report) : Type 0 where
   pub sound : AreSound report.config
   pub legal : IsLegal report.config report.history.items

@@ -6,9 +6,9 @@ use std::alloc::Global;
 use std::process::Abort;
 use std::test::Fail;
 
-// What a Python program drew, with the words of the package `cryptography`: the number, the nodes, the liars, the epochs,
-// the transactions in a batch and the workers; the first transaction and the last; each liar; and each stop with its
-// node, its actor, its call and what it leaves.
+// What `tools/oracles/run generated_scenarios` draws: the number, the nodes, the liars, the epochs, the transactions in a
+// batch and the workers; the first transaction and the last; each liar; and each stop with its node, its actor, its call and
+// what it leaves.
 const ROWS: &str = "\
 0: 9 2 2 8 3, bdd219b8a08ded1a, c383761677bdb435, 7 babble, 8 babble, 0 6 10 Torn, 1 0 21 Torn, 2 2 7 New, 3 3 14 Torn, 4 5 22 Old, 5 1 16 Old, 6 8 34 Old
 1: 5 1 3 17 1, 0dd6a36ca4fb6eab, de97e2864b8d1b7a, 4 bval_both, 0 1 34 Torn, 1 4 22 New, 2 1 34 Torn, 3 2 21 New

@@ -1,8 +1,8 @@
 //! What no clause says: that the cipher is ChaCha20 of RFC 8439, and that a number is its key as it was meant.
 use super::*;
 
-// The first words under three keys, by the ChaCha20 of the Python package `cryptography`. The zero key's are also those
-// of the first test vector of RFC 8439, appendix A.1.
+// The first words under four keys, which `tools/oracles/run first_words` makes again. The zero key's are also those of the
+// first test vector of RFC 8439, appendix A.1.
 struct Row {
     number: u64,
     filler: u8,

@@ -1,5 +1,6 @@
 //! Reports made by hand, the statuses of their nodes, their texts, and what observers take from them; and texts of histories, what is
-//! read in them, and the verdicts of their audit. The texts were worked out by a separate program in Python.
+//! read in them, and the verdicts of their audit. `tools/oracles/run` makes texts and answers: its checks run_texts, soak_texts,
+//! full_texts, trace_texts, observed_posts, observed_texts and agreeing_observers.
 //!
 //! `callers` is as any user might write it, and what is proved of it stands on the contracts of ledger_text alone.
 #![tactic(auto)]

@@ -17,9 +17,10 @@ use std::alloc::Global;
 use trace_reader::{config_at, end_at};
 use vote_words::Detail;
 
-/// Reads the text of a history and prints it with each post in words, line by line, each by one put. It keeps one line and some 4,096
-/// bytes in memory, however long the text is. It takes one byte more than `LONGEST_TRACE` at most. An error comes at the first line
-/// that shows it, and what stood before that line was printed by then.
+/// Reads the text of a history and prints it with each post in words, line by line, each by one put. It keeps one line and some
+/// 4,096 bytes in memory, however long the text is. It takes one byte more than `LONGEST_TRACE` at most. An error comes at the
+/// first line that shows it, and the lines of posts before it were printed by then. `end P` is printed only once the source has
+/// shown that nothing stands behind it.
 pub fn print_votes<S: Source, O: Sink>(
     alloc: Global,
     detail: Detail,

@@ -42,7 +42,8 @@ fn one_word(word: &str) -> Option<Detail>
 ///   6 if the input can't be read,
 ///   7 if the output or the error sink can't be written, and
 ///   9 if memory ran out.
-/// All but 0 and 7 tell a line on `err`, where it takes one. The lines before the one at which it stops are printed.
+/// All but 0 and 7 tell a line on `err`, where it takes one. The lines of posts before the one at which it stops are printed, and
+/// so is the first line. The last, `end P`, is printed only where nothing stands behind it.
 pub fn votes_main<S: Source, O: Sink, E: Sink>(
     alloc: Global,
     words: &[String],

@@ -1,4 +1,4 @@
-//! What the callers write and hear, against bytes that Python gives.
+//! What the callers write and hear, against bytes that `tools/oracles/run wire_probes` makes.
 
 ghost use Rattle.std.specs.Prelude.{◌≡◌, ◌<◌, length, IfOk};
 
@@ -53,7 +53,7 @@ fn is_spelled(alloc: Global, bytes: &Bytes, text: &str) -> Result<bool, Fail> {
 
 const READY: &str = "03003333333333333333333333333333333333333333333333333333333333333333";
 
-// A Coin and an Echo of node 2, with the branch of leaf 2 in the tree; its digests are Python's.
+// A Coin and an Echo of node 2, with the branch of leaf 2 in the tree; its digests are the oracle's.
 const COIN: &str = "\
 090300fe44444444444444444444444444444444\
 0e499a4a9d825bc005ca4f69060d97389053380614914f0f4c0cb8e510426229\

@@ -1,4 +1,4 @@
-//! Trees over the first bytes of a text, against digests that Python's hashlib gave.
+//! Trees over the first bytes of a text, against the digests of `tools/oracles/run text_trees`.
 
 ghost use Rattle.std.specs.Prelude.{IfOk, IsTrue};
 

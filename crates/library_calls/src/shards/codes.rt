@@ -1,4 +1,4 @@
-//! The rows of the tests: choices of shards, and what another program gives for each code.
+//! The rows of the tests: choices of shards, and what the oracle `shards` gives for each code.
 
 /// Every choice of two of 4 nodes, each node a bit.
 pub static PAIRS: [u16; 6] = [0b0011, 0b0101, 0b0110, 0b1001, 0b1010, 0b1100];
