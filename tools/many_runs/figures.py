@@ -53,11 +53,10 @@ def rounds_plot(folder):
     found = lanes_by_setting(folder)
     plot = Plot("Lanes that have not decided yet", "rounds", "share of the lanes", (0, ROUNDS_SHOWN), (0.001, 1), y_log=True,
                 x_labels=[(r, str(r)) for r in range(ROUNDS_SHOWN + 1)])
-    for (split, version, liar), runs in found.items():
-        if not split:
-            plot.line(f"version {version}, {liar}", undecided(runs))
-    for liar in ("no liar", "a liar"):
-        plot.line(f"split lane, {liar}", undecided(found[True, 1, liar] + found[True, 2, liar]))
+    # Both versions at once: four lines that lie on one another cannot be told apart.
+    for split, name in ((False, "lanes"), (True, "split lane")):
+        for liar in ("no liar", "a liar"):
+            plot.line(f"{name}, {liar}", undecided(found[split, 1, liar] + found[split, 2, liar]))
     plot.guide("law of a fair coin", [(r, 0.5**r) for r in range(ROUNDS_SHOWN + 1)])
     return plot
 
@@ -235,7 +234,7 @@ def stops_table(folder):
         shares = [100 * row["said_twice"] / row["posts"] for row in records]
         rows.append([stops, f"{mean(row['posts'] for row in records):,.0f}", f"{mean(row['said_twice'] for row in records):,.0f}",
                      f"{mean(shares):.1f}", f"{min(shares):.1f}", f"{max(shares):.1f}"])
-    return markdown(["Stops at each actor", "Posts", "Said twice", "Mean (%)", "Least (%)", "Most (%)"], rows)
+    return markdown(["Stops planned at each actor", "Posts", "Said twice", "Mean (%)", "Least (%)", "Most (%)"], rows)
 
 
 PLOTS = {"rounds": rounds_plot, "posts": posts_plot, "bytes": bytes_plot, "batch": batch_plot, "accepted": accepted_plot,
