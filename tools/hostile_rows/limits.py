@@ -15,19 +15,19 @@ ABOVE_WITH_SMALL_STACK = (0, 256, 512, 1024, 2048, 4096, 8192, 65536)
 SOAK = ("comparable yes", "batches yes", "unaltered yes")
 
 
-def loads(bench, memory):
-    """Whether the program loads in so many kilobytes: without words it tells how it is used."""
-    return bench.ask([], limits=Limits(memory=memory)).status in (2, 9)
+def loads(bench, memory, words):
+    """Whether the program loads in so many kilobytes: with words that it does not know it tells how it is used."""
+    return bench.ask(words, limits=Limits(memory=memory)).status in (2, 9)
 
 
-def least_memory(bench):
-    """The least address space with which the program loads, in kilobytes."""
+def least_memory(bench, words=()):
+    """The least address space with which the program loads, in kilobytes. It does not know these words."""
     low, high = 0, MOST
-    if not loads(bench, high):
+    if not loads(bench, high, words):
         raise Wrong(f"the program does not load in {MOST} kilobytes")
     while high - low > 4:
         middle = (low + high) // 2
-        low, high = (low, middle) if loads(bench, middle) else (middle, high)
+        low, high = (low, middle) if loads(bench, middle, words) else (middle, high)
     return high
 
 

@@ -31,12 +31,13 @@ class Limits:
 
 @dataclasses.dataclass(frozen=True)
 class Bench:
-    """The program, the environment that it gets, a folder for files, and how many storms are wanted."""
+    """The program, the environment that it gets, a folder for files, how many storms are wanted, and the program hb_votes."""
     program: str
     scratch: str
     top: str
     storms: int = 30
     environment: dict = None
+    votes: str = None
 
     def ask(self, words, given=b"", limits=Limits(), **streams):
         """How the program ends with these words. Streams are those of `subprocess.run`."""

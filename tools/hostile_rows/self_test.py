@@ -35,11 +35,24 @@ FAULTS = (
     ("largest", "few_submitted", "20,000 submissions"),
     ("largest", "lenient", "refused: 7 OutOfRange top 0 nodes value=17"),
     ("largest", "lenient", "1048577 bytes"),
+    ("votes", "crash", "longer posts in 512 kB of stack"),
+    ("votes", "half_by_memory", "many posts in 8192 kB of stack"),
+    ("votes", "greedy", "100000 posts"),
+    ("votes", "bent", "hb_votes, its words"),
+    ("votes", "one_read", "hb_votes --full, 4095 bytes at a read"),
+    ("votes", "content_with_less", "hb_votes, a read that fails behind 100 bytes"),
+    ("votes", "shifted", "hb_votes --full, a write that fails behind"),
+    ("votes", "deaf", "hb_votes, full output"),
+    ("votes", "loud", "hb_votes, a reader of 0 bytes"),
+    ("votes", "lenient", "input that ends behind 0 bytes"),
+    ("votes", "lenient", "behind the end"),
+    ("votes", "deaf", "words ['--all'], full error output"),
 )
 
 
-def bench_of(bench, fault):
-    """A bench whose program misbehaves in this way, and else is the program."""
+def bench_of(bench, row, fault):
+    """A bench whose program, or hb_votes for its row, misbehaves in this way, and else is that program."""
     false = os.path.join(os.path.dirname(os.path.realpath(__file__)), "false_program")
-    environment = {**os.environ, "HOSTILE_PROGRAM": bench.program, "HOSTILE_FAULT": fault}
-    return dataclasses.replace(bench, program=false, environment=environment)
+    which = "votes" if row == "votes" else "program"
+    environment = {**os.environ, "HOSTILE_PROGRAM": getattr(bench, which), "HOSTILE_FAULT": fault}
+    return dataclasses.replace(bench, environment=environment, **{which: false})

@@ -50,15 +50,20 @@ def check_pieces(bench, words, given, size):
     return compare(ask_in_pieces(bench, words, given, size), *want)
 
 
-def check_failing_read(bench, words, given):
-    """The read behind these bytes fails. They are few enough for the socket to hold them."""
+def ask_failing(bench, words, given):
+    """How the program ends where the read behind these bytes fails. They are few enough for the socket to hold them."""
     ours, theirs = socket.socketpair(socket.AF_UNIX, socket.SOCK_STREAM)
     with theirs:
         # What is unread where an end is closed makes the other end's reads fail.
         theirs.send(b"?")
         ours.sendall(given)
         ours.close()
-        return compare(bench.ask(words, stdin=theirs.fileno()), *READ_FAILED)
+        return bench.ask(words, stdin=theirs.fileno())
+
+
+def check_failing_read(bench, words, given):
+    """The read behind these bytes fails."""
+    return compare(ask_failing(bench, words, given), *READ_FAILED)
 
 
 def check_no_read(bench, words, path):
@@ -107,8 +112,8 @@ def check_failing_write(bench, words, given, count):
     return compare(answer, 7, b"", WRITE_FAILED)
 
 
-def check_closed_reader(bench, words, given, count):
-    """A reader that takes so many bytes, and closes the pipe. What it got is a beginning of the text."""
+def check_closed_reader(bench, words, given, count, told=WRITE_FAILED):
+    """A reader that takes so many bytes, and closes the pipe. What it got is a beginning of the text, and this is told."""
     whole, got = bench.ask(words, given).out, bytearray()
     reader, writer = os.pipe()
     fcntl.fcntl(writer, SET_PIPE_SIZE, PAGE)
@@ -131,7 +136,7 @@ def check_closed_reader(bench, words, given, count):
     # What the pipe can hold may have been taken before it was closed.
     if count and len(whole) <= count + PAGE and answer.status == 0:
         return compare(answer, 0, b"")
-    return compare(answer, 7, b"", WRITE_FAILED)
+    return compare(answer, 7, b"", told)
 
 
 def line_ends(text):
