@@ -9,9 +9,10 @@ pub record Tape : Type 0 where
   pub calls : ℕ
   pub faults : ℕ
 
--- what a `MemorySink` holds, and which of its calls fail
+-- what a `MemorySink` holds, for how many bytes it has room without asking for memory, and which of its calls fail
 pub record Shelf : Type 0 where
   pub held : List ℕ
+  pub room : ℕ
   pub failing : List ℕ
   pub calls : ℕ
   pub faults : ℕ

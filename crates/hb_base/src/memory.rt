@@ -1,12 +1,12 @@
 //! A source and a sink in memory, of which chosen calls fail.
-ghost use Rattle.std.specs.Prelude.{◌≡◌, ℕ, ◌+◌, ◌-◌, ◌^◌, ◌<◌, ◌≤◌, ◌↔◌, min, [], ◌++◌, List, length, drop, Some, IsErr, IsTrue, IfOk, OnOk, OnErr, MatchResult, Contains};
+ghost use Rattle.std.specs.Prelude.{◌≡◌, ◌⊎◌, ℕ, ◌+◌, ◌-◌, ◌^◌, ◌<◌, ◌≤◌, ◌↔◌, min, [], ◌++◌, List, length, drop, Some, vec_capacity, IsErr, IsTrue, IfOk, OnOk, OnErr, MatchResult, Contains};
 ghost use Rattle.std.specs.Io.{ReadsAtMost};
 ghost use Rattle.std.specs.Io.KnownBytes.{ReadConsumes};
 ghost use Rattle.hb_base.specs.Outside.{HasCause, CountsOne, Puts};
 
 use crate::bytes::Bytes;
 use crate::outside::{Failed, Sink, Source};
-use std::alloc::Global;
+use std::alloc::{AllocError, Global};
 use std::marker::Model;
 
 /// A source over bytes in memory, of which chosen calls fail. Clauses see a `Tape`.
@@ -95,12 +95,14 @@ pub struct MemorySink {
 }
 
 impl Model for MemorySink {
+    ghost use Rattle.std.specs.Prelude.{vec_capacity};
     ghost use Rattle.hb_base.specs.Memory.{Shelf};
 
     ghost Value = { Shelf };
 
     ghost view = { λ s. record {
       held = s.bytes.items;
+      room = vec_capacity s.bytes;
       failing = s.failing.items;
       calls = s.calls;
       faults = s.faults;
@@ -108,13 +110,31 @@ impl Model for MemorySink {
 }
 
 impl MemorySink {
-    /// An empty sink. Calls are numbered from 1; those in `failing` fail and append nothing, as does one that finds
-    /// no memory.
+    /// An empty sink that has no room yet. Calls are numbered from 1; those in `failing` fail and append nothing. So does
+    /// one that needs more room and finds no memory for it.
     pub fn new(alloc: Global, failing: Vec<u32>) -> MemorySink
-        ensures { result ≡ record { held = []; failing = failing.items; calls = 0; faults = 0 } }
+        ensures { result ≡ record { held = []; room = 0; failing = failing.items; calls = 0; faults = 0 } }
+    {
+        MemorySink::of(Vec::new(alloc), failing)
+    }
+
+    /// The same with room for so many bytes. Until these are full only the calls in `failing` fail.
+    pub fn with_room(
+        alloc: Global,
+        room: usize,
+        failing: Vec<u32>,
+    ) -> Result<MemorySink, AllocError>
+        ensures { IfOk result (λ sink. sink ≡ record { held = []; room = room; failing = failing.items; calls = 0; faults = 0 }) }
+    {
+        Ok(MemorySink::of(Vec::with_capacity(alloc, room)?, failing))
+    }
+
+    // A sink of these bytes.
+    fn of(bytes: Vec<u8>, failing: Vec<u32>) -> MemorySink
+        ensures { result ≡ record { held = bytes.items; room = vec_capacity bytes; failing = failing.items; calls = 0; faults = 0 } }
     {
         MemorySink {
-            bytes: Vec::new(alloc),
+            bytes,
             failing,
             calls: 0,
             faults: 0,
@@ -139,12 +159,18 @@ impl Sink for MemorySink {
         ensures cause { HasCause self.old.faults self.new.faults result }
         ensures nothing { OnErr result (self.new.held ≡ self.old.held) }
         ensures fails { Contains self.old.failing self.new.calls → IsErr result }
+        ensures fits { OnErr result (Contains self.old.failing self.new.calls ⊎ (self.old.room < length self.old.held + length bytes.now)) }
+        ensures room { (self.old.room ≤ self.new.room) × (length self.new.held ≤ self.new.room) }
         ensures faults { CountsOne self.old.faults self.new.faults result }
         ensures calls { self.new.calls ≡ min (self.old.calls + 1) (2 ^ 64 - 1) }
         ensures plan { self.new.failing ≡ self.old.failing }
     {
         self.calls = self.calls.saturating_add(1);
-        if is_named(&self.failing, self.calls) || self.bytes.extend_from_slice(bytes).is_err() {
+        if is_named(&self.failing, self.calls) {
+            self.faults = self.faults.saturating_add(1);
+            return Err(Failed);
+        }
+        if self.bytes.extend_from_slice(bytes).is_err() {
             self.faults = self.faults.saturating_add(1);
             return Err(Failed);
         }

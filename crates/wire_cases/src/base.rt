@@ -4,6 +4,7 @@ ghost use Rattle.std.specs.Prelude.{◌≡◌, ◌≤◌, length, IfOk};
 
 use hb_base::{Bytes, Config, LiarName, MemorySink, MemorySource, NodeSet, OpenGate, Sink, Source};
 use std::alloc::{AllocError, Global};
+use std::process::Abort;
 use std::test::Fail;
 
 #[test]
@@ -168,14 +169,20 @@ fn a_source_in_pieces(rt: HostRuntime) -> Result<(), Fail> {
     Ok(())
 }
 
-#[test]
-fn a_sink_that_fails_once(rt: HostRuntime) -> Result<(), Fail> {
-    let alloc = rt.alloc();
-    let mut sink = MemorySink::new(alloc, vec![in alloc; 2]?);
+// Puts three pieces of two bytes into a sink whose second call fails.
+fn put_pieces(rt: &impl Abort, sink: &mut MemorySink) {
     for (piece, wanted) in [(b"ho", true), (b"xx", false), (b"ny", true)] {
         assert!(rt; sink.put(piece).is_ok() == wanted);
     }
     assert!(rt; sink.held() == b"hony".as_slice());
+}
+
+#[test]
+fn a_sink_that_fails_once(rt: HostRuntime) -> Result<(), Fail> {
+    let alloc = rt.alloc();
+    put_pieces(&rt, &mut MemorySink::new(alloc, vec![in alloc; 2]?));
+    let mut sink = MemorySink::with_room(alloc, 4, vec![in alloc; 2]?)?;
+    put_pieces(&rt, &mut sink);
     Ok(())
 }
 
