@@ -371,7 +371,7 @@ pub record Took (old new : Turning) (more : List ℕ) : Type 0 where
   pub player : new.player ≡ old.player
   pub back : new.back ≡ old.back
   pub mail : TookOnly old.mail new.mail more
-  pub looked : new.mail.passes.take.looks ≡ old.mail.passes.take.looks + 1
+  pub asked : new.mail.passes.take.asked ≡ old.mail.passes.take.asked + 1
 
 pub TookOnly-then : (a b c : MailView) (xs ys : List ℕ) → TookOnly a b xs → TookOnly b c ys → TookOnly a c (xs ++ ys)
 TookOnly-then a b c xs ys one two = record {
@@ -391,7 +391,7 @@ none_in k stands = Contains-none [] k refl stands
 
 pub HoldsBack-start : (s : Script) (o : Turning) → HoldsBack s [] o o
 HoldsBack-start s o = record {
-  looks = omega arith;
+  asked = omega arith;
   shown = IsShown-refl o.player;
   fate = refl;
   each = λ k stands. absurd (none_in k stands);
@@ -416,7 +416,7 @@ pub HoldsBack-on : (s : Script) (moved : List ℕ) (k : ℕ) (o m m1 q : Turning
 HoldsBack-on s moved k o m m1 q was running took served =
     let here : IsShown m.player q.player = subst (λ (p : PlayerView). IsShown p q.player) took.player served.0 in
     record {
-      looks = omega (arith, was.looks, took.looked, ap (λ (all : MailView). all.passes.take.looks) served.3, length-append moved (k ∷ []));
+      asked = omega (arith, was.asked, took.asked, ap (λ (all : MailView). all.passes.take.asked) served.3, length-append moved (k ∷ []));
       shown = IsShown-then o.player m.player q.player was.shown here;
       fate = served.1 ∙ sym running ∙ was.fate;
       each = λ j stands. elim (Contains-push_cases moved k j stands) [
@@ -477,7 +477,7 @@ TakesOne-back s moved o m m1 q was took empty done =
       moved = moved;
       each = each_of s done.0 moved [] o m m1 q was took done.2;
       source = inr (record {
-        looked = omega (arith, was.looks, took.looked, ap (λ t. t.looks) done.3.take);
+        asked = omega (arith, was.asked, took.asked, ap (λ t. t.asked) done.3.take);
         taken = all.1 ∙ ap (λ (ks : List ℕ). o.mail.passes.take.taken ++ ks) (append-nil moved);
         empty = subst (λ (ks : List ℕ). HasAll o.mail.passes.take.joined ks) was.mail.taken
             (subst (λ (js : List (List ℕ)). HasAll js m.mail.passes.take.taken) was.mail.joined empty);
@@ -501,7 +501,7 @@ TakesNone-of s moved o m m1 q was took empty done =
     let all = TookOnly-then o.mail m.mail m1.mail moved [] was.mail took.mail in
     let took_all : TookOnly o.mail q.mail (moved ++ []) = subst (λ (t : Turning). TookOnly o.mail t.mail (moved ++ [])) (sym done.1) all in
     record {
-      looked = omega (arith, was.looks, took.looked, ap (λ (t : Turning). t.mail.passes.take.looks) done.1);
+      asked = omega (arith, was.asked, took.asked, ap (λ (t : Turning). t.mail.passes.take.asked) done.1);
       shown = subst (λ (p : PlayerView). IsShown o.player p) (sym player) was.shown;
       fate = ap (λ (p : PlayerView). p.fate) player ∙ was.fate;
       mail = subst (λ (ks : List ℕ). TookOnly o.mail q.mail ks) (append-nil moved ∙ none.1) took_all;

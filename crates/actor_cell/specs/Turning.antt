@@ -17,7 +17,7 @@ use Rattle.actor_cell.specs.declared.arrival.Arrival.{Arrival}
 use Rattle.actor_cell.specs.declared.arrival.Arrival.TheVariants as arrivals
 use Rattle.actor_cell.specs.declared.served.Served.{Served}
 use Rattle.actor_cell.specs.declared.served.Served.TheVariants as served
-use Rattle.actor_cell.specs.Held.{HeldView, player_at, WasShown}
+use Rattle.actor_cell.specs.Held.{HeldView, player_at}
 use Rattle.actor_cell.specs.Mail.{MailView, Sent, sent_of, ArePut, IsSameTaker, deliveries}
 
 -- ---- how a post arrives
@@ -168,7 +168,7 @@ pub record TookOnly (old new : MailView) (more : List ℕ) : Type 0 where
 
 -- these numbers were moved from the mailbox to those held back, since their posts are late, and nothing else happened
 pub record HoldsBack (s : Script) (moved : List ℕ) (old new : Turning) : Type 0 where
-  pub looks : old.mail.passes.take.looks + length moved ≤ new.mail.passes.take.looks
+  pub asked : old.mail.passes.take.asked + length moved ≤ new.mail.passes.take.asked
   pub shown : IsShown old.player new.player
   pub fate : new.player.fate ≡ old.player.fate
   pub each : (k : ℕ) → Contains moved k → arrival s new.player k ≡ arrivals.Late
@@ -200,10 +200,10 @@ pub record IsFromMailbox (s : Script) (k : ℕ) (moved : List ℕ) (old new : Tu
   pub back : new.back ≡ old.back ++ moved
   pub late : arrival s new.player k ≡ arrivals.Late → new.player.fate ≡ Memory
 
--- the mailbox was empty at a step of this turn, which was one look more than those that found the moved numbers, and the number was
--- the first of those held back
+-- the mailbox gave none: it was asked once more than gave the moved numbers, all that was put through the passes handed in was
+-- taken, and the number was the first of those held back
 pub record IsFromBack (k : ℕ) (moved : List ℕ) (old new : Turning) : Type 0 where
-  pub looked : old.mail.passes.take.looks + length moved < new.mail.passes.take.looks
+  pub asked : old.mail.passes.take.asked + length moved < new.mail.passes.take.asked
   pub taken : new.mail.passes.take.taken ≡ old.mail.passes.take.taken ++ moved
   pub empty : HasAll old.mail.passes.take.joined (old.mail.passes.take.taken ++ moved)
   pub back : old.back ++ moved ≡ k ∷ new.back
@@ -218,9 +218,10 @@ pub record TakesOne (s : Script) (old new : Turning) : Type 0 where
   pub boxes : new.mail.boxes ≡ old.mail.boxes
   pub joined : new.mail.passes.take.joined ≡ old.mail.passes.take.joined
 
--- no number was taken: the mailbox was looked at and was empty at a step of this turn, and nothing is held back
+-- no number was taken: the mailbox was asked and gave none, all that was put through the passes handed in was taken, and nothing
+-- is held back
 pub record TakesNone (old new : Turning) : Type 0 where
-  pub looked : old.mail.passes.take.looks < new.mail.passes.take.looks
+  pub asked : old.mail.passes.take.asked < new.mail.passes.take.asked
   pub shown : IsShown old.player new.player
   pub fate : new.player.fate ≡ old.player.fate
   pub mail : TookOnly old.mail new.mail []
@@ -234,7 +235,7 @@ Turned s served.Idle old new = (old.player.fate ≡ Running) × TakesNone old ne
 Turned s served.Did old new = (old.player.fate ≡ Running) × TakesOne s old new
 Turned s served.Ended old new = (is_running_fate old.player.fate ≡ false) × (new ≡ old)
 
--- where the mailbox was empty: the first of those held back was served, or there was none
+-- where the mailbox gave none: the first of those held back was served, or there was none
 abbrev pub ServesBack : Script → Served → Turning → Turning → Type 0
 ServesBack s served.Idle old new = (old.back ≡ []) × (new ≡ old)
 ServesBack s served.Did old new =
@@ -246,15 +247,3 @@ abbrev pub ServesNew : Script → ℕ → Bool → Turning → Turning → Type 
 ServesNew s k true old new = IsServed s k old new × (arrival s new.player k ≡ arrivals.Late → new.player.fate ≡ Memory)
 ServesNew s k false old new =
     IsShown old.player new.player × (new.player.fate ≡ Running) × (arrival s new.player k ≡ arrivals.Late) × (new.mail ≡ old.mail) × (new.back ≡ old.back ++ k ∷ [])
-
--- There is an actor that stands behind a lock, and it made a turn with this answer. `held` is what holds behind the lock.
-pub record WasServed {A B S : Type 0} (held : HeldView A B → Type 0) (config : S → Numbers) (node actor : S → ℕ) (seen : S → List Post) (seat : A → S) (view : A → ActorView)
-    (is_whole : B → B → S → S → Type 0) (moved : ℕ → ℕ → B → B → Type 0) (answer : Served) : Type 0 where
-  pub old : HeldView A B
-  pub new : HeldView A B
-  pub before : held old
-  pub after : held new
-  pub script : new.script ≡ old.script
-  pub book : moved (node (seat old.actor)) (actor (seat old.actor)) old.book new.book
-  pub whole : answer ≡ served.Did → WasShown is_whole moved seen (node (seat old.actor)) (actor (seat old.actor)) old.book new.book (seat new.actor)
-  pub turned : Turned old.script answer (turning config node actor seen seat view old) (turning config node actor seen seat view new)

@@ -99,14 +99,14 @@ impl Boxes {
         mailbox.put(rt, pass, number)
     }
 
-    /// Takes the oldest number from the mailbox whose take pass this is. `None` comes only where that mailbox was empty at a step
-    /// of this call, which the pass counts as a look: what was taken has all that was put through the passes that were handed in.
+    /// Takes the oldest number from the mailbox whose take pass this is. After `None` what was taken has all that was put through
+    /// the passes that were handed in. The pass counts each call, and no clause says that the call looked into the mailbox.
     pub fn take<R: Wait>(&self, rt: &R, passes: &mut Passes) -> Option<u32>
         requires passes { ArePassesOf self.now passes.old }
         ensures passes { ArePassesOf self.now passes.new }
         ensures same { (passes.new.place ≡ passes.old.place) × (passes.new.puts ≡ passes.old.puts)
             × (passes.new.take.splits ≡ passes.old.take.splits) × (passes.new.take.joined ≡ passes.old.take.joined) }
-        ensures looked { passes.new.take.looks ≡ passes.old.take.looks + 1 }
+        ensures asked { passes.new.take.asked ≡ passes.old.take.asked + 1 }
         ensures empty { IfNone result (HasAll passes.old.take.joined passes.old.take.taken) }
         ensures taken { MatchOption result (passes.new.take.taken ≡ passes.old.take.taken)
             (λ number. passes.new.take.taken ≡ passes.old.take.taken ++ number ∷ []) }

@@ -1,8 +1,5 @@
 //! An actor behind a lock.
 
-ghost use Rattle.actor_cell.specs.Held.{HeldView, player_at, IsHeld};
-ghost use Rattle.actor_cell.specs.Turning.{WasServed};
-
 use crate::held::Held;
 use crate::run_name::RunName;
 use crate::served::Served;
@@ -32,17 +29,9 @@ impl<'b, B: NamedBook + Drop, A: Actor<B>, J: RunName> Cell<'b, B, A, J> {
         lock.into_inner()
     }
 
-    /// One `Held::turn` under the lock, which it waits for. No clause can name what lies there; but there is an actor of the run that
-    /// made a turn with this answer.
-    pub fn serve<R: Wait, G: Gate>(&self, rt: &R, alloc: Global, gate: &G) -> Served
-        ensures { WasServed (λ (h : HeldView A B). IsHeld B.knows J.is_script J.book (A.seat h.actor) h.book (B.name h.book) h.script h.mail
-            (player_at B.config B.node B.actor B.seen A.seat A.view h.actor h.fate))
-            B.config B.node B.actor B.seen A.seat A.view B.is_whole B.moved result }
-    {
-        let mut held = self.lock.lock(rt);
-        held.kept();
-        let served = held.turn(rt, alloc, gate);
-        held.kept();
-        served
+    /// One `Held::turn` under the lock, which it waits for, and its answer. No clause can name what lies under a lock. So nothing
+    /// is promised, but that what lies there keeps what its type says.
+    pub fn serve<R: Wait, G: Gate>(&self, rt: &R, alloc: Global, gate: &G) -> Served {
+        self.lock.lock(rt).turn(rt, alloc, gate)
     }
 }

@@ -127,14 +127,6 @@ impl<'b, B: NamedBook + Drop, A: Actor<B>, J: RunName> Held<'b, B, A, J> {
         held
     }
 
-    /// What holds of it in every state. The call does nothing.
-    pub fn kept(&self)
-        ensures { IsHeld B.knows J.is_script J.book (A.seat self.now.actor) self.now.book (B.name self.now.book) self.now.script self.now.mail
-            (player_at B.config B.node B.actor B.seen A.seat A.view self.now.actor self.now.fate) }
-    {
-        let _ = &self.actor;
-    }
-
     /// The actor, its fate, and the actors whose mailbox refused a number. It takes no memory.
     pub fn into_parts(self) -> (A, Fate, Marks)
         ensures parts { (result.0 ≡ self.entry.actor) × (result.1 ≡ self.entry.fate) × (result.2 ≡ self.entry.mail.noted) }
@@ -155,7 +147,7 @@ impl<'b, B: NamedBook + Drop, A: Actor<B>, J: RunName> Held<'b, B, A, J> {
     }
 
     /// One turn: takes at most one number, and lets the actor hear its post. It takes the numbers of its mailbox first. One whose post is
-    /// late is moved to those held back, and the turn goes on; where the mailbox is empty, the first of these is taken. A post
+    /// late is moved to those held back, and the turn goes on; where the mailbox gives none, the first of these is taken. A post
     /// that does not stand, does not reach the actor or is dropped on its way is thrown away. Under the lock the gate is entered
     /// once for each number that is taken, after its post was looked at. A look shows the actor's seat the whole history of that moment.
     ///
@@ -188,14 +180,14 @@ impl<'b, B: NamedBook + Drop, A: Actor<B>, J: RunName> Held<'b, B, A, J> {
     // Takes the oldest number from the mailbox.
     fn take<R: Wait>(&mut self, rt: &R) -> Option<u32>
         ensures rest { self.new ≡ record self.old { mail = self.new.mail } }
-        ensures looked { self.new.mail.passes.take.looks ≡ self.old.mail.passes.take.looks + 1 }
+        ensures asked { self.new.mail.passes.take.asked ≡ self.old.mail.passes.take.asked + 1 }
         ensures empty { IfNone result (HasAll self.old.mail.passes.take.joined self.old.mail.passes.take.taken) }
         ensures taken { MatchOption result (TookOnly self.old.mail self.new.mail []) (λ k. TookOnly self.old.mail self.new.mail (k ∷ [])) }
     {
         self.mail.take(rt)
     }
 
-    // Serves the first number of those held back, where the mailbox was empty.
+    // Serves the first number of those held back, where the mailbox gave none.
     fn serve_back<R: Wait, G: Gate>(&mut self, rt: &R, alloc: Global, gate: &G) -> Served
         requires running { self.old.fate ≡ Running }
         ensures script { self.new.script ≡ self.old.script }

@@ -65,7 +65,7 @@ impl<'b> Mail<'b> {
         ensures place { self.new.passes.place ≡ self.old.passes.place }
         ensures sent { sent_of self.new ≡ sent_of self.old }
         ensures joined { self.new.passes.take.joined ≡ self.old.passes.take.joined }
-        ensures looked { self.new.passes.take.looks ≡ self.old.passes.take.looks + 1 }
+        ensures asked { self.new.passes.take.asked ≡ self.old.passes.take.asked + 1 }
         ensures empty { IfNone result (HasAll self.old.passes.take.joined self.old.passes.take.taken) }
         ensures taken { MatchOption result (self.new.passes.take.taken ≡ self.old.passes.take.taken)
             (λ number. self.new.passes.take.taken ≡ self.old.passes.take.taken ++ number ∷ []) }

@@ -3,7 +3,7 @@
 /// What a turn of an actor did.
 #[derive(Clone, Copy, Debug, PartialEq, Eq)]
 pub enum Served {
-    /// Nothing: its mailbox was empty at a step of the turn, and nothing is held back.
+    /// Nothing: its mailbox gave no number in this turn, and nothing is held back.
     Idle,
     /// It took one number, and heard its post, threw it away, or ended since there was no memory for it.
     Did,

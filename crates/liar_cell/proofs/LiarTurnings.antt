@@ -119,7 +119,7 @@ IsServed-heard moved k o q post stands comes some goes hears nothing told =
 
 pub HoldsBack-start : {B : Type 0} (o : LiarView B) → HoldsBack [] o o
 HoldsBack-start o = record {
-  looks = omega arith;
+  asked = omega arith;
   quiet = IsQuiet-refl o;
   each = λ k stands. absurd (none_in k stands);
   mail = record { boxes = refl; place = refl; joined = refl; taken = sym (append-nil o.mail.passes.take.taken); sent = refl };
@@ -129,7 +129,7 @@ HoldsBack-start o = record {
 -- a look at the mailbox gave these numbers
 pub record Took (old new : MailView) (more : List ℕ) : Type 0 where
   pub mail : TookOnly old new more
-  pub looked : new.passes.take.looks ≡ old.passes.take.looks + 1
+  pub asked : new.passes.take.asked ≡ old.passes.take.asked + 1
 
 abbrev pub with_mail : {B : Type 0} → LiarView B → MailView → LiarView B
 with_mail m mail = record m { mail = mail }
@@ -142,7 +142,7 @@ GoesOn-mail moved m q mail goes = record { script = goes.script; same = goes.sam
 pub HoldsBack-on : {B : Type 0} (moved : ℕ → ℕ → B → B → Type 0) (back : List ℕ) (k : ℕ) (o m q : LiarView B) (mail : MailView) → HoldsBack back o m → Took m.mail mail (k ∷ [])
     → GoesOn moved (with_mail m mail) q → ServesNew k false (with_mail m mail) q → HoldsBack (back ++ k ∷ []) o q
 HoldsBack-on moved back k o m q mail was took goes served = record {
-  looks = omega (arith, was.looks, took.looked, ap (λ (all : MailView). all.passes.take.looks) served.2, length-append back (k ∷ []));
+  asked = omega (arith, was.asked, took.asked, ap (λ (all : MailView). all.passes.take.asked) served.2, length-append back (k ∷ []));
   quiet = IsQuiet-then o m q was.quiet (record { said = served.0.said; hears = served.0.hears });
   each = λ j stands. elim (Contains-push_cases back k j stands) [
     | inl had ↦ IsLate-on moved j m q (GoesOn-mail moved m q mail goes) (was.each j had)
@@ -196,7 +196,7 @@ TakesOne-back moved back o m q mail was less took empty goes done =
       moved = back;
       each = each_of moved back o m q mail was goes;
       source = inr (record {
-        looked = omega (arith, was.looks, took.looked, ap (λ t. t.looks) done.3.take);
+        asked = omega (arith, was.asked, took.asked, ap (λ t. t.asked) done.3.take);
         taken = all.1 ∙ ap (λ (ks : List ℕ). o.mail.passes.take.taken ++ ks) (append-nil back);
         empty = has_all back o m was empty;
         back = sym was.back ∙ done.1;
@@ -214,7 +214,7 @@ TakesNone-of {B} back o m q mail was took empty done =
     let all : TookOnly o.mail mail (back ++ []) = TookOnly-then o.mail m.mail mail back [] was.mail took.mail in
     let took_all : TookOnly o.mail q.mail (back ++ []) = subst (λ (v : LiarView B). TookOnly o.mail v.mail (back ++ [])) (sym done.1) all in
     record {
-      looked = omega (arith, was.looks, took.looked, ap (λ (v : LiarView B). v.mail.passes.take.looks) done.1);
+      asked = omega (arith, was.asked, took.asked, ap (λ (v : LiarView B). v.mail.passes.take.asked) done.1);
       quiet = record { said = ap (λ (v : LiarView B). v.said) done.1 ∙ was.quiet.said; hears = ap (λ (v : LiarView B). v.hears) done.1 ∙ was.quiet.hears };
       mail = subst (λ (ks : List ℕ). TookOnly o.mail q.mail ks) (append-nil back ∙ none.1) took_all;
       empty = subst (λ (ks : List ℕ). HasAll o.mail.passes.take.joined ks) (ap (λ (ks : List ℕ). o.mail.passes.take.taken ++ ks) none.1 ∙ append-nil o.mail.passes.take.taken) (has_all back o m was empty);

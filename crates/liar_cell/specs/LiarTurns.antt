@@ -92,7 +92,7 @@ Fares k old new = IsThrownAway old new ⊎ IsHeard k old new
 
 -- these numbers were moved from the mailbox to those held back, since their posts are late, and nothing else happened
 pub record HoldsBack {B : Type 0} (moved : List ℕ) (old new : LiarView B) : Type 0 where
-  pub looks : old.mail.passes.take.looks + length moved ≤ new.mail.passes.take.looks
+  pub asked : old.mail.passes.take.asked + length moved ≤ new.mail.passes.take.asked
   pub quiet : IsQuiet old new
   pub each : (k : ℕ) → Contains moved k → IsLate new.script new.seat.seen new.seat.node k
   pub mail : TookOnly old.mail new.mail moved
@@ -105,10 +105,10 @@ pub record IsFromMailbox {B : Type 0} (k : ℕ) (moved : List ℕ) (old new : Li
   pub back : new.back ≡ old.back ++ moved
   pub late : IsLate new.script new.seat.seen new.seat.node k → IsThrownAway old new
 
--- the mailbox was empty at a step of this turn, which was one look more than those that found the moved numbers, and the number was
--- the first of those held back
+-- the mailbox gave none: it was asked once more than gave the moved numbers, all that was put through the passes handed in was
+-- taken, and the number was the first of those held back
 pub record IsFromBack {B : Type 0} (k : ℕ) (moved : List ℕ) (old new : LiarView B) : Type 0 where
-  pub looked : old.mail.passes.take.looks + length moved < new.mail.passes.take.looks
+  pub asked : old.mail.passes.take.asked + length moved < new.mail.passes.take.asked
   pub taken : new.mail.passes.take.taken ≡ old.mail.passes.take.taken ++ moved
   pub empty : HasAll old.mail.passes.take.joined (old.mail.passes.take.taken ++ moved)
   pub back : old.back ++ moved ≡ k ∷ new.back
@@ -123,9 +123,10 @@ pub record TakesOne {B : Type 0} (old new : LiarView B) : Type 0 where
   pub boxes : new.mail.boxes ≡ old.mail.boxes
   pub joined : new.mail.passes.take.joined ≡ old.mail.passes.take.joined
 
--- no number was taken: the mailbox was looked at and was empty at a step of this turn, and nothing is held back
+-- no number was taken: the mailbox was asked and gave none, all that was put through the passes handed in was taken, and nothing
+-- is held back
 pub record TakesNone {B : Type 0} (old new : LiarView B) : Type 0 where
-  pub looked : old.mail.passes.take.looks < new.mail.passes.take.looks
+  pub asked : old.mail.passes.take.asked < new.mail.passes.take.asked
   pub quiet : IsQuiet old new
   pub mail : TookOnly old.mail new.mail []
   pub empty : HasAll old.mail.passes.take.joined old.mail.passes.take.taken
@@ -143,7 +144,7 @@ pub record IsServed {B : Type 0} (k : ℕ) (old new : LiarView B) : Type 0 where
   pub fares : Fares k old new
   pub nothing : TakesNothing old new
 
--- where the mailbox was empty: the first of those held back was served, or there was none
+-- where the mailbox gave none: the first of those held back was served, or there was none
 abbrev pub ServesBack : {B : Type 0} → Served → LiarView B → LiarView B → Type 0
 ServesBack served.Idle old new = (old.back ≡ []) × (new ≡ old)
 ServesBack served.Did old new = (k : ℕ) × (old.back ≡ k ∷ new.back) × Fares k old new × IsSameTaker old.mail new.mail
@@ -154,12 +155,3 @@ abbrev pub ServesNew : {B : Type 0} → ℕ → Bool → LiarView B → LiarView
 ServesNew k true old new = IsServed k old new × (IsLate new.script new.seat.seen new.seat.node k → IsThrownAway old new)
 ServesNew k false old new =
     IsQuiet old new × IsLate new.script new.seat.seen new.seat.node k × (new.mail ≡ old.mail) × (new.back ≡ old.back ++ k ∷ [])
-
--- There is a node that lies, which stands behind a lock, and it made a turn with this answer. `held` is what holds behind the lock.
-pub record LiarWasServed {B : Type 0} (held : LiarView B → Type 0) (moved : ℕ → ℕ → B → B → Type 0) (answer : Served) : Type 0 where
-  pub old : LiarView B
-  pub new : LiarView B
-  pub before : held old
-  pub after : held new
-  pub goes : GoesOn moved old new
-  pub turned : Turned answer old new

@@ -1,8 +1,5 @@
 //! A node that lies, behind a lock.
 
-ghost use Rattle.liar_cell.specs.HeldLiar.{IsHeldLiar};
-ghost use Rattle.liar_cell.specs.LiarTurns.{LiarWasServed};
-
 use crate::held::HeldLiar;
 use actor_cell::{RunName, Served};
 use hb_base::Gate;
@@ -31,15 +28,9 @@ impl<'b, B: NamedBook + Drop, L: Mouth, J: RunName> LiarCell<'b, B, L, J> {
         lock.into_inner()
     }
 
-    /// One `HeldLiar::turn` under the lock, which it waits for. No clause can name what lies there; but there is a node of the run that lies
-    /// and made a turn with this answer.
-    pub fn serve<R: Wait, G: Gate>(&self, rt: &R, alloc: Global, gate: &G) -> Served
-        ensures { LiarWasServed (IsHeldLiar J.is_script J.book B.name) B.moved result }
-    {
-        let mut held = self.lock.lock(rt);
-        held.kept();
-        let served = held.turn(rt, alloc, gate);
-        held.kept();
-        served
+    /// One `HeldLiar::turn` under the lock, which it waits for, and its answer. No clause can name what lies under a lock. So
+    /// nothing is promised, but that what lies there keeps what its type says.
+    pub fn serve<R: Wait, G: Gate>(&self, rt: &R, alloc: Global, gate: &G) -> Served {
+        self.lock.lock(rt).turn(rt, alloc, gate)
     }
 }

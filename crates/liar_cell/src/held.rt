@@ -142,13 +142,6 @@ impl<'b, B: NamedBook + Drop, L: Mouth, J: RunName> HeldLiar<'b, B, L, J> {
         held
     }
 
-    /// What holds of it in every state. The call does nothing.
-    pub fn kept(&self)
-        ensures { IsHeldLiar J.is_script J.book B.name self.now }
-    {
-        let _ = &self.seat;
-    }
-
     /// Its seat, and the actors whose mailbox refused a number. It takes no memory.
     pub fn into_parts(self) -> (B::Seat, Marks)
         ensures of_book { B.knows self.entry.book result.0 }
@@ -175,7 +168,7 @@ impl<'b, B: NamedBook + Drop, L: Mouth, J: RunName> HeldLiar<'b, B, L, J> {
 
     /// One turn: takes at most one number, and lets the node hear its post, if it still hears. It takes the numbers of its
     /// mailbox first. While the node still hears, one whose post is late is moved to those held back, and the turn goes on;
-    /// where the mailbox is empty, the first of these is taken. A post that does not stand, reaches no actor of the node or is
+    /// where the mailbox gives none, the first of these is taken. A post that does not stand, reaches no actor of the node or is
     /// dropped on its way is thrown away, and so is one for which there is no memory: such a node is owed nothing. Once the
     /// node hears no more, each number is thrown away unread. Under the lock the gate is entered once for each number that
     /// is taken, as actor 255.
@@ -202,14 +195,14 @@ impl<'b, B: NamedBook + Drop, L: Mouth, J: RunName> HeldLiar<'b, B, L, J> {
     // Takes the oldest number from the mailbox.
     fn take<R: Wait>(&mut self, rt: &R) -> Option<u32>
         ensures rest { self.new ≡ record self.old { mail = self.new.mail } }
-        ensures looked { self.new.mail.passes.take.looks ≡ self.old.mail.passes.take.looks + 1 }
+        ensures asked { self.new.mail.passes.take.asked ≡ self.old.mail.passes.take.asked + 1 }
         ensures empty { IfNone result (HasAll self.old.mail.passes.take.joined self.old.mail.passes.take.taken) }
         ensures taken { MatchOption result (TookOnly self.old.mail self.new.mail []) (λ k. TookOnly self.old.mail self.new.mail (k ∷ [])) }
     {
         self.mail.take(rt)
     }
 
-    // Serves the first number of those held back, where the mailbox was empty.
+    // Serves the first number of those held back, where the mailbox gave none.
     fn serve_back<R: Wait, G: Gate>(&mut self, rt: &R, alloc: Global, gate: &G) -> Served
         ensures goes { GoesOn B.moved self.old self.new }
         ensures served { ServesBack result self.old self.new }

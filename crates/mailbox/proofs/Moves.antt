@@ -11,7 +11,7 @@ use Rattle.crossbeam_queue.proofs.Lists.{set_else}
 use Rattle.mailbox.specs.declared.rule.View.{View}
 use Rattle.mailbox.specs.Interleaving.{IsInterleaving, HasAll}
 use Rattle.mailbox.specs.Shares.{AreAtMost, parts_of, AreWhole}
-use Rattle.mailbox.specs.Ordered.{putter, opener, spent, halved, other_half, put_side, take_side, after_put, after_take, looked_once, joined_with}
+use Rattle.mailbox.specs.Ordered.{putter, opener, spent, halved, other_half, put_side, take_side, after_put, after_take, asked_once, joined_with}
 use Rattle.mailbox.specs.Ordered.{pass_number, joined_place, Put, sent_by, total, FitsPass, IsInOrder}
 use Rattle.mailbox.proofs.Places.{within, stands, get_or-length, get_or-snoc_here, get_or-snoc_else, EachView, EachView-set, EachView-snoc}
 use Rattle.mailbox.proofs.Places.{total-set, total-snoc, others_none}
@@ -171,10 +171,10 @@ forks_sides port v may items views b at =
           };
     }
 
--- a look changes nothing but how often the pass looked
-pub forks_looked : (port : ℕ) (v : View) → Forks IsInOrder port v (looked_once v) spent
-forks_looked port v items views b at =
-    let left : View = looked_once v in
+-- a call changes nothing but how often the pass was asked
+pub forks_asked : (port : ℕ) (v : View) → Forks IsInOrder port v (asked_once v) spent
+forks_asked port v items views b at =
+    let left : View = asked_once v in
     let vs : List View = set views port left in
     let old = b.fits port v at in
     let f : View → ℕ = λ u. parts_of b.finest u.splits in

@@ -6,15 +6,15 @@ use Rattle.mailbox.specs.declared.rule.View.{View}
 use Rattle.mailbox.specs.Shares.{AreAtMost, parts_of}
 
 abbrev pub view_of : Bool → List ℕ → List ℕ → List ℕ → List (List ℕ) → ℕ → View
-view_of takes splits sent taken joined looks = record { takes = takes; splits = splits; sent = sent; taken = taken; joined = joined; looks = looks }
+view_of takes splits sent taken joined asked = record { takes = takes; splits = splits; sent = sent; taken = taken; joined = joined; asked = asked }
 
 -- a put pass that comes from so many splits
 abbrev pub putter : ℕ → List ℕ → View
 putter splits sent = view_of false (splits ∷ []) sent [] [] 0
 
--- the take pass, which has taken in put passes with these splits and these lists, and has looked so often
+-- the take pass, which has taken in put passes with these splits and these lists, and was asked so often for a number
 abbrev pub taker : List ℕ → List ℕ → List (List ℕ) → ℕ → View
-taker splits taken joined looks = view_of true splits [] taken joined looks
+taker splits taken joined asked = view_of true splits [] taken joined asked
 
 -- what is left of a put pass that was taken in
 abbrev pub spent : View
@@ -25,7 +25,7 @@ abbrev pub opener : View
 opener = view_of true (0 ∷ []) [] [] [] 0
 
 abbrev pub halved : View → View
-halved v = view_of v.takes (map (λ n. n + 1) v.splits) v.sent v.taken v.joined v.looks
+halved v = view_of v.takes (map (λ n. n + 1) v.splits) v.sent v.taken v.joined v.asked
 
 abbrev pub other_half : View → View
 other_half v = view_of false (map (λ n. n + 1) v.splits) [] [] [] 0
@@ -34,19 +34,19 @@ abbrev pub put_side : View → View
 put_side v = view_of false v.splits v.sent [] [] 0
 
 abbrev pub take_side : View → View
-take_side v = view_of true [] [] v.taken v.joined v.looks
+take_side v = view_of true [] [] v.taken v.joined v.asked
 
 abbrev pub after_put : View → ℕ → View
-after_put v x = view_of v.takes v.splits (v.sent ++ x ∷ []) v.taken v.joined v.looks
+after_put v x = view_of v.takes v.splits (v.sent ++ x ∷ []) v.taken v.joined v.asked
 
 abbrev pub after_take : View → ℕ → View
-after_take v x = view_of v.takes v.splits v.sent (v.taken ++ x ∷ []) v.joined v.looks
+after_take v x = view_of v.takes v.splits v.sent (v.taken ++ x ∷ []) v.joined v.asked
 
-abbrev pub looked_once : View → View
-looked_once v = view_of v.takes v.splits v.sent v.taken v.joined (v.looks + 1)
+abbrev pub asked_once : View → View
+asked_once v = view_of v.takes v.splits v.sent v.taken v.joined (v.asked + 1)
 
 abbrev pub joined_with : View → View → View
-joined_with v w = view_of v.takes (v.splits ++ w.splits) v.sent v.taken (v.joined ++ w.sent ∷ []) v.looks
+joined_with v w = view_of v.takes (v.splits ++ w.splits) v.sent v.taken (v.joined ++ w.sent ∷ []) v.asked
 
 -- who put a number: a pass of the queue, by its number there, or a pass that was taken in, by its place among those
 pub data Sender : Type 0 where

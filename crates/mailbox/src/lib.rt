@@ -5,10 +5,10 @@
 ghost use Rattle.std.specs.Prelude.{◌≡◌, ℕ, ◌+◌, true, List, [], ◌∷◌, ◌++◌, map, All, IfNone, IfOk, IfErr, OnOk, OnErr, MatchOption};
 ghost use Rattle.mailbox.specs.Interleaving.{HasAll, IsInterleaving};
 ghost use Rattle.mailbox.specs.Shares.{AreWhole};
-ghost use Rattle.mailbox.specs.Ordered.{putter, taker, after_put, after_take, looked_once, joined_with};
+ghost use Rattle.mailbox.specs.Ordered.{putter, taker, after_put, after_take, asked_once, joined_with};
 
 use crossbeam_queue::{RuledSegQueue, SegPass};
-use rule::{Glances, Halves, InOrder, Joins, Puts, Sides, Takes, View};
+use rule::{Asks, Halves, InOrder, Joins, Puts, Sides, Takes, View};
 use std::alloc::{AllocError, Global};
 use std::marker::Model;
 use std::sync::Wait;
@@ -61,7 +61,7 @@ impl Model for PutPass {
 
 /// The right of the one receiver to take numbers from one mailbox. It has no bytes. A contract sees the mailbox's
 /// name, the list of what was taken, of the put passes that were handed in the splits and the lists of what was put, and how
-/// often it looked whether there is a number.
+/// often it was asked for a number.
 #[derive(Drop)]
 pub struct TakePass {
     seat: LinePass,
@@ -92,7 +92,7 @@ impl Mailbox {
     /// want of memory.
     pub fn new(alloc: Global) -> Result<(Mailbox, PutPass, TakePass), AllocError>
         ensures put { IfOk result (λ r. (r.1.at ≡ r.0) × (r.1.splits ≡ 0) × (r.1.put ≡ [])) }
-        ensures take { IfOk result (λ r. (r.2.at ≡ r.0) × (r.2.taken ≡ []) × (r.2.splits ≡ []) × (r.2.joined ≡ []) × (r.2.looks ≡ 0)) }
+        ensures take { IfOk result (λ r. (r.2.at ≡ r.0) × (r.2.taken ≡ []) × (r.2.splits ≡ []) × (r.2.joined ≡ []) × (r.2.asked ≡ 0)) }
     {
         let (line, mut first) = Line::with_rule(alloc)?;
         let second = line.another::<Sides>(&mut first);
@@ -127,14 +127,14 @@ impl Mailbox {
         self.push(rt, &mut pass.seat, number)
     }
 
-    /// Takes the oldest number. `None` comes only where the mailbox was empty at a step of this call, and the pass counts each
-    /// call as a look. So what was taken then has all that was put through the passes that were handed in. Of the others no
-    /// clause can say it, since they may put at once.
+    /// Takes the oldest number. After `None` what was taken has all that was put through the passes that were handed in. Of the
+    /// others no clause says anything, since they may put at once. The pass counts each call (`asked`), whatever comes of it: no
+    /// clause says that the call looked into the mailbox.
     #[tactic(auto, using(crate::proofs::Moves::all_taken))]
     pub fn take<R: Wait>(&self, rt: &R, pass: &mut TakePass) -> Option<u32>
         requires { pass.old.at ≡ self.now }
         ensures same { (pass.new.at ≡ pass.old.at) × (pass.new.splits ≡ pass.old.splits) × (pass.new.joined ≡ pass.old.joined) }
-        ensures looked { pass.new.looks ≡ pass.old.looks + 1 }
+        ensures asked { pass.new.asked ≡ pass.old.asked + 1 }
         ensures empty { IfNone result (HasAll pass.old.joined pass.old.taken) }
         ensures taken { MatchOption result (pass.new.taken ≡ pass.old.taken) (λ number. pass.new.taken ≡ pass.old.taken ++ number ∷ []) }
     {
@@ -144,7 +144,7 @@ impl Mailbox {
     /// Hands in a put pass, through which nothing more is put. It takes no memory.
     pub fn join(&self, pass: &mut TakePass, put: PutPass)
         requires { (pass.old.at ≡ self.now) × (put.at ≡ self.now) }
-        ensures same { (pass.new.at ≡ pass.old.at) × (pass.new.taken ≡ pass.old.taken) × (pass.new.looks ≡ pass.old.looks) }
+        ensures same { (pass.new.at ≡ pass.old.at) × (pass.new.taken ≡ pass.old.taken) × (pass.new.asked ≡ pass.old.asked) }
         ensures joined { (pass.new.splits ≡ pass.old.splits ++ put.splits ∷ []) × (pass.new.joined ≡ pass.old.joined ++ put.put ∷ []) }
     {
         self.take_in(&mut pass.seat, put);
@@ -181,16 +181,16 @@ impl Mailbox {
         self.line.push_as::<Puts, R>(rt, seat, number)
     }
 
-    // One look of the take pass: the number at the front of the queue, if any. Where there is none, it has taken all that
-    // was put through the passes which it took in, and nothing else once these are the whole right to put.
+    // The number at the front of the queue, if any. Where there is none, the take pass has taken all that was put through the
+    // passes which it took in, and nothing else once these are the whole right to put.
     fn pop<R: Wait>(&self, rt: &R, seat: &mut LinePass) -> Option<u32>
         requires { IsTakerAsKnown self.now seat.old }
         ensures seat { (seat.new.web ≡ self.now) × IsFree seat.new }
-        ensures taken { MatchOption result (known_to seat.new ≡ looked_once (known_to seat.old)) (λ number. known_to seat.new ≡ after_take (looked_once (known_to seat.old)) number) }
+        ensures taken { MatchOption result (known_to seat.new ≡ asked_once (known_to seat.old)) (λ number. known_to seat.new ≡ after_take (asked_once (known_to seat.old)) number) }
         ensures empty { IfNone result (HasAll (known_to seat.old).joined ((known_to seat.old).taken ++ [])) }
         ensures all { IfNone result (AreWhole (known_to seat.old).splits → IsInterleaving (known_to seat.old).joined ((known_to seat.old).taken ++ [])) }
     {
-        let _ = self.line.another::<Glances>(seat);
+        let _ = self.line.another::<Asks>(seat);
         self.line.pop_as::<Takes, R>(rt, seat)
     }
 
@@ -209,7 +209,7 @@ impl Mailbox {
         requires same { All (λ p. p.at ≡ self.now) puts.items }
         requires taker { IsTakerAsKnown self.now seat.old }
         ensures { let known = known_to seat.old in
-            IsTaker self.now (taker (known.splits ++ map (λ p. p.splits) puts.items) known.taken (known.joined ++ map (λ p. p.put) puts.items) known.looks) seat.new }
+            IsTaker self.now (taker (known.splits ++ map (λ p. p.splits) puts.items) known.taken (known.joined ++ map (λ p. p.put) puts.items) known.asked) seat.new }
     {
         for put in puts {
             self.take_in(seat, put);

@@ -13,7 +13,7 @@ pub struct View {
     pub sent: LinkedList<u32>,
     pub taken: LinkedList<u32>,
     pub joined: LinkedList<LinkedList<u32>>,
-    pub looks: u64,
+    pub asked: u64,
 }
 
 pub struct InOrder;
@@ -64,13 +64,13 @@ impl Outcome<u32, View> for Takes {
     ghost then = { λ v x w. w ≡ after_take v x };
 }
 
-// The take pass looks at the queue. Beside it comes a pass with no right at all, which is dropped.
-pub struct Glances;
+// A call that asks for a number is counted. Beside the take pass comes a pass with no right at all, which is dropped.
+pub struct Asks;
 
-impl Split<View> for Glances {
-    ghost use Rattle.mailbox.specs.Ordered.{looked_once, spent};
+impl Split<View> for Asks {
+    ghost use Rattle.mailbox.specs.Ordered.{asked_once, spent};
 
-    ghost left = { looked_once };
+    ghost left = { asked_once };
 
     ghost right = { λ v. spent };
 }

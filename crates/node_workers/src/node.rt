@@ -1,12 +1,7 @@
 //! The cells of a node, and a round of a worker among them.
 
-ghost use Rattle.std.specs.Prelude.{◌≡◌, ◌||◌, false, length, MatchOption, slice_get};
-ghost use Rattle.actor_cell.specs.Held.{HeldView, player_at, IsHeld};
-ghost use Rattle.actor_cell.specs.Turning.{WasServed};
-ghost use Rattle.actor_cell.specs.declared.served.Served.{Served};
-ghost use Rattle.liar_cell.specs.HeldLiar.{IsHeldLiar};
-ghost use Rattle.liar_cell.specs.LiarTurns.{LiarWasServed};
-ghost use Rattle.node_workers.specs.Rounds.{AreServed, AreServedAt, is_did};
+ghost use Rattle.std.specs.Prelude.{◌≡◌};
+ghost use Rattle.node_workers.specs.Rounds.{is_did};
 
 use crate::pool::serve_all;
 use actor_cell::{Cell, RunName, Served};
@@ -34,14 +29,10 @@ fn serve_each<'b, B: NamedBook + Drop, A: Actor<B>, J: RunName, R: Wait, G: Gate
     alloc: Global,
     cells: &[Cell<'b, B, A, J>],
     gate: &G,
-) -> bool
-    ensures { AreServed (λ (r : Served). WasServed (λ (h : HeldView A B). IsHeld B.knows J.is_script J.book (A.seat h.actor) h.book (B.name h.book) h.script h.mail
-        (player_at B.config B.node B.actor B.seen A.seat A.view h.actor h.fate))
-        B.config B.node B.actor B.seen A.seat A.view B.is_whole B.moved r) (length cells.now) result }
-{
+) -> bool {
     let mut took = false;
     for cell in cells {
-        took = either(is_did(cell.serve(rt, alloc, gate)), took);
+        took |= is_did(cell.serve(rt, alloc, gate));
     }
     took
 }
@@ -56,12 +47,6 @@ fn is_did(served: Served) -> bool
     }
 }
 
-fn either(one: bool, other: bool) -> bool
-    ensures { result ≡ (one || other) }
-{
-    one || other
-}
-
 // One round of a worker: it serves each cell of the node once, and begins at the one whose number is the worker's modulo their
 // count. It tells whether any of them took a number.
 fn round<'b, B: NamedBook + Drop, A: Actor<B>, J: RunName, R: Wait, G: Gate>(
@@ -70,40 +55,17 @@ fn round<'b, B: NamedBook + Drop, A: Actor<B>, J: RunName, R: Wait, G: Gate>(
     cells: &[Cell<'b, B, A, J>],
     worker: usize,
     gate: &G,
-) -> bool
-    ensures { AreServed (λ (r : Served). WasServed (λ (h : HeldView A B). IsHeld B.knows J.is_script J.book (A.seat h.actor) h.book (B.name h.book) h.script h.mail
-        (player_at B.config B.node B.actor B.seen A.seat A.view h.actor h.fate))
-        B.config B.node B.actor B.seen A.seat A.view B.is_whole B.moved r) (length cells.now) result }
-{
+) -> bool {
     if cells.is_empty() {
         return false;
     }
     let (front, back) = cells.split_at(worker % cells.len());
     let took = serve_each(rt, alloc, back, gate);
-    either(serve_each(rt, alloc, front, gate), took)
+    serve_each(rt, alloc, front, gate) || took
 }
 
-// A round at a node: each of its actors makes one turn, and so does a node that lies. It tells whether any of them took a number.
-fn round_of<'b, B: NamedBook + Drop, A: Actor<B>, L: Mouth, J: RunName, R: Wait, G: Gate>(
-    rt: &R,
-    alloc: Global,
-    node: &Node<'b, B, A, L, J>,
-    worker: usize,
-    gate: &G,
-) -> bool
-    ensures { AreServedAt
-        (λ (r : Served). WasServed (λ (h : HeldView A B). IsHeld B.knows J.is_script J.book (A.seat h.actor) h.book (B.name h.book) h.script h.mail
-        (player_at B.config B.node B.actor B.seen A.seat A.view h.actor h.fate))
-        B.config B.node B.actor B.seen A.seat A.view B.is_whole B.moved r)
-        (λ (r : Served). LiarWasServed (IsHeldLiar J.is_script J.book B.name) B.moved r) node.now result }
-{
-    match node {
-        Node::Correct(cells) => round(rt, alloc, cells.as_slice(), worker, gate),
-        Node::Lying(liar) => is_did(liar.serve(rt, alloc, gate)),
-    }
-}
-
-// A round at one of the nodes.
+// A round at one of the nodes: each of its actors makes one turn, and so does a node that lies. It tells whether any of them took
+// a number.
 fn round_at<'b, B: NamedBook + Drop, A: Actor<B>, L: Mouth, J: RunName, R: Wait, G: Gate>(
     rt: &R,
     alloc: Global,
@@ -111,16 +73,11 @@ fn round_at<'b, B: NamedBook + Drop, A: Actor<B>, L: Mouth, J: RunName, R: Wait,
     node: usize,
     worker: usize,
     gate: &G,
-) -> bool
-    ensures { MatchOption (slice_get nodes.now node) (result ≡ false) (λ at. AreServedAt
-        (λ (r : Served). WasServed (λ (h : HeldView A B). IsHeld B.knows J.is_script J.book (A.seat h.actor) h.book (B.name h.book) h.script h.mail
-        (player_at B.config B.node B.actor B.seen A.seat A.view h.actor h.fate))
-        B.config B.node B.actor B.seen A.seat A.view B.is_whole B.moved r)
-        (λ (r : Served). LiarWasServed (IsHeldLiar J.is_script J.book B.name) B.moved r) at result) }
-{
+) -> bool {
     match nodes.get(node) {
+        Some(Node::Correct(cells)) => round(rt, alloc, cells.as_slice(), worker, gate),
+        Some(Node::Lying(liar)) => is_did(liar.serve(rt, alloc, gate)),
         None => false,
-        Some(at) => round_of(rt, alloc, at, worker, gate),
     }
 }
 

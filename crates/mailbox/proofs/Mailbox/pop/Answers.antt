@@ -1,10 +1,10 @@
 use Rattle.std.proofs.Common.{ap, ◌∙◌}
 use Rattle.mailbox.specs.declared.rule.View.{View}
-use Rattle.mailbox.proofs.Moves.{takes, learns, forks_looked}
+use Rattle.mailbox.proofs.Moves.{takes, learns, forks_asked}
 use Rattle.mailbox.proofs.Mailbox.pop.Goals as goal
 
 pub another-requires-clause-rule : goal.another-requires-clause-rule
-another-requires-clause-rule g c = forks_looked _ _
+another-requires-clause-rule g c = forks_asked _ _
 
 pub pop_as-requires-clause-rule : goal.pop_as-requires-clause-rule
 pop_as-requires-clause-rule g c = (takes _ _ (ap (λ (v : View). v.takes) c.another.ensures.rule.0 ∙ ap (λ (v : View). v.takes) c.requires.2), learns _ _)

@@ -29,7 +29,7 @@ returns-in-None-take-clause-moved g c =
       player = ap (λ (v : HeldView _ _). player_at b.config b.node b.actor b.seen a.seat a.view v.actor v.fate) c.take.ensures.rest;
       back = ap (λ (v : HeldView _ _). v.back) c.take.ensures.rest;
       mail = c.in-None-take.ensures.taken;
-      looked = c.take.ensures.looked;
+      asked = c.take.ensures.asked;
     } in
     let here : b.moved o.player.seat.node o.player.seat.actor c.args.self.now.book c.take.new.self.book = rw (ap (λ (v : HeldView _ _). v.book) c.take.ensures.rest) c.loop.invariant.moved in
     moved_on b.moved g.met.B.Book.goes_on c.args.self.now.book c.take.new.self.book c.serve_back.new.self.book o.player m1.player (seat_taken c.args.self.now.script c.loop.invariant.held.0 [] o m m1 c.loop.invariant.held.1 took) here c.serve_back.ensures.moved
@@ -45,7 +45,7 @@ returns-in-None-take-clause-whole g c =
       player = ap (λ (v : HeldView _ _). player_at b.config b.node b.actor b.seen a.seat a.view v.actor v.fate) c.take.ensures.rest;
       back = ap (λ (v : HeldView _ _). v.back) c.take.ensures.rest;
       mail = c.in-None-take.ensures.taken;
-      looked = c.take.ensures.looked;
+      asked = c.take.ensures.asked;
     } in
     let here : b.moved o.player.seat.node o.player.seat.actor c.args.self.now.book c.take.new.self.book = rw (ap (λ (v : HeldView _ _). v.book) c.take.ensures.rest) c.loop.invariant.moved in
     λ did. WasShown-later b.is_whole b.moved b.seen g.met.B.Book.goes_on c.args.self.now.book c.take.new.self.book c.serve_back.new.self.book (a.seat c.serve_back.new.self.actor) o.player m1.player
@@ -65,7 +65,7 @@ returns-in-None-take-clause-turned g c =
       player = ap (λ (v : HeldView _ _). player_at b.config b.node b.actor b.seen a.seat a.view v.actor v.fate) c.take.ensures.rest;
       back = ap (λ (v : HeldView _ _). v.back) c.take.ensures.rest;
       mail = c.in-None-take.ensures.taken;
-      looked = c.take.ensures.looked;
+      asked = c.take.ensures.asked;
     } in
     Turned-back s c.serve_back.result c.loop.invariant.held.0 o m m1 q c.loop.invariant.running c.loop.invariant.held.1 took c.in-None-take.ensures.empty
     (subst (λ (t : Script). ServesBack t c.serve_back.result m1 q) same c.serve_back.ensures.served)
@@ -81,7 +81,7 @@ returns-then-serve_new-clause-moved g c =
       player = ap (λ (v : HeldView _ _). player_at b.config b.node b.actor b.seen a.seat a.view v.actor v.fate) c.take.ensures.rest;
       back = ap (λ (v : HeldView _ _). v.back) c.take.ensures.rest;
       mail = c.in-Some-take.ensures.taken;
-      looked = c.take.ensures.looked;
+      asked = c.take.ensures.asked;
     } in
     let here : b.moved o.player.seat.node o.player.seat.actor c.args.self.now.book c.take.new.self.book = rw (ap (λ (v : HeldView _ _). v.book) c.take.ensures.rest) c.loop.invariant.moved in
     moved_on b.moved g.met.B.Book.goes_on c.args.self.now.book c.take.new.self.book c.serve_new.new.self.book o.player m1.player (seat_taken c.args.self.now.script c.loop.invariant.held.0 (c.in-Some-take.k ∷ []) o m m1 c.loop.invariant.held.1 took) here c.serve_new.ensures.moved
@@ -97,7 +97,7 @@ returns-then-serve_new-clause-whole g c =
       player = ap (λ (v : HeldView _ _). player_at b.config b.node b.actor b.seen a.seat a.view v.actor v.fate) c.take.ensures.rest;
       back = ap (λ (v : HeldView _ _). v.back) c.take.ensures.rest;
       mail = c.in-Some-take.ensures.taken;
-      looked = c.take.ensures.looked;
+      asked = c.take.ensures.asked;
     } in
     let here : b.moved o.player.seat.node o.player.seat.actor c.args.self.now.book c.take.new.self.book = rw (ap (λ (v : HeldView _ _). v.book) c.take.ensures.rest) c.loop.invariant.moved in
     λ did. WasShown-later b.is_whole b.moved b.seen g.met.B.Book.goes_on c.args.self.now.book c.take.new.self.book c.serve_new.new.self.book (a.seat c.serve_new.new.self.actor) o.player m1.player
@@ -118,7 +118,7 @@ returns-then-serve_new-clause-turned g c =
       player = ap (λ (v : HeldView _ _). player_at b.config b.node b.actor b.seen a.seat a.view v.actor v.fate) c.take.ensures.rest;
       back = ap (λ (v : HeldView _ _). v.back) c.take.ensures.rest;
       mail = c.in-Some-take.ensures.taken;
-      looked = c.take.ensures.looked;
+      asked = c.take.ensures.asked;
     } in
     Turned-new s c.loop.invariant.held.0 k o m m1 q c.loop.invariant.running c.loop.invariant.held.1 took
     (subst (λ r. ServesNew s k r m1 q) c.if-serve_new.true (subst (λ (t : Script). ServesNew t k c.serve_new.result m1 q) same c.serve_new.ensures.served))
@@ -138,7 +138,7 @@ loop-preserved g c =
       player = ap (λ (v : HeldView _ _). player_at b.config b.node b.actor b.seen a.seat a.view v.actor v.fate) c.take.ensures.rest;
       back = ap (λ (v : HeldView _ _). v.back) c.take.ensures.rest;
       mail = c.in-Some-take.ensures.taken;
-      looked = c.take.ensures.looked;
+      asked = c.take.ensures.asked;
     } in
     let here : b.moved o.player.seat.node o.player.seat.actor c.args.self.now.book c.take.new.self.book = rw (ap (λ (v : HeldView _ _). v.book) c.take.ensures.rest) c.loop.invariant.moved in
     let served : ServesNew s k false m1 q = subst (λ r. ServesNew s k r m1 q) c.if-serve_new.false (subst (λ (t : Script). ServesNew t k c.serve_new.result m1 q) same c.serve_new.ensures.served) in

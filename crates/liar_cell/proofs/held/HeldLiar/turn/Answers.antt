@@ -31,7 +31,7 @@ returns-in-None-take-clause-turned g c =
     let goes : GoesOn b.moved (with_mail m mail) q = subst (λ (v : LiarView _). GoesOn b.moved v q) c.take.ensures.rest c.serve_back.ensures.goes in
     let served : ServesBack r (with_mail m mail) q = subst (λ (v : LiarView _). ServesBack r v q) c.take.ensures.rest c.serve_back.ensures.served in
     Turned-back b.moved r was.held.0 o m q mail was.held.1 (longer o.seat.seen m.seat.seen was.goes.seen)
-    (record { mail = c.in-None-take.ensures.taken; looked = c.take.ensures.looked }) c.in-None-take.ensures.empty goes served
+    (record { mail = c.in-None-take.ensures.taken; asked = c.take.ensures.asked }) c.in-None-take.ensures.empty goes served
 
 pub returns-then-serve_new-clause-goes : goal.returns-then-serve_new-clause-goes
 returns-then-serve_new-clause-goes g c =
@@ -55,7 +55,7 @@ returns-then-serve_new-clause-turned g c =
     let served : ServesNew k true (with_mail m mail) q =
     subst (λ (v : LiarView _). ServesNew k true v q) c.take.ensures.rest (subst (λ r. ServesNew k r c.take.new.self q) c.if-serve_new.true c.serve_new.ensures.served) in
     TakesOne-new b.moved was.held.0 k o m q mail was.held.1 (longer o.seat.seen m.seat.seen was.goes.seen)
-    (record { mail = c.in-Some-take.ensures.taken; looked = c.take.ensures.looked }) goes served
+    (record { mail = c.in-Some-take.ensures.taken; asked = c.take.ensures.asked }) goes served
 
 pub loop-preserved : goal.loop-preserved
 loop-preserved g c =
@@ -71,5 +71,5 @@ loop-preserved g c =
     subst (λ (v : LiarView _). ServesNew k false v q) c.take.ensures.rest (subst (λ r. ServesNew k r c.take.new.self q) c.if-serve_new.false c.serve_new.ensures.served) in
     record {
       goes = GoesOn-then b.moved g.met.B.Book.goes_on o m q was.goes (GoesOn-mail b.moved m q mail goes);
-      held = (was.held.0 ++ k ∷ [], HoldsBack-on b.moved was.held.0 k o m q mail was.held.1 (record { mail = c.in-Some-take.ensures.taken; looked = c.take.ensures.looked }) goes served);
+      held = (was.held.0 ++ k ∷ [], HoldsBack-on b.moved was.held.0 k o m q mail was.held.1 (record { mail = c.in-Some-take.ensures.taken; asked = c.take.ensures.asked }) goes served);
     }
