@@ -23,7 +23,7 @@ use Rattle.hb_rules.proofs.Reports.{running_correct}
 use Rattle.acs_world.specs.Agreed.{ClosingsAgree}
 use Rattle.acs_world.specs.Closed.{Closure}
 use Rattle.acs_world.specs.Closures.{closure_of, closures_of, closures}
-use Rattle.acs_world.proofs.Ledgers.{lists_at, list_from, list_has, ledger_has, IsChain, chains_comparable}
+use Rattle.acs_world.proofs.Ledgers.{lists_at, list_from, list_has, ledger_has, IsChain, none_behind, chains_comparable}
 use Rattle.acs_world.proofs.Theorems.{closings_backed, closings_agree, closings_follow, closed_chain, batches_enough, items_unaltered}
 use Rattle.ledger_text.specs.Lines.{numbers_line, epoch_line, end_line}
 use Rattle.ledger_text.specs.Places.{in_lists}
@@ -166,16 +166,35 @@ closed_first c history i e x is =
 
 -- ---- what printed ledgers have in common
 
+-- a chain of lists, each at the place of its epoch, has the epochs one after the other
+chain_epochs : (A : ℕ → List Closure) (s k : ℕ) → IsChain A → ((e : ℕ) (x : Closure) → A e ≡ x ∷ [] → x.0 ≡ e)
+    → map (λ (x : Closure). x.0) (flat_map A (range_with_len s k)) ≡ range_with_len s (length (flat_map A (range_with_len s k)))
+chain_epochs A s zero chain own = refl
+chain_epochs A s (suc k) chain own = elim (chain.at s) [
+  | inl none ↦
+      let nothing : flat_map A (range_with_len s (suc k)) ≡ [] = none_behind A s (suc k) chain none in
+      ap (map (λ (x : Closure). x.0)) nothing ∙ sym (ap (λ (xs : List Closure). range_with_len s (length xs)) nothing)
+  | inr one ↦
+      let rest : List Closure = flat_map A (range_with_len (s + 1) k) in
+      let all : flat_map A (range_with_len s (suc k)) ≡ one.0 ∷ rest = ap (λ (here : List Closure). here ++ rest) one.1 in
+      let epochs : map (λ (x : Closure). x.0) (one.0 ∷ rest) ≡ s ∷ range_with_len (s + 1) (length rest) =
+      ap (λ (e : ℕ). e ∷ map (λ (x : Closure). x.0) rest) (own s one.0 one.1) ∙ ap (λ (es : List ℕ). s ∷ es) (chain_epochs A (s + 1) k chain own) in
+      ap (map (λ (x : Closure). x.0)) all ∙ epochs ∙ sym (ap (λ (xs : List Closure). range_with_len s (length xs)) all)
+]
+
+node_chain : (c : Numbers) (history : List Post) (i : ℕ) → AreSound c → IsLegal c history → NoCollision c history → IsCorrect c i
+    → IsChain (closures_of c i history)
+node_chain c history i sound legal premise correct =
+    closure_chain c history i (closed_chain c history i (closings_agree c history sound legal premise) (closings_follow c history legal) correct)
+
 closures_comparable : (c : Numbers) (history : List Post) (i k : ℕ) → AreSound c → IsLegal c history → NoCollision c history → IsCorrect c i → IsCorrect c k
     → IsPrefix (closures c history i) (closures c history k) ⊎ IsPrefix (closures c history k) (closures c history i)
 closures_comparable c history i k sound legal premise correct also =
-    chains_comparable (closures_of c i history) (closures_of c k history) 0 32 (chain i correct) (chain k also) alike
+    chains_comparable (closures_of c i history) (closures_of c k history) 0 32
+    (node_chain c history i sound legal premise correct) (node_chain c history k sound legal premise also) alike
   where
     agree : ClosingsAgree c history
     agree = closings_agree c history sound legal premise
-
-    chain : (m : ℕ) → IsCorrect c m → IsChain (closures_of c m history)
-    chain m right = closure_chain c history m (closed_chain c history m agree (closings_follow c history legal) right)
 
     alike : (e : ℕ) (x y : Closure) → closures_of c i history e ≡ x ∷ [] → closures_of c k history e ≡ y ∷ [] → x ≡ y
     alike e x y one other =
@@ -189,6 +208,9 @@ agree_as_printed c history sound legal premise = record {
     | inl front ↦ inl (text_begins (closures c history i) (closures c history k) front)
     | inr behind ↦ inr (text_begins (closures c history k) (closures c history i) behind)
   ];
+  epochs = λ i correct.
+      chain_epochs (closures_of c i history) 0 32 (node_chain c history i sound legal premise correct)
+      (λ e x is. let first = closed_first c history i e x is in ap (λ (y : Closure). y.0) (sym first.2));
   enough = λ i closure correct stands.
       batches_enough c history sound legal premise i closure.1 correct
       (ledger_has c history i closure.0 closure.1 (closed_with_it c history i closure stands));

@@ -29,7 +29,8 @@ text_before report i = numbers_line (codes "run") report.config ++ flat_map (nod
 abbrev pub text_behind : Report → ℕ → List ℕ
 text_behind report i = flat_map (node_text report) (drop (i + 1) (nodes_of report)) ++ end_line report.status
 
--- the text of a run has the ledger of each correct node behind the lines that say how the node stands, and then come the next nodes
+-- the text of a run has the ledger of each correct node behind the lines that say how the node stands, and then come the next
+-- nodes
 abbrev pub HasLedgers : Report → Type 0
 HasLedgers report = (i : ℕ) → IsCorrect report.config i
     → run_text report ≡ text_before report i ++ (state_text report i ++ (ledger_text report.config report.history.items i ++ text_behind report i))
@@ -62,18 +63,21 @@ HasBatches report = (i place index : ℕ) (closure : Closure) (item : Item) → 
 abbrev pub IsOneOfOther : List ℕ → List ℕ → Type 0
 IsOneOfOther text other = IsPrefix text other ⊎ IsPrefix other text
 
--- Of any two correct nodes' printed ledgers one begins with the other, byte by byte. Each list of a printed ledger has the batches of
--- n - f nodes at least, of each of these one, and what it has of a correct node is what that node's desk proposed for the epoch of
--- the list.
+-- Of any two correct nodes' printed ledgers one begins with the other, byte by byte. The epochs of a printed ledger are 0, 1, 2
+-- and so on, each with one list and none left out. Each list has the batches of n - f nodes at least, of each of these one, and
+-- what it has of a correct node is what that node's desk proposed for the epoch of the list.
 pub record AgreeAsPrinted (c : Numbers) (history : List Post) : Type 0 where
   pub one : (i k : ℕ) → IsCorrect c i → IsCorrect c k → IsOneOfOther (ledger_text c history i) (ledger_text c history k)
+  pub epochs : (i : ℕ) → IsCorrect c i
+      → map (λ (closure : Closure). closure.0) (closures c history i) ≡ range_with_len 0 (length (closures c history i))
   pub enough : (i : ℕ) (closure : Closure) → IsCorrect c i → Contains (closures c history i) closure → c.n - c.f ≤ length closure.1
   pub nodes : (i : ℕ) (closure : Closure) → IsCorrect c i → Contains (closures c history i) closure
       → (has : ℕ → Bool) × (map (λ (item : Item). item.node) closure.1 ≡ filter has (range_with_len 0 c.n))
   pub unaltered : (i : ℕ) (closure : Closure) (item : Item) → IsCorrect c i → IsCorrect c item.node → Contains (closures c history i) closure
       → Contains closure.1 item → Contains (own_in c item.node c.n history) (Propose closure.0 item.value)
 
--- the printed ledger of a running node has a list of each epoch up to e, where in each of these all lanes of the node have finished
+-- the printed ledger of a running node has a list of each epoch up to e, where in each of these all lanes of the node have
+-- finished
 abbrev pub HasEachPrinted : Report → Type 0
 HasEachPrinted report = (i e d : ℕ) → is_running report i ≡ true → IsComplete report.config report.history.items i e → d ≤ e
     → (list : List Item) × Contains (closures report.config report.history.items i) (closure_of d list)

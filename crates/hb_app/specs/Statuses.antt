@@ -105,7 +105,8 @@ pub record AuditStatuses {O E : Type 0} (before after : Scene O E) (status : ℕ
   -- after 0 the input is the text of a legal history of so many posts, which was written, and nothing was told
   pub legal : status ≡ 0 → (posts : ℕ) × Audits before.source after.source (Ok (Legal posts)) × HasPut before.out after.out (verdict_line (Legal posts))
       × IsUntouched before.err after.err
-  -- after 8 the input is the text of a history of which this post is the first illegal one, which was written, and nothing was told
+  -- After 8 the input is the text of a history that is legal before this post, whose number was written, and nothing was told.
+  -- Where no two strings that count as hashed in the posts up to this one share a digest, they are not legal with it.
   pub illegal : status ≡ 8 → (post : ℕ) × Audits before.source after.source (Ok (Illegal post)) × HasPut before.out after.out (verdict_line (Illegal post))
       × IsUntouched before.err after.err
   -- after 3 the input is no text of a history, or too long, which was told
@@ -136,7 +137,8 @@ pub record AuditStatuses {O E : Type 0} (before after : Scene O E) (status : ℕ
   pub faulty : (input : List ℕ) → before.source.left ≡ Some input → (longest_trace < length input) ⊎ IsNoTrace input
       → (status ≡ 3) ⊎ ((status ≡ 6) × Rose before.source.faults after.source.faults)
       ⊎ ((status ≡ 7) × Rose before.err.faults after.err.faults) ⊎ (status ≡ 9)
-  -- where nothing failed, the text of a history answers 0 only if that is legal, and 8 only if it is not, or 9
+  -- Where nothing failed, the text of a history answers 0, 8 or 9. After 0 it is legal. After 8 it is not, where no two strings
+  -- that count as hashed in it share a digest.
   pub complete : (input : List ℕ) (c : Numbers) (posts : List Post) → before.source.left ≡ Some input → length input ≤ longest_trace
       → IsTrace input c posts → (Rose before.source.faults after.source.faults → ⊥) → NoPutFails before after
       → ((status ≡ 0) × IsLegal c posts) ⊎ ((status ≡ 8) × (NoCollision c posts → IsLegal c posts → ⊥)) ⊎ (status ≡ 9)

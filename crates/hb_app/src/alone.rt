@@ -29,8 +29,9 @@ use scenario_gen::generate;
 use std::alloc::Global;
 use trace_audit::audit;
 
-/// The program `hb_ledger` on this thread alone, as far as it comes: it returns. It is `hb_main`, but where a scenario asks for
-/// workers above 0. Then it hands out what is to be run, with nothing done yet but the reading of the input.
+/// The program `hb_ledger` on this thread alone, as far as it comes: it returns. Where it ends, it has done what `hb_main` says.
+/// What it hands out instead is a run that asks for workers above 0, with the cast that was given, and with nothing done yet but
+/// the reading of the input. A run without workers is never handed out; no clause says that each run with workers is.
 pub fn hb_alone<S: Source, O: Sink, E: Sink, G: Gate>(
     alloc: Global,
     words: &[String],
@@ -65,6 +66,7 @@ pub fn hb_alone<S: Source, O: Sink, E: Sink, G: Gate>(
         (PutsOr7 (sink_view E.held E.faults err.old) (sink_view E.held E.faults err.new) usage_line 2)
         (λ task. ⊥) × (report.new ≡ report.old) × (out.new ≡ out.old) × (source.new ≡ source.old) }
     ensures sound { Comes result (λ status. Unit {0}) (λ task. IsScenario (told task.script)) }
+    ensures cast { Comes result (λ status. Unit {0}) (λ task. task.cast ≡ cast) }
 {
     match command_of(words) {
         Some(Command::Run(text)) => match read_scenario(alloc, source, cast.as_slice()) {

@@ -23,11 +23,12 @@ use std::alloc::Global;
 use std::sync::Wait;
 use std::thread::Threads;
 
-/// The program `hb_ledger`: what its words ask for, over any input and output, with a cast of liars. `run`, `trace`, `observe` and
-/// `accuse` run the scenario on the input. `run` prints the ledger of each correct node, `trace` the history, `observe` the ledgers
-/// that observers take from closing votes, and `accuse` the nodes whose own posts contradict each other. `soak N` runs the scenario
-/// of a number and prints whether the ledgers agree. `audit` reads the text of a history, as `trace` prints one, and prints whether
-/// the history is legal, or else the number of its first post that is not. The status is
+/// The program `hb_ledger`: what its words ask for, over any input and output, with a cast of liars. `run`, `trace`, `observe`
+/// and `accuse` run the scenario on the input. `run` prints the ledger of each correct node, `trace` the history, `observe` the
+/// ledgers that observers take from closing votes, and `accuse` the nodes whose own posts contradict each other. `soak N` runs
+/// the scenario of a number and prints whether the ledgers agree. `audit` reads the text of a history, as `trace` prints one, and
+/// prints that the history is legal, or else the number of a post before which it is. With this post it is not, if no two
+/// different strings that count as hashed in the posts up to it have one digest. The status is
 ///   0 if memory did not run out, some correct node runs, and each that runs closed the last epoch, or the history is legal,
 ///   2 if the words are unknown,
 ///   3 if the input is no scenario, or no text of a history,
@@ -35,14 +36,15 @@ use std::thread::Threads;
 ///   5 if it is neither 0 nor 9, and a lane of a correct node works and has spent its rounds,
 ///   6 if the input can't be read,
 ///   7 if the output or the error sink can't be written,
-///   8 if the history is not legal, and
+///   8 if a post was found up to which the history is not legal, unless there are two such strings, and
 ///   9 if memory ran out.
-/// All but 0, 4, 5 and 8 tell a line on `err`, where it takes one. The report is of the run; without one it stays, and nothing is written
-/// to `out` but a verdict. At most 1,048,577 bytes of the input are taken, one more than a scenario may have, or 67,108,865 by `audit`,
-/// one more than the text of a history may have, and the rest is left.
+/// All but 0, 4, 5 and 8 tell a line on `err`, where it takes one. The report is of the run; without one it stays, and nothing is
+/// written to `out` but a verdict. At most 1,048,577 bytes of the input are taken, one more than a scenario may have, or
+/// 67,108,865 by `audit`, one more than the text of a history may have, and the rest is left.
 ///
-/// A scenario may ask for the liars of the cast, by name; each stands for one node. Where it asks for workers above 0, so many worker
-/// threads at each node run it over a shared book, and the call may wait; else it is `hb_alone`, which returns.
+/// A scenario may ask for the liars of the cast, by name; each stands for one node. The call is `hb_alone`, which returns; only
+/// behind it, on a run that it hands out, does the call start so many worker threads at each node as the scenario asks for, over
+/// a shared book, and wait. So its body says; no clause can, since a call that does not return meets each clause.
 pub fn hb_main<R: Threads + Wait + Sync, S: Source, O: Sink, E: Sink, G: Gate>(
     rt: &R,
     alloc: Global,
