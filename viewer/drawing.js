@@ -1,13 +1,12 @@
 // Draws the rows in sight: the texts of each post, its letter at the node that said it, and an arrow to each node that its
 // address reaches.
-import { COLOURS, inkOn } from "./words.js";
+import { COLOURS, FAINT, inkOn, MARKS } from "./words.js";
 import { KIND_LIST, bitsText } from "./votes.js";
-import { HEAD, TEXT_HEIGHT } from "./layout.js";
-import { NO_KIND, NO_ROUND } from "./history.js";
+import { ARROW_HEIGHT, HEAD, TEXT_HEIGHT } from "./layout.js";
+import { drawLowRows } from "./lowrows.js";
+import { NO_KIND } from "./history.js";
 
 const INK = "#1b1b1b";
-const FAINT = "#5c5c5c";
-const MARKS = { illegal: "#b00020", contradiction: "#6a1b9a" };
 const FONT = '"DejaVu Sans", "Segoe UI", system-ui, sans-serif';
 
 // What a post says beside kind, epoch and round.
@@ -47,6 +46,7 @@ export class Drawing {
     const first = Math.max(0, Math.floor(view.top));
     const last = Math.min(view.list.length, Math.ceil(view.top + layout.rows) + 1);
     for (let place = first; place < last; place += 1) this.drawRow(view, place);
+    if (layout.rowHeight < ARROW_HEIGHT) drawLowRows(pen, this.world, layout, view, first, last);
     this.drawHead();
   }
 
@@ -102,9 +102,9 @@ export class Drawing {
     const k = view.list[place];
     const y = layout.rowY(place, view.top);
     this.drawBack(view, k, y);
-    pen.globalAlpha = 1;
     if (layout.rowHeight >= TEXT_HEIGHT) this.drawTexts(k, y);
     else if (place % Math.ceil(TEXT_HEIGHT / layout.rowHeight) === 0) this.drawNumber(k, y);
+    if (layout.rowHeight < ARROW_HEIGHT) return;
     this.drawArrows(k, y + layout.rowHeight / 2);
     this.drawChip(k, y + layout.rowHeight / 2);
   }
@@ -113,9 +113,9 @@ export class Drawing {
   drawBack(view, k, y) {
     const { pen, layout, world } = this;
     const height = layout.rowHeight;
-    const mark = world.marks.get(k);
+    const mark = MARKS[world.marks.get(k)];
     if (k === view.selected || view.rests.has(k) || mark) {
-      pen.fillStyle = k === view.selected ? "#ffe9a8" : view.rests.has(k) ? "#e2f1e4" : "#f6e6f8";
+      pen.fillStyle = k === view.selected ? "#ffe9a8" : view.rests.has(k) ? "#e2f1e4" : mark.ground;
       pen.globalAlpha = k === view.selected ? 1 : 0.8;
       pen.fillRect(0, y, layout.width, height);
       pen.globalAlpha = 1;
@@ -125,21 +125,21 @@ export class Drawing {
       pen.fillRect(0, y, 4, Math.max(2, height - 1));
     }
     if (mark) {
-      pen.strokeStyle = MARKS[mark];
+      pen.strokeStyle = mark.line;
       pen.lineWidth = 2;
       pen.strokeRect(1, y + 1, layout.width - 2, Math.max(2, height - 2));
     }
   }
 
   drawTexts(k, y) {
-    const { pen, layout, history } = this;
+    const { pen, layout, history, world } = this;
     const kind = KIND_LIST[history.kind[k]];
     const middle = y + layout.rowHeight / 2 + 0.5;
     const isVote = kind.name !== "no vote";
     const actor = history.actor[k];
     const lane = actor < history.config.n ? `${actor}` : actor === history.config.n ? "desk" : `(${actor})`;
-    const round = history.round[k] === NO_ROUND ? "" : `${history.round[k]}`;
-    const texts = [`${k}`, kind.name, isVote ? `${history.epoch[k]}` : "", lane, round, isVote ? saysText(history, k) : ""];
+    const [epoch, says] = isVote ? [`${history.epoch[k]}`, saysText(history, k)] : ["", ""];
+    const texts = [`${k}`, kind.name, epoch, lane, world.lanes.roundText(k), says];
     pen.font = `${layout.rowHeight < 18 ? 11 : 12}px ${FONT}`;
     pen.textBaseline = "middle";
     pen.textAlign = "left";
@@ -167,18 +167,15 @@ export class Drawing {
     if (targets.length === 0 || from >= layout.nodes) return;
     const colour = COLOURS[KIND_LIST[history.kind[k]].name];
     pen.strokeStyle = colour === "#ffffff" ? FAINT : colour;
-    pen.lineWidth = layout.rowHeight >= 8 ? 1.5 : 1;
-    pen.globalAlpha = layout.rowHeight >= 8 ? 0.85 : 0.45;
+    pen.lineWidth = 1.5;
+    pen.globalAlpha = 0.85;
     pen.beginPath();
     pen.moveTo(layout.nodeX(Math.min(from, ...targets)), y);
     pen.lineTo(layout.nodeX(Math.max(from, ...targets)), y);
     pen.stroke();
     pen.globalAlpha = 1;
     pen.fillStyle = pen.strokeStyle;
-    if (layout.rowHeight >= 8) this.drawTips(k, targets, y);
-    else if (targets.length < 3) {
-      for (const node of targets) pen.fillRect(layout.nodeX(node) - 1.5, y - 1, 3, Math.min(3, layout.rowHeight));
-    }
+    this.drawTips(k, targets, y);
   }
 
   // The ends of the arrows of a row: full where the post comes once, doubled, hollow where it is late, a cross where it is
@@ -217,7 +214,7 @@ export class Drawing {
   drawCross(x, y, size) {
     const { pen } = this;
     const kept = pen.strokeStyle;
-    pen.strokeStyle = MARKS.illegal;
+    pen.strokeStyle = MARKS.illegal.line;
     pen.lineWidth = 2;
     pen.beginPath();
     pen.moveTo(x - size, y - size);
@@ -235,11 +232,6 @@ export class Drawing {
     const kind = KIND_LIST[history.kind[k]];
     const x = history.from[k] < layout.nodes ? layout.nodeX(history.from[k]) : layout.gutter;
     const size = Math.min(layout.rowHeight - 3, 19) / 2;
-    if (size < 2.5) {
-      pen.fillStyle = kind.name === "no vote" ? MARKS.illegal : COLOURS[kind.name];
-      pen.fillRect(x - 4, y - Math.max(1, size), 8, Math.max(2, 2 * size));
-      return;
-    }
     const side = 2 * size + 8;
     pen.drawImage(this.chip(kind, size), x - side / 2, y - side / 2, side, side);
   }
@@ -271,7 +263,7 @@ function paintChip(kind, size, scale) {
   outline(pen, kind.group, side / 2, side / 2, size);
   pen.fillStyle = COLOURS[kind.name];
   pen.fill();
-  pen.strokeStyle = kind.name === "no vote" ? MARKS.illegal : "rgba(0,0,0,0.55)";
+  pen.strokeStyle = kind.name === "no vote" ? MARKS.illegal.line : "rgba(0,0,0,0.55)";
   pen.stroke();
   if (size >= 5) {
     pen.fillStyle = inkOn(COLOURS[kind.name]);

@@ -4,7 +4,6 @@ import { leadingRoot } from "./broadcast_rules.js";
 import { asks } from "./scene.js";
 import { stateOf, stateText } from "./lanes.js";
 import { saysText } from "./drawing.js";
-import { NO_ROUND } from "./history.js";
 import { waysList } from "./postpanel.js";
 import { causeText } from "./texts.js";
 
@@ -15,10 +14,9 @@ function ownPosts(history, node, actor, epoch) {
   return [...history.ofActor(actor, epoch)].filter((k) => history.from[k] === node);
 }
 
-function saidTable(history, posts) {
+function saidTable({ history, lanes }, posts) {
   const rows = posts.slice(0, SHOWN).map((k) => {
-    const round = history.round[k] === NO_ROUND ? "" : `${history.round[k]}`;
-    return [postLink(history, k, `post ${k}`), history.kindName(k), round, saysText(history, k)];
+    return [postLink(history, k, `post ${k}`), history.kindName(k), lanes.roundText(k), saysText(history, k)];
   });
   const more = posts.length > SHOWN ? para("note", `The first ${SHOWN} of ${posts.length} posts.`) : null;
   return [table("What it said", ["Post", "Vote", "Round", "Says"], rows, { class: "said" }), more];
@@ -83,8 +81,8 @@ function lackingAgreement(world, scene) {
   return [0, 1].map((bit) => need("DECIDED", { bit }));
 }
 
-function saidPart(history, posts) {
-  return part("What it said", posts.length > 0 ? saidTable(history, posts) : para("", "Nothing."));
+function saidPart(world, posts) {
+  return part("What it said", posts.length > 0 ? saidTable(world, posts) : para("", "Nothing."));
 }
 
 function lackingPart(history, found) {
@@ -111,7 +109,7 @@ export function lanePanel(world, epoch, node, lane) {
     endedText(world, node, lane),
     droppedText(world, node, lane, epoch),
     found.length > 0 ? lackingPart(history, found) : null,
-    saidPart(history, ownPosts(history, node, lane, epoch)),
+    saidPart(world, ownPosts(history, node, lane, epoch)),
   ];
 }
 
@@ -147,6 +145,6 @@ export function deskPanel(world, epoch, node) {
     endedText(world, node, config.n),
     isOpen ? lackingPart(history, lackingClosed(world, epoch, node)) : null,
     lanesTable(world, epoch, node),
-    saidPart(history, ownPosts(history, node, config.n, epoch)),
+    saidPart(world, ownPosts(history, node, config.n, epoch)),
   ];
 }

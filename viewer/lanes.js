@@ -1,6 +1,6 @@
 // How far each lane of each node came in each epoch, and which epochs each desk closed.
 import { KIND_PLACES } from "./votes.js";
-import { NO_KIND } from "./history.js";
+import { NO_KIND, NO_ROUND } from "./history.js";
 
 const NONE = -1;
 
@@ -31,6 +31,17 @@ export class Lanes {
     let count = 0;
     for (let epoch = 0; epoch < this.history.config.epochs; epoch += 1) if (this.closed(epoch, node) !== NONE) count += 1;
     return count;
+  }
+
+  // The round of a post in words: the one that its vote names or, where a lane decided with it, the one in which it did so.
+  roundText(k) {
+    const { history } = this;
+    const { n, epochs } = history.config;
+    if (history.round[k] !== NO_ROUND) return `${history.round[k]}`;
+    const isOfLane = history.from[k] < n && history.actor[k] < n && history.epoch[k] < epochs;
+    if (!isOfLane || !this.is(k, "DECIDED")) return "";
+    const cell = this.cell(history.epoch[k], history.from[k], history.actor[k]);
+    return history.says[k] === cell.bit && cell.round !== null ? `${cell.round}` : "";
   }
 
   note(k) {

@@ -2,8 +2,9 @@
 
 export const ROW_HEIGHTS = [2, 4, 8, 14, 20, 26, 34];
 export const HEAD = 34;
-// from this height on a row has its texts
+// from this height on a row has its texts, and from this one on its arrows have heads
 export const TEXT_HEIGHT = 14;
+export const ARROW_HEIGHT = 8;
 
 const COLUMNS = [["post", 8], ["vote", 66], ["epoch", 152], ["lane", 202], ["round", 242], ["says", 292]];
 const GUTTER = 342;

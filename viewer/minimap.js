@@ -1,5 +1,5 @@
 // The whole list of posts in one narrow picture: a column for each node, and a frame round what is in sight.
-import { COLOURS } from "./words.js";
+import { COLOURS, MARKS } from "./words.js";
 import { KIND_LIST } from "./votes.js";
 import { placeOf } from "./filters.js";
 
@@ -35,7 +35,7 @@ export class Minimap {
       const k = list[Math.floor(at)];
       if (history.from[k] < config.n) {
         const colour = COLOURS[KIND_LIST[history.kind[k]].name];
-        pen.fillStyle = colour === "#ffffff" ? "#b00020" : colour;
+        pen.fillStyle = colour === "#ffffff" ? MARKS.illegal.line : colour;
         pen.fillRect(
           4 + history.from[k] * width,
           (Math.floor(at) / list.length) * picture.height,
@@ -49,9 +49,9 @@ export class Minimap {
 
   paintMarks(pen, list) {
     for (const [k, mark] of this.world.marks) {
-      pen.fillStyle = mark === "illegal" ? "#b00020" : "#6a1b9a";
-      const y = (placeOf(list, k) / Math.max(1, list.length)) * this.picture.height;
-      pen.fillRect(0, y - 1, this.picture.width, 3);
+      const place = placeOf(list, k);
+      pen.fillStyle = MARKS[mark].line;
+      if (list[place] === k) pen.fillRect(0, (place / list.length) * this.picture.height - 1, this.picture.width, 3);
     }
   }
 

@@ -2,7 +2,7 @@
 import { counted, element, fill, head, para, part, postLink, row, table, tableOf, unseenCaption, word } from "./dom.js";
 import { stateOf, stateText } from "./lanes.js";
 import { brokenRules } from "./liars.js";
-import { lieText, planTexts } from "./scenario.js";
+import { actorText, lieText, planTexts } from "./scenario.js";
 import { causeText, statusText } from "./texts.js";
 import { meaningOf } from "./words.js";
 
@@ -210,9 +210,18 @@ function summary(world) {
   return para("", `${numbers.join("; ")}.${ended}`);
 }
 
+// Where an actor that is to stop began again, as far as the history shows it.
+function restartText({ history, config }, { node, actor, posts }) {
+  const name = actorText({ node, actor }, config.n);
+  if (posts.length === 0) return `The history shows no restart of ${name}: nothing that it says stands twice.`;
+  const links = posts.flatMap((k, at) => [at > 0 ? ", and again with " : "", postLink(history, k, `post ${k}`)]);
+  return [`After a stop ${name} began again with `, ...links, "."];
+}
+
 function plans(world) {
   const texts = world.scenario ? planTexts(world.scenario) : [];
-  const list = element("ul", {}, texts.map((text) => element("li", {}, text)));
+  const restarts = world.restarts.map((one) => restartText(world, one));
+  const list = element("ul", {}, [...texts, ...restarts].map((text) => element("li", {}, text)));
   return texts.length === 0 ? null : part("What the scenario plans", list);
 }
 

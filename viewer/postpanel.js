@@ -47,7 +47,7 @@ function fieldCell(history, vote, field) {
   return typeof found === "number" ? `${found}` : shortHex(history, found);
 }
 
-function fieldTable(history, k, vote) {
+function fieldTable({ history, lanes }, k, vote) {
   const sender = [`node ${history.from[k]}`, history.isLiar(history.from[k]) ? [" (", word("liar"), ")"] : null];
   const rows = [["from", [sender, `, ${history.actorName(history.actor[k])}`]], ["to", addressText(history, k)]];
   if (vote) {
@@ -56,6 +56,8 @@ function fieldTable(history, k, vote) {
       const name = field === "items" ? word("batches", "batch") : word(field);
       rows.push([name, fieldCell(history, vote, field)]);
     }
+    const round = vote.round === undefined ? lanes.roundText(k) : "";
+    if (round) rows.push([word("round"), `${round}: in it the lane decided; the vote names none`]);
   }
   return table("What it says", ["Part", "Says"], rows, { class: "fields" });
 }
@@ -143,6 +145,11 @@ function contradiction(world, k) {
   return para("alarm", `Posts ${first} and ${second} of node ${found.node} contradict each other. `, link);
 }
 
+function restartNote(world, k) {
+  const isRestart = world.restarts.some(({ posts }) => posts.includes(k));
+  return isRestart ? para("warn", "Here the actor begins again, after a power stop that the scenario plans.") : null;
+}
+
 // Fills the panel with a post.
 export function postPanel(world, k, why) {
   const { history } = world;
@@ -155,7 +162,8 @@ export function postPanel(world, k, why) {
     para("meaning", meaningOf(name)),
     lie ? para("liar", `Node ${history.from[k]} is a liar (${lie}): it ${lieText(lie)}.`) : null,
     contradiction(world, k),
-    fieldTable(history, k, why.vote),
+    restartNote(world, k),
+    fieldTable(world, k, why.vote),
     whySection(world, k, why),
     reachSection(world, k),
     bytesSection(history, k),

@@ -1,6 +1,8 @@
 // What reaches whom: by the address of a post, and by the links of the scenario where the page has one.
 import { TO_ALL, TO_BOOK, TO_HOME, TO_NODE } from "./trace.js";
 
+const NOWHERE = { least: 0, most: 0, count: 0 };
+
 export class Reach {
   // `links` are the scenario's rules, in its order; a history alone has none.
   constructor(history, links = []) {
@@ -26,6 +28,17 @@ export class Reach {
     if (toKind[k] === TO_HOME) return from[k] < config.n ? [from[k]] : [];
     if (toKind[k] === TO_NODE) return toNode[k] < config.n ? [toNode[k]] : [];
     return Array.from({ length: config.n }, (_, node) => node);
+  }
+
+  // Of the nodes other than its sender that a post reaches: the least, the most, and how many they are.
+  extent(k) {
+    const { toKind, toNode, from, config } = this.history;
+    const last = config.n - 1;
+    const target = toNode[k];
+    if (this.history.actor[k] > config.n) return NOWHERE;
+    if (toKind[k] === TO_NODE && target <= last && target !== from[k]) return { least: target, most: target, count: 1 };
+    if (toKind[k] !== TO_ALL || from[k] > last || last === 0) return NOWHERE;
+    return { least: from[k] === 0 ? 1 : 0, most: from[k] === last ? last - 1 : last, count: last };
   }
 
   // How a post comes to a node, by the first link that fits: once, twice, late or drop.

@@ -42,7 +42,8 @@ const LEAVES = {
   torn: "of what was written since the last sync every other byte is spoilt",
 };
 
-function actorText(entry, n) {
+// "the desk of node 1" or "lane 2 of node 1".
+export function actorText(entry, n) {
   return `${entry.actor === n ? "the desk" : `lane ${entry.actor}`} of node ${entry.node}`;
 }
 

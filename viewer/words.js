@@ -59,6 +59,16 @@ export const COLOURS = {
   NOMORE: "#7a7a7a", CLOSED: "#111111", "no vote": "#ffffff",
 };
 
+// What is less important than other texts and lines.
+export const FAINT = "#5c5c5c";
+
+// How a marked row looks: the post that the audit names, one that contradicts another, and one with which an actor began again.
+export const MARKS = {
+  illegal: { line: "#b00020", ground: "#f6e6f8" },
+  contradiction: { line: "#6a1b9a", ground: "#f6e6f8" },
+  restart: { line: "#1565c0", ground: "#e3effa" },
+};
+
 // Whether a letter on this colour is dark or light, by the colour's lightness.
 export function inkOn(colour) {
   const [red, green, blue] = [1, 3, 5].map((at) => parseInt(colour.slice(at, at + 2), 16));

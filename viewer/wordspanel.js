@@ -26,6 +26,8 @@ const PICTURE = [
   ["green row", "a post on which the selected one rests"],
   ["red frame", "the post that the audit names"],
   ["purple frame", "a post that contradicts another of the same node"],
+  ["blue frame", "after a power stop of the scenario an actor begins again here, and says once more what it had said"],
+  ["round of a DECIDED", "the round in which the lane decided; the vote itself names none"],
   ["hatched column", "a liar"],
   ["grey column", "a node that ended"],
 ];

@@ -7,6 +7,7 @@ import { Lanes } from "./lanes.js";
 import { accusedNodes } from "./conflicts.js";
 import { readAccusation, readRun, readVerdict } from "./texts.js";
 import { readScenario } from "./scenario.js";
+import { plannedRestarts } from "./restarts.js";
 
 export class World {
   // `data` are the texts in the page; `reader` has read the history.
@@ -23,6 +24,7 @@ export class World {
     this.lanes = new Lanes(this.history, this.coins);
     this.run = readRun(data.run);
     this.accused = this.findAccused();
+    this.restarts = plannedRestarts(this.history, this.scenario);
     this.marks = this.findMarks();
   }
 
@@ -35,9 +37,11 @@ export class World {
     return isOfThisRun ? told : accusedNodes(this.history);
   }
 
-  // The posts that are marked: the one that the audit names, and those that contradict each other.
+  // The posts that are marked: the one that the audit names, those that contradict each other, and those with which an actor
+  // began again.
   findMarks() {
     const marks = new Map();
+    for (const { posts } of this.restarts) for (const k of posts) marks.set(k, "restart");
     for (const { posts } of this.accused) for (const k of posts) marks.set(k, "contradiction");
     if (this.verdict && !this.verdict.legal && this.verdict.post < this.history.count) marks.set(this.verdict.post, "illegal");
     return marks;

@@ -33,6 +33,8 @@ def check_scenario(checks, driver, name, folder, shots):
     check_decoder(checks, trace, lambda question: decoding.by_browser(driver, question))
     pages.check_overview(checks, shown, trace, ledgers)
     pages.check_accused(checks, shown, texts.accused(texts.program("--accuse", str(texts.scenario(name)))), name == "workers")
+    pages.check_rounds(checks, shown, trace)
+    pages.check_restarts(checks, shown, trace)
     pages.check_links(checks, shown, trace)
     if name != "workers":
         pages.check_filters(checks, shown, trace)

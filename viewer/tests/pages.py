@@ -38,6 +38,10 @@ UNNAMED = """[...document.querySelectorAll('button, select, input, canvas')].fil
   const isLabelled = one.getAttribute('aria-label') || (one.labels && one.labels.length > 0) || one.textContent.trim();
   return !isLabelled && one.getAttribute('aria-hidden') !== 'true';
 }).length"""
+# The rounds that the rows of posts tell, and the first post with which each actor began again.
+ROUNDS = "arguments[0].map((k) => window.shownRun.world.lanes.roundText(k))"
+RESTARTS = """window.shownRun.world.restarts.filter(({ posts }) => posts.length > 0).map(
+  ({ node, actor, posts }) => [node, actor, posts[0]])"""
 # The first post of a correct node for which the page finds no reason.
 WITHOUT_REASON = """(() => {
   const { history, rules } = window.shownRun.world;
@@ -83,6 +87,39 @@ def check_overview(checks, shown, trace, ledgers):
     printed = {(epoch, node) for node, lines in enumerate(ledgers) if lines is not None
                for epoch in range(sum(line.startswith("epoch ") for line in lines))}
     checks.same("the closed epochs in the ledgers", {place for place in closed if place[1] not in trace.liars}, printed)
+
+
+def check_rounds(checks, shown, trace):
+    """The row and the panel of a DECIDED tell the round in which the lane decided, which the vote does not name."""
+    posts = {}
+    for k, (node, lane, _, vote) in enumerate(trace.posts):
+        if node not in trace.liars and vote and vote["kind"] == "DECIDED":
+            posts[k] = (vote["epoch"], node, lane), vote["bit"]
+    few = dict(list(posts.items())[:: max(1, len(posts) // 20)])
+    wanted = {k: f"{round_of(trace, place, bit)}" for k, (place, bit) in few.items()}
+    checks.same("the rounds of DECIDED", dict(zip(few, shown.run(ROUNDS, list(few)))), wanted)
+    post, number = next(iter(wanted.items()))
+    shown.go(f"post-{post}")
+    told = shown.texts("#panel .fields tr")[-1]
+    checks.same("the round in the panel of a DECIDED", told.partition(":")[0], f"round{number}")
+
+
+def check_restarts(checks, shown, trace):
+    """Where actors began again the first of their posts that stands twice is."""
+    seen, twice = set(), {}
+    for k, (node, actor, *_) in enumerate(trace.posts):
+        said = node, actor, trace.bytes[k]
+        if said in seen and node not in trace.liars:
+            twice.setdefault((node, actor), k)
+        seen.add(said)
+    found = {(node, actor): post for node, actor, post in shown.run(RESTARTS)}
+    checks.same("where actors began again", found, twice)
+    for post in twice.values():
+        checks.same("the mark of its row", shown.run("window.shownRun.world.marks.get(arguments[0])", post), "restart")
+        links = shown.run("document.querySelectorAll(`#overview .nodes-part a[href='#post-${arguments[0]}']`).length", post)
+        checks.same("the link of the overview to it", links, 1)
+        shown.go(f"post-{post}")
+        checks.true("its panel tells of the stop", "Here the actor begins again" in shown.texts("#panel")[0])
 
 
 def check_accused(checks, shown, wanted, has_workers):
