@@ -9,18 +9,28 @@ from pathlib import Path
 import browser
 import texts
 
-# Scrolls by wheel events, one for each frame, and answers the times between frames, in milliseconds.
+# Scrolls by wheel events, one for each frame, and answers the times between frames, and the longest that the page took to draw
+# one, in milliseconds.
 SCROLL = """
 const [rows, frames, done] = arguments;
 const { run } = window.shownRun.page;
 const gaps = [];
 let last = null;
+let drawing = 0;
+run.drawing.draw = (view) => {
+  const began = performance.now();
+  Object.getPrototypeOf(run.drawing).draw.call(run.drawing, view);
+  drawing = Math.max(drawing, performance.now() - began);
+};
 function frame(now) {
   if (last !== null) gaps.push(now - last);
   last = now;
   run.canvas.dispatchEvent(new WheelEvent("wheel", { deltaY: rows * run.layout.rowHeight, bubbles: true, cancelable: true }));
   if (gaps.length < frames) requestAnimationFrame(frame);
-  else done(gaps);
+  else {
+    delete run.drawing.draw;
+    done([gaps, drawing]);
+  }
 }
 requestAnimationFrame(frame);
 """
@@ -43,9 +53,9 @@ def make(folder):
 
 
 def scrolled(shown, zoom, rows):
-    """The frames of a scroll at a zoom, by so many rows each."""
+    """The frames of a scroll at a zoom, by so many rows each, and how long the page took to draw one at most."""
     shown.run("(() => { const { run } = window.shownRun.page; run.zoom(-9); run.zoom(arguments[0]); run.scrollTo(0); })()", zoom)
-    return sorted(shown.driver.execute_async_script(SCROLL, rows, FRAMES))
+    return shown.driver.execute_async_script(SCROLL, rows, FRAMES)
 
 
 def measure(driver, page):
@@ -61,9 +71,10 @@ def measure(driver, page):
     shown.wait("return document.querySelectorAll('.grid').length === window.shownRun.world.config.epochs")
     shown.go("run")
     for zoom, rows in ((0, 40), (2, 10), (4, 3), (4, 900), (6, 3)):
-        frames = scrolled(shown, zoom, rows)
-        median = frames[len(frames) // 2]
-        print(f"zoom {zoom}, {rows} rows a frame, {len(frames)} frames: median {median:.0f} ms, longest {frames[-1]:.0f} ms")
+        frames, drawing = scrolled(shown, zoom, rows)
+        longest = max(range(len(frames)), key=frames.__getitem__)
+        told = f"median {sorted(frames)[len(frames) // 2]:.0f} ms, longest {frames[longest]:.0f} ms (frame {longest})"
+        print(f"zoom {zoom}, {rows} rows a frame, {len(frames)} frames: {told}; drawing took {drawing:.0f} ms at most")
 
 
 def main():
