@@ -8,6 +8,8 @@ FAULTS = (
     ("limits", "half_by_memory", "trace on four_nodes.json in 8192 kB of stack"),
     ("limits", "parted", "run on four_nodes.json in 8192 kB of stack"),
     ("allocations", "parted", "one thread, no allocation"),
+    ("allocations", "uncounted", "4 workers, run by the caller, no allocation"),
+    ("allocations", "uncounted", "4 workers, no allocation"),
     ("allocations", "falls", "one thread, allocation 1000"),
     ("allocations", "falls", "4 workers, allocation 101"),
     ("allocations", "half_by_memory", "one thread, allocation 1000"),
