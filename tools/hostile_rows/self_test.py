@@ -58,6 +58,10 @@ FAULTS = (
     ("votes", "lenient", "input that ends behind 0 bytes"),
     ("votes", "lenient", "behind the end"),
     ("votes", "deaf", "words ['--all'], full error output"),
+    ("answers", "eager", "babble hears 0, 1 workers"),
+    ("answers", "eager", "babble hears 50, 4 workers"),
+    ("answers", "hard_of_hearing", "echo_split hears 4194304, 1 workers"),
+    ("answers", "tired", "bval_both among sixteen, 4 workers"),
 )
 
 
