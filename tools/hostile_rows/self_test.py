@@ -22,7 +22,7 @@ FAULTS = (
     ("starts", "exchanged", "4 nodes"),
     ("starts", "mixed", "7 nodes, silent at 3"),
     ("hears", "all_ears", "node 3 hears 0"),
-    ("hears", "one_more_heard", "node 0 hears 100"),
+    ("hears", "eager", "node 0 hears 100"),
     ("hears", "soon_spent", "two liars that never end"),
     ("stops", "no_stops", "stops at 12 and 13 that leave old and torn, one thread"),
     ("stops", "no_stops_with_workers", "stops at 11 and 12 that leave new and new, 1 workers"),
