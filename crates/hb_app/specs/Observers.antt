@@ -12,4 +12,4 @@ use Rattle.observer.specs.Observed.{observed}
 pub record ObserversFollow (c : Numbers) (history : List Post) : Type 0 where
   pub nodes : (heard : List Post) → AreOf history heard → AgreesWithNodes c history (observed c heard)
   pub observers : (heard others : List Post) → AreOf history heard → AreOf history others → AreTwoOfOne (observed c heard) (observed c others)
-  pub complete : (heard : List Post) (e : ℕ) → AreOf history heard → e < c.epochs → HasClosers c heard e → e < length (observed c heard)
+  pub complete : (heard : List Post) (e : ℕ) → AreOf history heard → HasClosers c heard e → e < length (observed c heard)

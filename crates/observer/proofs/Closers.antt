@@ -152,8 +152,3 @@ more_than f many = by (nat_lt f many) refl
     by true more = sym (le-leb (f + 1) many (omega (arith, ltb-true f many more)))
     by false few =
         sym (false_from_ne_true (nat_le (f + 1) many) (λ h. both_ways (nat_lt f many) few (lt-ltb f many (omega (arith, leb-true (f + 1) many h)))))
-
-pub not_yet : (count epochs : ℕ) (b : Bool) → count < epochs → not b ≡ (not (nat_lt count epochs) || not b)
-not_yet count epochs b below =
-    let inside : nat_lt count epochs ≡ true = lt-ltb count epochs below in
-    ap (λ (a : Bool). not a || not b) (sym inside)

@@ -1,7 +1,7 @@
 -- What is computed of a run's observers is what is defined of them.
-use Rattle.std.proofs.Common.{◌≡◌, ℕ, zero, suc, ◌+◌, ◌-◌, ◌<◌, ◌≤◌, ◌||◌, not, nat_lt, Bool, true, false, inl, inr, List, length, slice_get, Contains, Option, None, Some, refl, sym, ap, ◌∙◌, subst, arith}
+use Rattle.std.proofs.Common.{◌≡◌, ℕ, zero, suc, ◌+◌, ◌-◌, ◌<◌, ◌≤◌, ◌&&◌, ◌||◌, not, Bool, true, false, inl, inr, List, length, slice_get, Contains, Option, None, Some, refl, sym, ap, ◌∙◌, subst, arith}
 use Rattle.std.specs.List.{list_all, range_with_len}
-use Rattle.std.proofs.lemmas.Bool.{cases_lt, and_parts, and_from, both_ways, lt-ltb, ltb-true, leb-true, le-leb, cases_Bool, or_cases, or_left, or_right, not-true, not_from_false}
+use Rattle.std.proofs.lemmas.Bool.{cases_lt, and_parts, and_from, both_ways, leb-true, le-leb, cases_Bool, or_cases, or_left, or_right, not-true, not_from_false}
 use Rattle.std.proofs.lemmas.Option.{slice_get_within, slice_get_cases, get_or_from_slice_get}
 use Rattle.hb_base.specs.Numbers.{Numbers, AreSound}
 use Rattle.hb_wire.specs.declared.items.Item.{Item}
@@ -77,43 +77,45 @@ enough_by c lists each = below_each (λ (e : ℕ). is_enough c (slice_get lists 
     by e None is = refl
     by e (Some list) is = le-leb (c.n - c.f) (length list) (each list (at_contains lists e list is))
 
-closers_from : (c : Numbers) (heard : List Post) (count : ℕ) → list_all (has_closers c heard) (range_with_len 0 (count + 1)) ≡ true
-    → HasClosers c heard count
-closers_from c heard count all d below =
-    leb-true (c.f + 1) (closer_count c heard d) (each_below (has_closers c heard) (count + 1) d all (omega (arith, below)))
+-- whether so many have closed each epoch up to one
+abbrev all_closed : Numbers → List Post → ℕ → Bool
+all_closed c heard count = has_closers c heard count && list_all (has_closers c heard) (range_with_len 0 count)
 
-closers_by : (c : Numbers) (heard : List Post) (count : ℕ) → HasClosers c heard count
-    → list_all (has_closers c heard) (range_with_len 0 (count + 1)) ≡ true
-closers_by c heard count closers =
-    below_each (has_closers c heard) (count + 1) (λ d below. le-leb (c.f + 1) (closer_count c heard d) (closers d (omega (arith, below))))
-
-complete_from : (report : Report) (i count e : ℕ) → is_complete report i count ≡ true → e < report.config.epochs
-    → HasClosers report.config (heard_beside report i) e → e < count
-complete_from report i count e h inside closers = elim (cases_lt e count) [
-  | inl below ↦ below
+closers_from : (c : Numbers) (heard : List Post) (count : ℕ) → all_closed c heard count ≡ true → HasClosers c heard count
+closers_from c heard count all d low = elim (cases_lt d count) [
+  | inl below ↦
+      leb-true (c.f + 1) (closer_count c heard d) (each_below (has_closers c heard) count d parts.1 below)
   | inr past ↦
-      let within : nat_lt count report.config.epochs ≡ true = lt-ltb count report.config.epochs (omega (arith, inside, past)) in
-      let all : list_all (has_closers report.config (heard_beside report i)) (range_with_len 0 (count + 1)) ≡ true =
-      closers_by report.config (heard_beside report i) count (λ d low. closers d (omega (arith, low, past))) in
-      absurd (cc (h, fails (nat_lt count report.config.epochs) (list_all (has_closers report.config (heard_beside report i)) (range_with_len 0 (count + 1))) within all))
+      let same : count ≡ d = omega (arith, low, past) in
+      leb-true (c.f + 1) (closer_count c heard d) (ap (has_closers c heard) (sym same) ∙ parts.0)
 ]
   where
-    fails : (a b : Bool) → a ≡ true → b ≡ true → (not a || not b) ≡ false
-    fails true true h g = refl
-    fails true false h g = absurd (cc (g))
-    fails false b h g = absurd (cc (h))
+    parts : (has_closers c heard count ≡ true) × (list_all (has_closers c heard) (range_with_len 0 count) ≡ true)
+    parts = and_parts (has_closers c heard count) (list_all (has_closers c heard) (range_with_len 0 count)) all
 
-complete_by : (report : Report) (i count : ℕ)
-    → ((e : ℕ) → e < report.config.epochs → HasClosers report.config (heard_beside report i) e → e < count) → is_complete report i count ≡ true
-complete_by report i count each =
-    by (nat_lt count report.config.epochs) (list_all (has_closers report.config (heard_beside report i)) (range_with_len 0 (count + 1))) refl refl
+closers_by : (c : Numbers) (heard : List Post) (count : ℕ) → HasClosers c heard count → all_closed c heard count ≡ true
+closers_by c heard count closers =
+    and_from (has_closers c heard count) (list_all (has_closers c heard) (range_with_len 0 count))
+    (le-leb (c.f + 1) (closer_count c heard count) (closers count (omega arith)))
+    (below_each (has_closers c heard) count (λ d below. le-leb (c.f + 1) (closer_count c heard d) (closers d (omega (arith, below)))))
+
+complete_from : (report : Report) (i count e : ℕ) → is_complete report i count ≡ true → HasClosers report.config (heard_beside report i) e
+    → e < count
+complete_from report i count e h closers = elim (cases_lt e count) [
+  | inl below ↦ below
+  | inr past ↦
+      let all : all_closed report.config (heard_beside report i) count ≡ true =
+      closers_by report.config (heard_beside report i) count (λ d low. closers d (omega (arith, low, past))) in
+      absurd (both_ways (all_closed report.config (heard_beside report i) count) (not-true (all_closed report.config (heard_beside report i) count) h) all)
+]
+
+complete_by : (report : Report) (i count : ℕ) → ((e : ℕ) → HasClosers report.config (heard_beside report i) e → e < count)
+    → is_complete report i count ≡ true
+complete_by report i count each = by (all_closed report.config (heard_beside report i) count) refl
   where
-    by : (a b : Bool) → nat_lt count report.config.epochs ≡ a
-        → list_all (has_closers report.config (heard_beside report i)) (range_with_len 0 (count + 1)) ≡ b → (not a || not b) ≡ true
-    by false b past all = refl
-    by true false inside some = refl
-    by true true inside all =
-        absurd (omega (arith, each count (ltb-true count report.config.epochs inside) (closers_from report.config (heard_beside report i) count all)))
+    by : (b : Bool) → all_closed report.config (heard_beside report i) count ≡ b → not (all_closed report.config (heard_beside report i) count) ≡ true
+    by false some = not_from_false (all_closed report.config (heard_beside report i) count) some
+    by true all = absurd (omega (arith, each count (closers_from report.config (heard_beside report i) count all)))
 
 -- ---- all observers
 
@@ -165,8 +167,8 @@ agree_from report observers are all = record {
       (passes report observers i are all inside).others (at_contains observers k o.0 o.1));
   enough = λ i list inside stands.
       enough_from report.config (observed_beside report i) list (passes report observers i are all inside).enough stands;
-  complete = λ i e inside epoch closers.
-      complete_from report i (length (observed_beside report i)) e (passes report observers i are all inside).complete epoch closers;
+  complete = λ i e inside closers.
+      complete_from report i (length (observed_beside report i)) e (passes report observers i are all inside).complete closers;
 }
 
 pub agree_by : (report : Report) (observers : List ObserverView) → AreBeside report report.config.n observers → ObserversAgree report
@@ -195,7 +197,7 @@ agree_by report observers are agree =
         agrees_by report.config report.history.items lists k (λ correct. agree.nodes i k inside correct)))
         (all_pass (λ (other : ObserverView). are_alike lists (ledger_of other)) observers (λ other stands. other_alike i inside other stands)))
         (enough_by report.config lists (λ list stands. agree.enough i list inside stands)))
-        (complete_by report i (length lists) (λ e epoch closers. agree.complete i e inside epoch closers)))
+        (complete_by report i (length lists) (λ e closers. agree.complete i e inside closers)))
 
 -- ---- legal histories
 
@@ -206,7 +208,7 @@ legal_agree report sound legal premise = record {
   observers = λ i k inside also.
       observers_alike c history (heard_beside report i) (heard_beside report k) sound legal premise (of i) (of k);
   enough = λ i list inside stands. (agrees_with_nodes c history (heard_beside report i) sound legal premise (of i)).enough list stands;
-  complete = λ i e inside epoch closers. observed_complete c history (heard_beside report i) e sound legal premise (of i) epoch closers;
+  complete = λ i e inside closers. observed_complete c history (heard_beside report i) e sound legal premise (of i) closers;
 }
   where
     c : Numbers

@@ -9,3 +9,4 @@ pub mod Side
 pub mod Tabled
 pub mod Taken
 pub mod Theorems
+pub mod Within

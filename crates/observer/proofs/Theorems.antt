@@ -26,11 +26,12 @@ use Rattle.hb_rules.proofs.Lists.{Contains-first}
 use Rattle.acs_world.specs.Agreed.{ClosingsAgree}
 use Rattle.acs_world.proofs.Ledgers.{lists_at, list_from, ledger_has}
 use Rattle.acs_world.proofs.Theorems.{closings_agree, closings_follow, closed_chain, batches_enough}
-use Rattle.observer.specs.Agreeing.{AreTwoOfOne, AreOf, AgreesWithNodes, HasClosers}
+use Rattle.observer.specs.Agreeing.{AreTwoOfOne, AreOf, AgreesWithNodes, HasClosers, is_closer}
 use Rattle.observer.specs.Observed.{has_claimed, claim_count, reached, first_reached, observed_list, observed}
 use Rattle.observer.specs.Standing.{ObserverView, HasHeard, ledger_of}
 use Rattle.observer.proofs.Chained.{two_observed, observed_chain, list_of_epoch, long_enough}
 use Rattle.observer.proofs.Taken.{heard_ledger}
+use Rattle.observer.proofs.Within.{closing_inside}
 use Rattle.observer.proofs.Claimed.{claimed_cast, cast_claimed, reached_many, never_many}
 
 -- ---- a correct node stands behind each list
@@ -162,9 +163,23 @@ closed_some c history heard d sound legal premise of inside many = by (observed_
         absurd (never_many c d heard list inside none
         (omega (arith, many, count_nodes-mono c.n closes (has_claimed c heard (d, list)) claims)))
 
+-- an epoch that correct nodes have closed by posts that were heard is one of the run
+closed_inside : (c : Numbers) (history heard : List Post) (e : ℕ) → AreSound c → IsLegal c history → AreOf history heard
+    → HasClosers c heard e → e < c.epochs
+closed_inside c history heard e sound legal of closers =
+    let some = member_from_count c.n (is_closer c heard e) (omega (arith, closers e (omega arith))) in
+    let parts = and_parts (is_correct c some.0) (said_in c c.n heard some.0 (is_any_closing e)) some.2 in
+    let found = any_stands (is_any_closing e) (own_in c some.0 c.n heard) parts.1 in
+    let is = any_closing-is e found.0 found.2 in
+    let cast : Contains (own_in c some.0 c.n heard) (Closed e is.0) =
+    subst (λ (v : Vote). Contains (own_in c some.0 c.n heard) v) is.1 found.1 in
+    closing_inside c history some.0 e is.0 sound legal (correct_is c some.0 parts.0).honest
+    (heard_cast c history heard some.0 (Closed e is.0) of cast)
+
 pub observed_complete : (c : Numbers) (history heard : List Post) (e : ℕ) → AreSound c → IsLegal c history → NoCollision c history
-    → AreOf history heard → e < c.epochs → HasClosers c heard e → e < length (observed c heard)
-observed_complete c history heard e sound legal premise of inside closers =
+    → AreOf history heard → HasClosers c heard e → e < length (observed c heard)
+observed_complete c history heard e sound legal premise of closers =
+    let inside = closed_inside c history heard e sound legal of closers in
     long_enough (observed_list c heard) 0 c.epochs e inside (λ d below.
     let here : 0 + d ≡ d = omega arith in
     ap (λ (m : ℕ). is_some (observed_list c heard m)) here

@@ -1,6 +1,6 @@
 -- The observers of a run, one beside each node, and what they have in common. The letters: e is an epoch, i and k are nodes, c is
 -- the config of the run.
-use Rattle.std.specs.Prelude.{◌≡◌, ℕ, ◌+◌, ◌-◌, ◌<◌, ◌≤◌, ◌&&◌, ◌||◌, not, nat_lt, nat_le, Bool, true, List, [], ◌∷◌, length, Contains, Option, Some, None, slice_get, slice_index_or, if◌then◌else◌}
+use Rattle.std.specs.Prelude.{◌≡◌, ℕ, ◌+◌, ◌-◌, ◌<◌, ◌≤◌, ◌&&◌, ◌||◌, not, nat_le, Bool, true, List, [], ◌∷◌, length, Contains, Option, Some, None, slice_get, slice_index_or, if◌then◌else◌}
 use Rattle.std.specs.List.{list_all, range_with_len}
 use Rattle.hb_base.specs.Numbers.{Numbers}
 use Rattle.net_script.specs.declared.script.Link.{Link}
@@ -46,15 +46,14 @@ pub record AreBeside (report : Report) (count : ℕ) (observers : List ObserverV
 
 -- Of the observed ledger of each and the ledger of any correct node one begins with the other, and so it is of any two
 -- observed ledgers. Each list of one has the batches of n - f nodes at least. One that has heard of f + 1 correct nodes in each
--- epoch up to one of the run that they closed the epoch has taken a list of it.
+-- epoch up to one that they closed the epoch has taken a list of it.
 pub record ObserversAgree (report : Report) : Type 0 where
   pub nodes : (i k : ℕ) → i < report.config.n → IsCorrect report.config k
       → AreTwoOfOne (observed_beside report i) (ledger report.config report.history.items k)
   pub observers : (i k : ℕ) → i < report.config.n → k < report.config.n → AreTwoOfOne (observed_beside report i) (observed_beside report k)
   pub enough : (i : ℕ) (list : List Item) → i < report.config.n → Contains (observed_beside report i) list
       → report.config.n - report.config.f ≤ length list
-  pub complete : (i e : ℕ) → i < report.config.n → e < report.config.epochs → HasClosers report.config (heard_beside report i) e
-      → e < length (observed_beside report i)
+  pub complete : (i e : ℕ) → i < report.config.n → HasClosers report.config (heard_beside report i) e → e < length (observed_beside report i)
 
 -- ---- the same, computed
 
@@ -74,11 +73,11 @@ agrees_with c posts lists k = not (is_correct c k) || are_alike lists (ledger c 
 abbrev pub has_closers : Numbers → List Post → ℕ → Bool
 has_closers c heard e = nat_le (c.f + 1) (closer_count c heard e)
 
--- whether there is an epoch up to the first without a list that was not closed by so many; past the run's epochs there is
+-- whether the first epoch without a list, or one before it, was not closed by so many
 abbrev pub is_complete : Report → ℕ → ℕ → Bool
 is_complete report i count =
-    not (nat_lt count report.config.epochs)
-    || not (list_all (has_closers report.config (heard_beside report i)) (range_with_len 0 (count + 1)))
+    not (has_closers report.config (heard_beside report i) count
+    && list_all (has_closers report.config (heard_beside report i)) (range_with_len 0 count))
 
 -- whether all that is so of one observer
 abbrev pub agrees_at : Report → List ObserverView → ℕ → Option ObserverView → Bool

@@ -1,7 +1,8 @@
 //! Whether the observers of a run agree with its correct nodes, and with one another.
 
-ghost use Rattle.std.specs.Prelude.{◌≡◌, ◌↔◌, ◌||◌, ℕ, ◌+◌, ◌<◌, [], ◌∷◌, Some, IsTrue, IfOk, slice_get};
+ghost use Rattle.std.specs.Prelude.{◌≡◌, ◌↔◌, ◌||◌, ℕ, ◌≤◌, [], ◌∷◌, Some, IsTrue, IfOk, slice_get};
 ghost use Rattle.std.specs.List.{list_all, range_with_len};
+ghost use Rattle.hb_base.specs.Limits.{most_epochs};
 ghost use Rattle.hb_base.specs.NodeSet.{is_in};
 ghost use Rattle.hb_rules.specs.History.{IsLegal};
 ghost use Rattle.hb_rules.specs.Ledger.{ledger};
@@ -26,8 +27,8 @@ use std::alloc::{AllocError, Global};
 /// batches of n - f nodes at least, and as many as they had to (CCS 2016, section 4). It is so for each legal history in which
 /// no two hashed strings share a digest. Err where there is no memory for the observers.
 ///
-/// Each of the n observers hears the whole history, in time nearly linear in its bytes. Where an observer has fewer epochs than
-/// the run, the posts are gone through again for each of them, and for the next.
+/// Each of the n observers hears the whole history, in time nearly linear in its bytes, and for each the posts are gone through
+/// once more. Where f + 1 correct nodes have closed the epoch behind its lists, they are gone through again for each list.
 pub fn observers_agree(alloc: Global, report: &Report) -> Result<bool, AllocError>
     ensures exact { IfOk result (λ answer. IsTrue answer ↔ ObserversAgree report.now) }
     ensures legal { IsLegal report.now.config report.now.history.items → NoCollision report.now.config report.now.history.items
@@ -149,22 +150,21 @@ fn is_enough(config: &Config, observer: &Observer, e: u32) -> bool
     count_of(observer.list(e)) >= config.n() - config.f()
 }
 
-// Whether an observer beside a node with so many lists has as many as it has to have.
+// Whether an observer beside a node with so many lists has as many as it has to have. The epoch behind them is asked for first,
+// since few histories have it.
 fn is_complete(report: &Report, node: u8, count: u32) -> bool
+    requires { count ≤ most_epochs }
     ensures { result ≡ is_complete report.now node count }
 {
-    if count >= u32::from(report.config.epochs()) {
-        return true;
-    }
-    !all_closed(report, node, count as u8)
+    let next = count as u8;
+    !(has_closers(report, node, next) && all_closed(report, node, next))
 }
 
-// Whether f + 1 correct nodes have closed each epoch up to one by posts that come to a node.
-fn all_closed(report: &Report, node: u8, last: u8) -> bool
-    requires { last < 255 }
-    ensures { result ≡ list_all (has_closers report.now.config (heard_beside report.now node)) (range_with_len 0 (last + 1)) }
+// Whether f + 1 correct nodes have closed each of so many epochs by posts that come to a node.
+fn all_closed(report: &Report, node: u8, count: u8) -> bool
+    ensures { result ≡ list_all (has_closers report.now.config (heard_beside report.now node)) (range_with_len 0 count) }
 {
-    (0..last + 1).all(|e| has_closers(report, node, e))
+    (0..count).all(|e| has_closers(report, node, e))
 }
 
 // Whether f + 1 correct nodes have closed an epoch by posts that come to a node.

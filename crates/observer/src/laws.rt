@@ -23,6 +23,6 @@ pub fn observer_laws()
     ensures observers { (c : Numbers) (history heard others : List Post) → AreSound c → IsLegal c history → NoCollision c history → AreOf history heard
         → AreOf history others → AreTwoOfOne (observed c heard) (observed c others) }
     ensures complete { (c : Numbers) (history heard : List Post) (e : ℕ) → AreSound c → IsLegal c history → NoCollision c history → AreOf history heard
-        → e < c.epochs → HasClosers c heard e → e < length (observed c heard) }
+        → HasClosers c heard e → e < length (observed c heard) }
     ensures ledger { (o : ObserverView) (heard : List Post) → HasHeard o heard → ledger_of o ≡ observed o.config heard }
 {}

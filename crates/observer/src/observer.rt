@@ -2,6 +2,7 @@
 
 ghost use Rattle.std.specs.Prelude.{◌≡◌, ℕ, ◌<◌, ◌≤◌, true, ◌++◌, ◌∷◌, [], List, length, drop, Some, None, IfOk, OnOk, OnErr, IfSome, IfNone, is_some, slice_get, slice_index_or, slice_set, replicate, if◌then◌else◌};
 ghost use Rattle.std.specs.Option.{option_and_then};
+ghost use Rattle.hb_base.specs.Limits.{most_epochs};
 ghost use Rattle.hb_wire.specs.declared.items.Item.{Item};
 ghost use Rattle.hb_wire.specs.declared.post.Post.{Post};
 ghost use Rattle.hb_wire.specs.Glances.{IsClosedRest};
@@ -131,6 +132,7 @@ impl Observer {
     /// How many epochs the observed ledger has: those from epoch 0 up to the first without a list. It takes no memory.
     pub fn epochs(&self) -> u32
         ensures value { result ≡ length (ledger_of self.now) }
+        ensures few { result ≤ most_epochs }
         ensures observed { (heard : List Post) → HasHeard self.now heard → result ≡ length (observed self.now.config heard) }
     {
         for epoch in 0..self.config.epochs() {

@@ -231,3 +231,29 @@ fn agreeing(rt: HostRuntime) -> Result<(), Fail> {
     }
     Ok(())
 }
+
+// Whether the observers of a history agree, in a run of one epoch.
+const PAST_THE_RUN: [(bool, &str); 4] = [
+    // a correct node and a liar have closed an epoch that the run does not have
+    (true, "0dC00abc- 1dC00abc- 2dC01abc- 3dC01abc-"),
+    // two correct nodes have, and no observer takes it
+    (false, "0dC00abc- 1dC00abc- 0dC01abc- 1dC01abd-"),
+    // they have, but not the epoch before
+    (true, "0dC00abc- 0dC01abc- 1dC01abc-"),
+    (true, "0dC00abc- 1dC00abc- 0dC02abc- 1dC02abc-"),
+];
+
+#[test]
+fn past_the_run(rt: HostRuntime) -> Result<(), Fail> {
+    let mut liars = NodeSet::new();
+    liars.add(3);
+    for &(wanted, history) in &PAST_THE_RUN {
+        let mut report = run_of(rt.alloc(), history, &[])?;
+        report.config = Config::new(4, 1, 1, 8, 16, 7, 2, liars).ok_or("no config")?;
+        assert!(rt;
+            observers_agree(rt.alloc(), &report)? == wanted,
+            "the history {history}"
+        );
+    }
+    Ok(())
+}

@@ -13,7 +13,7 @@ returns c s run =
     (λ apart. record {
       nodes = λ heard of. c.observer_laws.ensures.nodes made.config posts heard sound run.legal apart of;
       observers = λ heard others of other_of. c.observer_laws.ensures.observers made.config posts heard others sound run.legal apart of other_of;
-      complete = λ heard e of below closers. c.observer_laws.ensures.complete made.config posts heard e sound run.legal apart of below closers;
+      complete = λ heard e of closers. c.observer_laws.ensures.complete made.config posts heard e sound run.legal apart of closers;
     })
     (c.quiet_laws.ensures.completed made sound run.legal run.quiet)
     c.calm_laws.ensures.epochs c.calm_laws.ensures.status
