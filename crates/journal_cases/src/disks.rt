@@ -1,6 +1,7 @@
 //! Disks by hand: what a stop, a fault and a cut leave, call by call.
 ghost use Rattle.std.specs.Prelude.{◌≡◌, IfOk};
 
+use crate::read_after_stop;
 use disk_model::{Disk, DiskFault, Half, Leave, MemoryDisk, Plan, Power, Stop};
 use std::alloc::Global;
 use std::test::Fail;
@@ -12,6 +13,20 @@ fn planned(alloc: Global, stops: &[Stop], faults: &[u32]) -> Result<Plan, Fail>
         stops: stops.to_vec(alloc)?,
         faults: faults.to_vec(alloc)?,
     })
+}
+
+// What is proved of these bytes is read: no call before finds too little memory.
+#[test]
+fn what_a_stop_leaves_is_read(rt: HostRuntime) -> Result<(), Fail> {
+    let alloc = rt.alloc();
+    for &(leave, want) in &[
+        (Leave::Old, [9, 8, 7, 6]),
+        (Leave::New, [1, 2, 3, 6]),
+        (Leave::Torn, [1, 0x5A, 3, 6]),
+    ] {
+        assert!(rt; read_after_stop(alloc, leave)? == want);
+    }
+    Ok(())
 }
 
 // A write, and the power goes off at the sync after it.
