@@ -10,3 +10,4 @@ pub mod Going
 pub mod Nexts
 pub mod Left
 pub mod Actors
+pub mod Images

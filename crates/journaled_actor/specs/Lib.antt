@@ -4,3 +4,4 @@ pub mod Kept
 pub mod Folding
 pub mod Faults
 pub mod Going
+pub mod Images

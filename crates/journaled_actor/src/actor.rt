@@ -1,7 +1,10 @@
 //! An actor over its journal.
-ghost use Rattle.std.specs.Prelude.{◌≡◌, [], true, false};
+ghost use Rattle.std.specs.Prelude.{◌≡◌, [], true, false, Contains};
+ghost use Rattle.disk_model.specs.Image.{Image};
+ghost use Rattle.hb_wire.specs.declared.vote.Vote.{Vote};
 ghost use Rattle.hb_rules.specs.Terms.{cast_in};
 ghost use Rattle.vote_journal.specs.Calls.{IsEmpty};
+ghost use Rattle.journaled_actor.specs.Images.{HasVote};
 ghost use Rattle.journaled_actor.specs.Kept.{IsOf, actor_view};
 
 use crate::beginning::take_up;
@@ -76,6 +79,16 @@ impl<B: Book, D: Power + Drop, C: Core> JournaledActor<B, D, C> {
             got: Vec::new(alloc),
             restarts: 0,
         }
+    }
+
+    /// Whatever a crash leaves of its disk now, in any state of the actor, a recovery of it reads each vote that the actor
+    /// has cast. The call does nothing.
+    pub fn kept_in_images(&self)
+        ensures { (image : Image) (vote : Vote) → D.may_leave self.now.disk image
+            → Contains (cast_in (C.terms self.now.core) (B.seen self.now.seat)) vote → HasVote image vote }
+    {
+        // What holds of its parts holds of it.
+        let _live = self.live;
     }
 }
 
