@@ -85,7 +85,7 @@ impl<B: Book, D: Power + Drop, C: Core> JournaledActor<B, D, C> {
     /// has cast. The call does nothing.
     pub fn kept_in_images(&self)
         ensures { (image : Image) (vote : Vote) → D.may_leave self.now.disk image
-            → Contains (cast_in (C.terms self.now.core) (B.seen self.now.seat)) vote → HasVote image vote }
+            → Contains (cast_in (C.terms self.now.core) (B.seen self.now.seat)) vote → HasVote (C.terms self.now.core).config image vote }
     {
         // What holds of its parts holds of it.
         let _live = self.live;

@@ -11,5 +11,5 @@ pub returns : goal.returns
 returns g c =
     let t = g.C.Core.terms in
     along c.self.view_is
-    (λ a. (image : Image) (vote : Vote) → g.D.Disk.may_leave a.disk image → Contains (cast_in (t a.core) (g.B.Book.seen a.seat)) vote → HasVote image vote)
+    (λ a. (image : Image) (vote : Vote) → g.D.Disk.may_leave a.disk image → Contains (cast_in (t a.core) (g.B.Book.seen a.seat)) vote → HasVote (t a.core).config image vote)
     (λ image vote may cast. has_vote (t c.self.inside.core) (g.B.Book.seen c.self.inside.seat) image vote (c.self.invariant.safe image may) cast)
