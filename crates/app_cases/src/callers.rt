@@ -1,21 +1,26 @@
-//! A caller of the program, as one that runs scenarios of its own. What it promises is proved by the contract of the call alone.
+//! Callers of the program, as of one that runs scenarios of its own. What they promise is proved by the contracts of the calls alone.
 
-ghost use Rattle.std.specs.Prelude.{◌≡◌, map, Ok, IfOk};
+ghost use Rattle.std.specs.Prelude.{◌≡◌, ◌≢◌, ◌≤◌, [], ◌∷◌, length, map, string_bytes, Ok, IfOk};
 ghost use Rattle.net_script.specs.Scenario.{Scenario, told};
 ghost use Rattle.script_reader.specs.Reading.{scenario_of};
 ghost use Rattle.hb_rules.specs.Ledger.{AreComparable};
 ghost use Rattle.hb_rules.specs.Strings.{NoCollision};
 ghost use Rattle.ledger_text.specs.Text.{run_text};
 ghost use Rattle.quiet_world.specs.Spared.{IsSpared};
+ghost use Rattle.trace_text.specs.Text.{trace_text};
+ghost use Rattle.trace_reader.specs.Trace.{longest_trace};
+ghost use Rattle.history_verdict.specs.declared.verdict.Verdict.TheVariants.{Legal};
+ghost use Rattle.verdict_text.specs.Text.{verdict_line};
 ghost use Rattle.hb_app.specs.Statuses.{IsRunStatus};
 
 use hb_app::hb_main;
-use hb_base::{Bytes, MemorySink, MemorySource, OpenGate};
+use hb_base::{Bytes, MemorySink, MemorySource, OpenGate, Sink, Source};
 use hb_rules::Report;
 use liar_cast::Liar;
 use std::alloc::{AllocError, Global};
 use std::sync::Wait;
 use std::thread::Threads;
+use trace_audit::audit_laws;
 
 /// Runs the scenario that the bytes say to this cast: the status, and what was printed. After 0, 4 and 5 the report tells a run of
 /// exactly that scenario, whose text was printed, and whose ledgers are comparable where no two hashed strings share a digest. It
@@ -54,4 +59,63 @@ pub fn run_bytes<R: Threads + Wait + Sync>(
         report,
     );
     Ok((status, out))
+}
+
+/// Prints the history of a run, and asks whether it is legal: both statuses, and what was printed of the second. The scenario comes
+/// from a source. After 0, 4 and 5 a history that is not too long to be read is found legal, with the number of its posts, where no
+/// two strings that count as hashed share a digest. The second status tells otherwise only of a call that failed, or of memory.
+pub fn trace_and_audit<R: Threads + Wait + Sync, S: Source, E: Sink>(
+    rt: &R,
+    alloc: Global,
+    source: &mut S,
+    err: &mut E,
+    cast: Vec<Box<dyn Liar>>,
+    report: &mut Report,
+) -> Result<(u8, u8, MemorySink), AllocError>
+    ensures legal { IfOk result (λ answer. IsRunStatus answer.0 → length (trace_text report.new) ≤ longest_trace
+        → NoCollision report.new.config report.new.history.items → (answer.1 ≢ 8) × (answer.1 ≢ 3)) }
+    ensures told { IfOk result (λ answer. IsRunStatus answer.0 → length (trace_text report.new) ≤ longest_trace
+        → NoCollision report.new.config report.new.history.items
+        → answer.1 ≡ 0 → answer.2.held ≡ verdict_line (Legal (length report.new.history.items))) }
+{
+    // what this call ensures are the laws of audits
+    audit_laws();
+    let trace = one_word(alloc, "trace")?;
+    let audit = one_word(alloc, "audit")?;
+    let mut text = MemorySink::new(alloc, Vec::new(alloc));
+    let ran = hb_main(
+        rt,
+        alloc,
+        trace.as_slice(),
+        source,
+        &mut text,
+        err,
+        cast,
+        &OpenGate,
+        report,
+    );
+    let printed = Bytes::copy(alloc, text.held())?;
+    let mut again = MemorySource::new(printed, 4_096, Vec::new(alloc));
+    let mut verdict = MemorySink::new(alloc, Vec::new(alloc));
+    let judged = hb_main(
+        rt,
+        alloc,
+        audit.as_slice(),
+        &mut again,
+        &mut verdict,
+        err,
+        Vec::new(alloc),
+        &OpenGate,
+        report,
+    );
+    Ok((ran, judged, verdict))
+}
+
+// The words of a call with one word.
+fn one_word(alloc: Global, word: &str) -> Result<Vec<String>, AllocError>
+    ensures { IfOk result (λ words. map string_bytes words.items ≡ word.now ∷ []) }
+{
+    let mut words = Vec::new(alloc);
+    words.push(String::from_str(alloc, word)?)?;
+    Ok(words)
 }

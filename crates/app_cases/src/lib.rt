@@ -1,6 +1,6 @@
 //! Calls of the program over memory: what it answers, prints and tells for scenarios by hand, and what it leaves of its report.
 //!
-//! `callers` is as any user might write it, and what is proved of it stands on the contract of hb_app alone. `false_frame` is a liar
+//! `callers` is as any user might write it, and what is proved of it stands on the contracts of hb_app and trace_audit alone. `false_frame` is a liar
 //! for tests of runs on threads, too.
 #![tactic(auto)]
 
@@ -41,5 +41,5 @@ mod streams;
 #[cfg(test)]
 mod texts;
 
-pub use callers::run_bytes;
+pub use callers::{run_bytes, trace_and_audit};
 pub use false_frame::FalseFrame;

@@ -13,6 +13,8 @@ use Rattle.quiet_world.specs.Epochs.{EpochsEnd}
 use Rattle.quiet_world.specs.Spared.{IsSpared, IsSparedStatus}
 use Rattle.accuse.specs.declared.accusation.Accusation.{Accusation}
 use Rattle.accuse.specs.Accused.{accused}
+use Rattle.trace_text.specs.Text.{trace_text}
+use Rattle.trace_reader.specs.Trace.{IsTrace}
 use Rattle.step_driver.specs.Running.{EndsFullByCause}
 use Rattle.hb_app.specs.Ledgers.{HasLedgers, HasBatches, AgreeAsPrinted, HasEachPrinted}
 use Rattle.hb_app.specs.Observers.{ObserversFollow}
@@ -32,6 +34,8 @@ pub record IsKept (report : Report) : Type 0 where
   pub full : EndsFullByCause report
   -- each proposal of a correct desk is of the oldest transactions of its pool
   pub rule : FollowsPoolRule report
+  -- the history that is printed is the text of this run and these posts, as `audit` reads it
+  pub trace : IsTrace (trace_text report) report.config report.history.items
 
 -- What no liar, loss or crash can undo.
 pub record IsSafe (report : Report) : Type 0 where

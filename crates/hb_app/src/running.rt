@@ -1,9 +1,11 @@
 //! Runs.
 
-ghost use Rattle.std.specs.Prelude.{◌≡◌, ◌<◌, ◌^◌, length, OnOk, OnErr};
+ghost use Rattle.std.specs.Prelude.{◌≡◌, ◌<◌, ◌^◌, length, All, OnOk, OnErr};
+ghost use Rattle.hb_base.specs.ByteLists.{AreBytes};
 ghost use Rattle.net_script.specs.Scenario.{told};
 ghost use Rattle.net_script.specs.Sound.{IsScenario};
 ghost use Rattle.net_script.specs.declared.script.Script.{Script};
+ghost use Rattle.trace_reader.specs.Trace.{IsAddress, IsPost};
 ghost use Rattle.ledger_run.specs.Run.{IsRunOf};
 ghost use Rattle.hb_app.specs.Headline.{Headline};
 
@@ -11,6 +13,7 @@ use accuse::accuse_laws;
 use acs_world::ledger_laws;
 use hb_base::Gate;
 use hb_rules::Report;
+use hb_wire::{Post, To};
 use ledger_run::{hire, run_script};
 use liar_cast::Liar;
 use net_script::Script;
@@ -62,7 +65,7 @@ pub fn run_by_workers<R: Threads + Wait + Sync, G: Gate>(
 
 // The report with its status.
 fn with_status(made: Report) -> Report
-    ensures { (s : Script) → IsRunOf s made → Headline (told s) result }
+    ensures { (s : Script) → IsScenario (told s) → IsRunOf s made → Headline (told s) result }
 {
     let mut made = made;
     // what these calls ensure are the laws of ledgers, of observers, of quiet and calm runs and of accusations, and that the numbers
@@ -73,6 +76,43 @@ fn with_status(made: Report) -> Report
     calm_laws();
     accuse_laws();
     let _sound = made.config.liars();
+    // and these, that its seed and its posts are such as a text tells
+    let _seed = made.config.seed();
+    posts_fit(made.history.as_slice());
     made.status = status(&made);
     made
 }
+
+// Each post is such as the text of a history tells. The call goes through the posts, and changes nothing.
+fn posts_fit(posts: &[Post])
+    ensures { All IsPost posts.now }
+{
+    for post in posts {
+        post_fits(post);
+    }
+}
+
+// Its numbers are of one byte, and what it says are bytes.
+fn post_fits(post: &Post)
+    ensures { IsPost post.now }
+{
+    let _from = post.from;
+    let _actor = post.actor;
+    address_fits(post.to);
+    bytes_fit(post.bytes.as_slice());
+}
+
+fn address_fits(to: To)
+    ensures { IsAddress to }
+{
+    match to {
+        To::Book => {}
+        To::Home => {}
+        To::All => {}
+        To::Node(_) => {}
+    }
+}
+
+fn bytes_fit(_bytes: &[u8])
+    ensures { AreBytes _bytes.now }
+{}

@@ -1,12 +1,16 @@
-use Rattle.hb_app.proofs.Runs.{headline}
+use Rattle.std.proofs.Common.{◌<◌, ◌^◌, All, subst, arith}
+use Rattle.trace_reader.specs.Trace.{IsPost}
+use Rattle.hb_app.proofs.Runs.{headline, text_tells}
 use Rattle.hb_app.proofs.running.with_status.Goals as goal
 
 pub returns : goal.returns
-returns c s run =
+returns c s scenario run =
     let made = c.args.made in
     let posts = made.history.items in
     let sound = c.liars-sound.ensures.sound in
+    let seed : made.config.seed < 2 ^ 64 = omega (arith, c.seed-seed.ensures) in
     headline s made c.status.result run c.status.ensures sound
+    (text_tells s made scenario run.config sound seed (subst (All IsPost) c.as_slice.ensures.value c.posts_fit.ensures))
     (c.ledger_laws.ensures.comparable made.config posts sound run.legal)
     (c.ledger_laws.ensures.batches made.config posts sound run.legal)
     (c.ledger_laws.ensures.unaltered made.config posts sound run.legal)
