@@ -153,7 +153,7 @@ breaks_at_end detail line old now new u c posts out mid count b same at g =
           begun = begun_of bytes c posts (end_line count ++ g.byte ∷ g.later) b.config b.each text;
           words = begun_words detail c posts;
         },
-        inr (at ∙ ap (λ (n : ℕ). n + 3) (sym same)),
+        inr (at ∙ ap (λ (n : ℕ). n + 3) (sym same), g.byte ∷ g.later, ap (λ (n : ℕ). end_line n ++ g.byte ∷ g.later) (sym same)),
       );
       put = b.put;
     }

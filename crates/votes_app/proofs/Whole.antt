@@ -27,7 +27,7 @@ start = record { bytes = []; budget = longest_trace + 1 }
 
 -- printing stopped after some bytes were used
 pub stops_after : (detail : Detail) (fault : VotesFault) (old new : SourceView) (out out_after : SinkView) (used text : List ℕ) (stop : Stops fault old new start used)
-    → IsPart detail stop.more text → PutsUpTo fault out out_after text → PrintsVotes detail old new out out_after (Err fault)
+    → IsPart detail fault new stop.more text → PutsUpTo fault out out_after text → PrintsVotes detail old new out out_after (Err fault)
 stops_after detail ReadFault old new out out_after used text stop part put =
     record { bytes = stop.more; taken = stop.taken; few = stop.few; cause = stop.cause; text = text; part = part; put = put }
 stops_after detail TooLong old new out out_after used text stop part put =
@@ -167,7 +167,7 @@ end_fails detail old now new u c posts out mid out_after count b same is_end fai
       few = omega (arith, b.moves.spent);
       cause = is_end.quiet ∙ b.moves.quiet;
       text = history_in_words detail c posts;
-      part = inr (inr (record { config = c; posts = posts; is = whole_trace detail old now new u c posts out mid count b same is_end; words = refl }));
+      part = inr (inr (record { config = c; posts = posts; is = whole_trace detail old now new u c posts out mid count b same is_end; words = refl }, is_end.ended));
       put = rw (sym (history_words detail c posts), same) failed_all;
     }
 

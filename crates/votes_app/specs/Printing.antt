@@ -1,15 +1,16 @@
 -- What printing a history in words comes to.
 use Rattle.std.specs.Prelude.{◌≡◌, ◌⊎◌, ℕ, ◌+◌, ◌≤◌, List, [], ◌++◌, length, Some, Result, Ok, Err}
-use Rattle.std.specs.Io.KnownBytes.{Consumes}
+use Rattle.std.specs.Io.KnownBytes.{Consumes, IsAtEnd}
 use Rattle.hb_base.specs.Numbers.{Numbers}
 use Rattle.hb_wire.specs.declared.post.Post.{Post}
 use Rattle.input_reader.specs.Streams.{SourceView, IsFaultless}
+use Rattle.ledger_text.specs.Lines.{end_line}
 use Rattle.trace_reader.specs.Sources.{ReadsWhole}
 use Rattle.trace_reader.specs.Trace.{longest_trace, IsTrace, IsBegun, BreaksAt}
 use Rattle.vote_words.specs.declared.detail.Detail.{Detail}
 use Rattle.vote_words.specs.Words.{begun_in_words, history_in_words}
 use Rattle.votes_app.specs.declared.fault.VotesFault.{VotesFault}
-use Rattle.votes_app.specs.declared.fault.VotesFault.TheVariants.{NotATrace}
+use Rattle.votes_app.specs.declared.fault.VotesFault.TheVariants.{ReadFault, TooLong, NotATrace, Memory, WriteFault}
 use Rattle.votes_app.specs.Steps.{IsCause, PutsUpTo}
 use Rattle.votes_app.specs.Streams.{SinkView, HasPut}
 
@@ -35,9 +36,17 @@ pub record IsWhole (detail : Detail) (bytes : List ℕ) (text : List ℕ) : Type
   pub is : IsTrace bytes config posts
   pub words : text ≡ history_in_words detail config posts
 
+-- A text has in words all bytes, behind which the source is at its end. So it is only where the put of the last line failed.
+abbrev pub IsEnded : Detail → VotesFault → SourceView → List ℕ → List ℕ → Type 0
+IsEnded detail ReadFault new bytes text = ⊥
+IsEnded detail TooLong new bytes text = ⊥
+IsEnded detail (NotATrace line) new bytes text = ⊥
+IsEnded detail Memory new bytes text = ⊥
+IsEnded detail WriteFault new bytes text = IsWhole detail bytes text × IsAtEnd new.left
+
 -- a text has in words what bytes begin with, or nothing
-abbrev pub IsPart : Detail → List ℕ → List ℕ → Type 0
-IsPart detail bytes text = (text ≡ []) ⊎ IsFront detail bytes text ⊎ IsWhole detail bytes text
+abbrev pub IsPart : Detail → VotesFault → SourceView → List ℕ → List ℕ → Type 0
+IsPart detail fault new bytes text = (text ≡ []) ⊎ IsFront detail bytes text ⊎ IsEnded detail fault new bytes text
 
 -- Bytes were taken, and then printing stopped for this reason. What they begin with was put in words.
 pub record StopsAfter (detail : Detail) (fault : VotesFault) (old new : SourceView) (out out_after : SinkView) : Type 0 where
@@ -46,8 +55,16 @@ pub record StopsAfter (detail : Detail) (fault : VotesFault) (old new : SourceVi
   pub few : length bytes ≤ longest_trace + 1
   pub cause : IsCause fault old new (length bytes) (longest_trace + 1)
   pub text : List ℕ
-  pub part : IsPart detail bytes text
+  pub part : IsPart detail fault new bytes text
   pub put : PutsUpTo fault out out_after text
+
+-- Where the first line breaks the form, a text is empty. Else it has in words the first line and all posts before the line that
+-- breaks it: behind these posts comes that line, or the last line and then that one.
+abbrev pub IsBefore : Detail → List ℕ → ℕ → List ℕ → Type 0
+IsBefore detail bytes line text =
+    ((line ≡ 1) × (text ≡ []))
+    ⊎ ((front : IsFront detail bytes text)
+    × ((line ≡ length front.posts + 2) ⊎ ((line ≡ length front.posts + 3) × (later : List ℕ) × (front.rest ≡ end_line (length front.posts) ++ later))))
 
 -- Bytes were taken, and in them, as in the whole input, this line is the first that breaks the form. All posts before it were put in
 -- words.
@@ -59,7 +76,7 @@ pub record Breaks (detail : Detail) (line : ℕ) (old new : SourceView) (out out
   pub breaks : BreaksAt bytes line
   pub whole : (more : List ℕ) → new.left ≡ Some more → BreaksAt (bytes ++ more) line
   pub text : List ℕ
-  pub before : ((line ≡ 1) × (text ≡ [])) ⊎ ((front : IsFront detail bytes text) × ((line ≡ length front.posts + 2) ⊎ (line ≡ length front.posts + 3)))
+  pub before : IsBefore detail bytes line text
   pub put : HasPut out out_after text
 
 -- What printing came to: the source was read to its end, and had the text of a run and posts, which were put in words; or why not.
