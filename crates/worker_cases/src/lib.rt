@@ -9,6 +9,8 @@ mod callers;
 #[cfg(test)]
 mod calls;
 #[cfg(test)]
+mod counting;
+#[cfg(test)]
 mod disks;
 #[cfg(test)]
 mod holding;
