@@ -4,6 +4,7 @@ use node_workers::serve_all;
 use std::sync::atomic::{AtomicU64, Ordering};
 use std::sync::{Mutex, Wait};
 use std::test::*;
+use std::thread::Threads;
 
 // Takes one of the jobs, unless there is none.
 fn take_one<R: Wait>(rt: &R, left: &Mutex<u64>) -> bool {
@@ -114,6 +115,64 @@ fn a_token_goes_round(rt: HostRuntime) -> Result<(), Fail> {
         );
         let left = token.into_inner();
         assert!(rt; left.hops == 0);
+    }
+    Ok(())
+}
+
+const SIXTEEN: usize = 16;
+
+const FINDS: u64 = 10_000;
+
+// How often one that has found something glances at whether others have looked since.
+const GLANCES: u32 = 5_000;
+
+// How often the first node has looked, and how often the others have.
+#[derive(Drop)]
+struct Looks {
+    of_first: AtomicU64,
+    of_others: AtomicU64,
+}
+
+// The first node finds something so often, and each time gives the others a while to look. They find nothing.
+fn find_or_look(looks: &Looks, node: usize) -> bool {
+    if node != 0 {
+        looks.of_others.fetch_add(1, Ordering::SeqCst);
+        return false;
+    }
+    if looks.of_first.fetch_add(1, Ordering::SeqCst) >= FINDS {
+        return false;
+    }
+    let before = looks.of_others.load(Ordering::SeqCst);
+    for _glance in 0..GLANCES {
+        if looks.of_others.load(Ordering::SeqCst) != before {
+            return true;
+        }
+    }
+    true
+}
+
+// How often fifteen workers look that find nothing, while another finds something again and again.
+fn count_looks(rt: &(impl Threads + Wait + Sync)) -> u64 {
+    let looks = Looks {
+        of_first: AtomicU64::new(0),
+        of_others: AtomicU64::new(0),
+    };
+    serve_all(
+        rt,
+        SIXTEEN,
+        1,
+        &|node: usize, _worker: usize| find_or_look(&looks, node),
+    );
+    looks.of_others.load(Ordering::SeqCst)
+}
+
+// Who has found nothing naps, and longer each time. So the fifteen together look seldom: a find takes some microseconds, and a nap soon a
+// thousandth of a second. Who does not nap is seen only while it runs beside the one that finds, and so there are several tries.
+#[test]
+fn who_finds_nothing_looks_seldom(rt: HostRuntime) -> Result<(), Fail> {
+    for _try in 0..5u8 {
+        let looks = count_looks(&rt);
+        assert!(rt; looks > 0 && looks < FINDS / 4, "{looks}");
     }
     Ok(())
 }
