@@ -166,8 +166,9 @@ fn count_looks(rt: &(impl Threads + Wait + Sync)) -> u64 {
     looks.of_others.load(Ordering::SeqCst)
 }
 
-// Who has found nothing naps, and longer each time. So the fifteen together look seldom: a find takes some microseconds, and a nap soon a
-// thousandth of a second. Who does not nap is seen only while it runs beside the one that finds, and so there are several tries.
+// Who has found nothing naps, and longer each time. So the fifteen together look seldom: a find takes some microseconds, and a
+// nap soon a thousandth of a second. Who does not nap is seen only while it runs beside the one that finds. So there are several
+// tries.
 #[test]
 fn who_finds_nothing_looks_seldom(rt: HostRuntime) -> Result<(), Fail> {
     for _try in 0..5u8 {

@@ -1,7 +1,7 @@
 //! How often the gate of a run is entered: once for each delivery, be it made by a worker or one of the last deliveries.
 //!
-//! Where each post to another node comes twice, workers deliver it twice, and the last deliveries once. So the entries also tell whether
-//! the workers have left anything.
+//! Where each post to another node comes twice, workers deliver it twice, and the last deliveries once. So the entries also tell
+//! whether the workers have left anything.
 
 use crate::calls::{Host, check_any, run_with};
 use crate::texts::{FOUR, with_workers};
@@ -70,8 +70,8 @@ fn count_others(report: &Report, copies: u64) -> u64 {
     due
 }
 
-// Runs a scenario with these keys besides, in which a post to another node comes so many times, with one worker and with four. Each
-// delivery enters the gate once, and lane 1 of node 1 has so many deliveries more.
+// Runs a scenario with these keys besides, in which a post to another node comes so many times, with one worker and with four.
+// Each delivery enters the gate once, and lane 1 of node 1 has so many deliveries more.
 fn check(
     rt: &impl Host,
     alloc: Global,
@@ -113,9 +113,9 @@ fn workers_leave_nothing(rt: HostRuntime) -> Result<(), Fail> {
 const STOPPED_AND_TWICE: &str =
     r#","links":[{"every":1,"at":0,"shape":"twice"}],"stops":[{"node":1,"actor":1,"call":10,"leave":"new"}]"#;
 
-// What lane 1 of node 1 hears first is the proposal of its desk, which comes once. The calls 7 to 10 of its disk write the entry of its
-// shards. It stops there, forgets the proposal, and is restarted; the workers deliver all the rest. So the last deliveries bring it the
-// proposal again. Where the entry was lost, the shards are posted only then, and all that follows from them is left too.
+// What lane 1 of node 1 hears first is the proposal of its desk, which comes once. The calls 7 to 10 of its disk write the entry
+// of its shards. It stops there, forgets the proposal, and is restarted; the workers deliver all the rest. So the last deliveries
+// bring it the proposal again. Where the entry was lost, the shards are posted only then, and what follows from them is left too.
 #[test]
 fn what_a_stop_leaves(rt: HostRuntime) -> Result<(), Fail> {
     let lost = r#","stops":[{"node":1,"actor":1,"call":9,"leave":"old"}]"#;
