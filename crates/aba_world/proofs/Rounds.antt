@@ -134,7 +134,7 @@ locked_from c j e r i b history sound legal premise correct picked coin = record
       let on = went_on c j e r had.node d history legal had.correct.honest had.cast in
       elim on.picked [
         | inl alone ↦ one_single c j e r had.node i d b history sound legal had.correct.honest correct alone picked
-        | inr both ↦ had_dealt c history j e r had.node d sound had.correct.honest premise both.1 ∙ coin
+        | inr both ↦ had_dealt c history j e r had.node d sound had.correct premise both.1 ∙ coin
       ];
 }
 

@@ -20,6 +20,7 @@ use Rattle.hb_rules.specs.Coins.{HasCoin}
 use Rattle.hb_rules.specs.Agreement.{confirms, IsGathered, IsLeftWith}
 use Rattle.hb_rules.specs.Rules.{MayCast}
 use Rattle.hb_rules.specs.History.{IsLegal}
+use Rattle.hb_rules.specs.Ledger.{IsCorrect}
 use Rattle.hb_rules.specs.Strings.{NoCollision}
 use Rattle.hb_rules.proofs.Among.{any_stands}
 use Rattle.hb_rules.proofs.Counts.{count_nodes-mono}
@@ -179,10 +180,10 @@ pub record HadCoin (c : Numbers) (history : List Post) (j e r i : ℕ) (b : Bool
   pub lane : j < c.n
   pub coin : HasCoin c e j r (heard_in c i j was.before) b
 
-pub had_dealt : (c : Numbers) (history : List Post) (j e r i : ℕ) (b : Bool) → AreSound c → is_in c.liars i ≡ false → NoCollision c history
+pub had_dealt : (c : Numbers) (history : List Post) (j e r i : ℕ) (b : Bool) → AreSound c → IsCorrect c i → NoCollision c history
     → HadCoin c history j e r i b → b ≡ dealt_coin c e j r
 had_dealt c history j e r i b sound correct premise had =
-    coin_dealt c i j e r b had.was.before had.was.later sound had.was.addressed had.lane correct
+    coin_dealt c i j e r b had.was.before had.was.later sound had.lane correct
     (subst (NoCollision c) had.was.is premise) had.coin
 
 -- A lane goes on from a round with a bit: it is left with the bit alone, or with both bits, and the coin is the bit.

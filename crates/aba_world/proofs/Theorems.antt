@@ -10,7 +10,6 @@ use Rattle.hb_rules.specs.Marks.{single}
 use Rattle.hb_rules.specs.History.{IsLegal}
 use Rattle.hb_rules.specs.Ledger.{IsCorrect}
 use Rattle.hb_rules.specs.Strings.{NoCollision}
-use Rattle.hb_rules.proofs.Addressed.{legal_addressed}
 use Rattle.aba_world.specs.Agreed.{HasEstimate, DecisionsAgree, DecisionsAreBegun, IsAgreed}
 use Rattle.aba_world.specs.Backing.{BitsAreEstimates, VotesAreSupported, PicksAgree, BeginningsAreBacked, CoinsAreDealt, VotesAreProper, IsSettled, DecisionsAreSettled}
 use Rattle.aba_world.proofs.Coins.{coin_dealt}
@@ -44,7 +43,7 @@ beginnings_backed c history legal = record {
 pub coins_dealt : (c : Numbers) (history : List Post) → AreSound c → IsLegal c history → NoCollision c history → CoinsAreDealt c history
 coins_dealt c history sound legal premise = record {
   dealt = λ j e r i b lane correct coin.
-      coin_dealt c i j e r b history [] sound (legal_addressed c history legal) lane correct.honest (subst (NoCollision c) (sym (append-nil history)) premise)
+      coin_dealt c i j e r b history [] sound lane correct (subst (NoCollision c) (sym (append-nil history)) premise)
       coin;
 }
 
@@ -71,7 +70,7 @@ settled c history j e i b sound legal premise correct decided = record {
     was = was_decided c j e i b history legal correct.honest decided
 
     coin : dealt_coin c e j was.round ≡ b
-    coin = sym (had_dealt c history j e was.round i b sound correct.honest premise was.coin)
+    coin = sym (had_dealt c history j e was.round i b sound correct premise was.coin)
 
     locked : (r : ℕ) → was.round < r → IsLocked c history j e r b
     locked r after =

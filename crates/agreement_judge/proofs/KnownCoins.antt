@@ -20,7 +20,6 @@ use Rattle.hb_rules.specs.Coins.{is_share, share_count, hearing_of_share, HasCoi
 use Rattle.hb_rules.specs.Hearing.{Hearing, heard_by, heard_in}
 use Rattle.hb_rules.specs.Strings.{NoCollision}
 use Rattle.hb_rules.specs.Terms.{AreHeardSpelled}
-use Rattle.hb_rules.proofs.Addressed.{legal_addressed}
 use Rattle.hb_rules.proofs.AgreementParts.{same_bits, same_bit-refl}
 use Rattle.hb_rules.proofs.Among.{any_stands}
 use Rattle.hb_rules.proofs.Counts.{count_nodes-mono}
@@ -72,7 +71,7 @@ known_coin c e j r heard enough =
 pub coin_is_dealt : (c : Numbers) (i j e r : ℕ) (b : Bool) (heard : List Hearing) → AreSound c → IsHeardApart c i j heard → HasCoin c e j r heard b
     → b ≡ dealt_coin c e j r
 coin_is_dealt c i j e r b heard sound from has =
-    coin_dealt c i j e r b from.history [] sound (legal_addressed c from.history from.legal) from.lane from.correct
+    coin_dealt c i j e r b from.history [] sound from.lane from.correct
     (subst (NoCollision c) (sym (append-nil from.history)) from.apart) (record {
       shares = has.shares;
       choice = has.choice;

@@ -24,18 +24,17 @@ use Rattle.hb_rules.specs.Broadcast.{IsProposedShard, MayBroadcast}
 use Rattle.hb_rules.specs.BroadcastRows.{val_of, value_of, is_made_ready}
 use Rattle.hb_rules.specs.Claims.{proposed, echoed, readied, are_these, has_root, has_both, is_val_to, is_any_echo, is_any_ready, is_any_delivery, is_ready, is_echo, is_shard_echo}
 use Rattle.hb_rules.specs.Code.{data_count, IsCodedShard, AreEchoes, AreEchoed, HasDelivery, echo_count, ready_count}
-use Rattle.hb_rules.specs.Hearing.{Hearing, hearing, heard_by, said_in, heard_in}
+use Rattle.hb_rules.specs.Hearing.{Hearing, hearing, heard_by, heard_in}
 use Rattle.hb_rules.specs.Same.{same_vote}
 use Rattle.hb_rules.specs.Terms.{AreHeardSpelled}
-use Rattle.hb_rules.proofs.Addressed.{legal_addressed}
-use Rattle.hb_rules.proofs.Among.{any_stands, Grows, heard_by-among, AreEchoed-grows, AreEchoes-grows}
+use Rattle.hb_rules.proofs.Among.{any_stands, Grows, heard_by-grows, AreEchoed-grows}
 use Rattle.hb_rules.proofs.BroadcastSlots.{heard_spelled, proposed-is}
 use Rattle.hb_rules.proofs.Counts.{correct_member}
 use Rattle.hb_rules.proofs.FirstShares.{counted}
 use Rattle.hb_rules.proofs.FirstShards.{value_given, data_count-some, data_count-within, few_nodes}
 use Rattle.hb_rules.proofs.Lists.{list_any-from}
-use Rattle.hb_rules.proofs.Said.{heard-said, few_liars}
-use Rattle.rbc_world.proofs.Binding.{echoed-hashed, one_codeword}
+use Rattle.hb_rules.proofs.Said.{few_liars}
+use Rattle.rbc_world.proofs.Binding.{echoed-bound, one_codeword}
 use Rattle.quiet_broadcast.proofs.Codewords.{value_there}
 use Rattle.hb_rules.specs.Apart.{IsHeardApart}
 use Rattle.broadcast_judge.specs.Tests.{is_part, is_source, is_carried, is_carried_by, is_delivered_by}
@@ -164,40 +163,38 @@ some_value : {A : Type 0} (o : Option A) → is_some o ≡ true → (x : A) × (
 some_value None h = absurd (cc (h))
 some_value (Some x) h = (x, refl)
 
--- what the lane heard, its lanes have said
-apart_grows : (c : Numbers) (i j : ℕ) (heard : List Hearing) → (from : IsHeardApart c i j heard) → Grows (heard_by heard) (said_in c j from.history)
-apart_grows c i j heard from = record {
-  grows = λ a test away shown.
-      (heard-said c i j from.history (legal_addressed c from.history from.legal) from.lane from.correct).grows a test away
-      (heard_by-among heard (heard_in c i j from.history) a test from.among shown);
-}
+-- all of it is heard in the history
+apart_grows : (c : Numbers) (i j : ℕ) (heard : List Hearing) → (from : IsHeardApart c i j heard)
+    → Grows (heard_by heard) (heard_by (heard_in c i j from.history))
+apart_grows c i j heard from = heard_by-grows heard (heard_in c i j from.history) from.among
+
+-- Echoes that rebuild to the root are among those that are heard in the history
+apart_echoed : (c : Numbers) (i j e : ℕ) (root : List ℕ) (heard : List Hearing) (shards : List (List ℕ)) → (from : IsHeardApart c i j heard)
+    → AreEchoed c.n (data_count c) e root (heard_by heard) shards
+    → AreEchoed c.n (data_count c) e root (heard_by (heard_in c i j from.history)) shards
+apart_echoed c i j e root heard shards from echoed =
+    AreEchoed-grows c.n (data_count c) e root (heard_by heard) (heard_by (heard_in c i j from.history)) shards (apart_grows c i j heard from) echoed
 
 -- the value to which the first shards rebuild, where some k rebuild to the root
 value_some : (c : Numbers) (i j e : ℕ) (root : List ℕ) (heard : List Hearing) (shards : List (List ℕ)) → AreSound c → IsHeardApart c i j heard
     → AreEchoed c.n (data_count c) e root (heard_by heard) shards → data_count c ≤ echo_count c.n e root (heard_by heard)
     → is_some (value_of c e heard root) ≡ true
 value_some c i j e root heard shards sound from echoed enough =
-    let said = AreEchoed-grows c.n (data_count c) e root (heard_by heard) (said_in c j from.history) shards (apart_grows c i j heard from) echoed in
-    value_there c j e root from.history sound from.apart (record {
-      shards = shards;
-      codeword = echoed.rebuilt.codeword;
-      root_is = echoed.root_is;
-      hashed = echoed-hashed c j e root from.history shards from.lane said;
-    }) heard (apart_grows c i j heard from) enough
+    value_there c j e root from.history sound from.apart
+    (echoed-bound c i j e root from.history shards from.correct (apart_echoed c i j e root heard shards from echoed))
+    i heard from.correct (apart_grows c i j heard from) enough
 
 -- it is the value of these
 value_same : (c : Numbers) (i j e : ℕ) (root value : List ℕ) (heard : List Hearing) (shards : List (List ℕ)) → AreSound c → IsHeardApart c i j heard
     → AreEchoed c.n (data_count c) e root (heard_by heard) shards → value_of c e heard root ≡ Some value → value ≡ framed_value (data_count c) shards
 value_same c i j e root value heard shards sound from echoed is =
-    let grows = apart_grows c i j heard from in
-    let said = AreEchoed-grows c.n (data_count c) e root (heard_by heard) (said_in c j from.history) shards grows echoed in
     let given = value_given c sound e heard root value is in
-    let one = one_codeword c j e root from.history shards sound from.apart from.lane said in
-    let got = given.echoed.got in
+    let first = apart_echoed c i j e root heard given.shards from given.echoed in
+    let second = apart_echoed c i j e root heard shards from echoed in
+    let one = one_codeword c j e root from.history sound from.apart (echoed-bound c i j e root from.history shards from.correct second) in
     let these : given.shards ≡ one.shards =
-    one.only got given.shards (AreEchoes-grows c.n (data_count c) e root (heard_by heard) (said_in c j from.history) got grows given.echoed.echoes) given.echoed.rebuilt in
-    let those : shards ≡ one.shards =
-    one.only said.got shards said.echoes said.rebuilt in
+    one.only i first.got given.shards (record { correct = from.correct; echoes = first.echoes }) first.rebuilt in
+    let those : shards ≡ one.shards = one.only i second.got shards (record { correct = from.correct; echoes = second.echoes }) second.rebuilt in
     sym given.value_is ∙ ap (framed_value (data_count c)) (these ∙ sym those)
 
 -- ---- Ready

@@ -138,6 +138,13 @@ heard_from c i x history h stands =
     let source = source_of (hearing_of c i x) history h stands in
     (source.element, source.stands, heard_is c i x source.element h source.gives)
 
+-- what was heard stays heard
+pub heard_stays : (c : Numbers) (i x : ℕ) (history more : List Post) (h : Hearing) → Contains (heard_in c i x history) h
+    → Contains (heard_in c i x (history ++ more)) h
+heard_stays c i x history more h stands =
+    subst (λ (heard : List Hearing). Contains heard h) (sym (filter_map-append (hearing_of c i x) history more))
+    (Contains-append_left (heard_in c i x history) (heard_in c i x more) h stands)
+
 -- an actor has its own number's posts from other nodes
 goes_same : (n : ℕ) (to : To) (from poster i x : ℕ) → goes_to n to from poster i x ≡ true → (to ≡ Home → i ≢ from) → poster ≡ x
 goes_same n Book from poster i x h away = absurd (cc (h))

@@ -1,10 +1,10 @@
 -- What a lane has heard, where no two strings that were hashed share a digest.
-use Rattle.std.specs.Prelude.{◌≡◌, ℕ, ◌<◌, false, List}
+use Rattle.std.specs.Prelude.{ℕ, ◌<◌, List}
 use Rattle.hb_base.specs.Numbers.{Numbers}
-use Rattle.hb_base.specs.NodeSet.{is_in}
 use Rattle.hb_wire.specs.declared.post.Post.{Post}
 use Rattle.hb_rules.specs.Hearing.{Hearing, heard_in}
 use Rattle.hb_rules.specs.History.{IsLegal}
+use Rattle.hb_rules.specs.Ledger.{IsCorrect}
 use Rattle.hb_rules.specs.Strings.{NoCollision}
 use Rattle.hb_rules.specs.Terms.{AreAmong}
 
@@ -14,6 +14,6 @@ pub record IsHeardApart (c : Numbers) (i j : ℕ) (heard : List Hearing) : Type 
   pub history : List Post
   pub legal : IsLegal c history
   pub apart : NoCollision c history
-  pub correct : is_in c.liars i ≡ false
+  pub correct : IsCorrect c i
   pub lane : j < c.n
   pub among : AreAmong heard (heard_in c i j history)

@@ -6,13 +6,12 @@ use Rattle.hb_base.specs.Numbers.{Numbers}
 use Rattle.hb_wire.specs.declared.vote.Vote.TheVariants.{Val, Echo, Coin, Propose}
 use Rattle.hb_wire.specs.declared.post.Post.{Post}
 use Rattle.hb_rules.specs.Code.{data_count}
-use Rattle.hb_rules.specs.Hearing.{said_in}
+use Rattle.hb_rules.specs.Hearing.{hearing, heard_in, heard_by}
 use Rattle.hb_rules.specs.History.{IsLegal}
 use Rattle.hb_rules.specs.Strings.{IsHashed, NoCollision}
 use Rattle.hb_rules.proofs.Addressed.{IsLegal-front}
-use Rattle.hb_rules.proofs.Among.{AreEchoes-grows}
-use Rattle.hb_rules.proofs.Cast.{cast_stays}
-use Rattle.hb_rules.proofs.Said.{said-stays}
+use Rattle.hb_rules.proofs.Among.{heard_by-grows, AreEchoes-grows}
+use Rattle.hb_rules.proofs.Cast.{cast_stays, heard_stays}
 use Rattle.history_verdict.specs.Verdicts.{IsFirstIllegal, IsVerdict}
 use Rattle.history_verdict.specs.declared.verdict.Verdict.{Verdict}
 use Rattle.history_verdict.specs.declared.verdict.Verdict.TheVariants.{Legal, Illegal}
@@ -20,17 +19,18 @@ use Rattle.history_verdict.specs.declared.verdict.Verdict.TheVariants.{Legal, Il
 -- what counts as hashed after some posts counts after more
 hashed_later : (c : Numbers) (history more : List Post) (string : List ℕ) → IsHashed c history string → IsHashed c (history ++ more) string
 hashed_later c history more string (IsHashed.dealt found) = IsHashed.dealt found
-hashed_later c history more string (IsHashed.proposed a e value shards correct stands encoding found) =
-    IsHashed.proposed a e value shards correct (cast_stays c a c.n history more (Propose e value) stands) encoding found
-hashed_later c history more string (IsHashed.sent a x e target root shard branch stands found) =
-    IsHashed.sent a x e target root shard branch (cast_stays c a x history more (Val e target root shard branch) stands) found
-hashed_later c history more string (IsHashed.echoed a x e root shard branch stands found) =
-    IsHashed.echoed a x e root shard branch (cast_stays c a x history more (Echo e root shard branch) stands) found
-hashed_later c history more string (IsHashed.shown a x e r share salt branch stands found) =
-    IsHashed.shown a x e r share salt branch (cast_stays c a x history more (Coin e r share salt branch) stands) found
-hashed_later c history more string (IsHashed.rebuilt j e root got shards lane echoes rebuilt found) =
-    IsHashed.rebuilt j e root got shards lane
-    (AreEchoes-grows c.n (data_count c) e root (said_in c j history) (said_in c j (history ++ more)) got (said-stays c j history more) echoes) rebuilt found
+hashed_later c history more string (IsHashed.proposed i e value shards correct stands encoding found) =
+    IsHashed.proposed i e value shards correct (cast_stays c i c.n history more (Propose e value) stands) encoding found
+hashed_later c history more string (IsHashed.sent i j e root shard branch correct stands found) =
+    IsHashed.sent i j e root shard branch correct (heard_stays c i j history more (hearing j (Val e i root shard branch)) stands) found
+hashed_later c history more string (IsHashed.echoed i j a e root shard branch correct stands found) =
+    IsHashed.echoed i j a e root shard branch correct (heard_stays c i j history more (hearing a (Echo e root shard branch)) stands) found
+hashed_later c history more string (IsHashed.shown i j a e r share salt branch correct stands found) =
+    IsHashed.shown i j a e r share salt branch correct (heard_stays c i j history more (hearing a (Coin e r share salt branch)) stands) found
+hashed_later c history more string (IsHashed.rebuilt i j e root got shards correct echoes rebuilt found) =
+    IsHashed.rebuilt i j e root got shards correct
+    (AreEchoes-grows c.n (data_count c) e root (heard_by (heard_in c i j history)) (heard_by (heard_in c i j (history ++ more))) got
+    (heard_by-grows (heard_in c i j history) (heard_in c i j (history ++ more)) (record { each = heard_stays c i j history more })) echoes) rebuilt found
 
 -- where no two strings of a history share a digest, none of its beginning do
 pub apart_before : (c : Numbers) (history more : List Post) → NoCollision c (history ++ more) → NoCollision c history

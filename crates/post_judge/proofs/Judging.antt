@@ -24,6 +24,7 @@ use Rattle.hb_rules.proofs.Among.{any_stands}
 use Rattle.hb_rules.proofs.Lists.{list_any-from}
 use Rattle.hb_rules.proofs.MoreHeard.{MayCast-among}
 use Rattle.hb_rules.proofs.SameRules.{cast_same}
+use Rattle.hb_rules.proofs.LaneVotes.{correct_is}
 use Rattle.hb_rules.specs.Apart.{IsHeardApart}
 use Rattle.history_verdict.specs.Verdicts.{Judges}
 use Rattle.post_judge.specs.declared.told.Bucket.{Bucket}
@@ -117,13 +118,12 @@ module _ (c : Numbers) (seen : List Post) (table : BTreeMap Place Bucket) (are :
       (own_back c x vote (own_votes c.n i x vote table) (own_in c i x seen) (table_own c seen table are i x vote known)) may)
 
   -- what it has for a lane was heard apart
-  pub told_apart : is_in c.liars i ≡ false → IsLegal c seen → NoCollision c seen → x < c.n
-      → IsHeardApart c i x (told_from c i x table (looked_at c i x vote))
-  told_apart correct legal apart lane = record {
+  pub told_apart : IsLegal c seen → NoCollision c seen → x < c.n → IsHeardApart c i x (told_from c i x table (looked_at c i x vote))
+  told_apart legal apart lane = record {
     history = seen;
     legal = legal;
     apart = apart;
-    correct = correct;
+    correct = correct_is c i known;
     lane = lane;
     among = heard_among c seen table are i x (looked_at c i x vote) (looked_at-listens c i x vote such);
   }

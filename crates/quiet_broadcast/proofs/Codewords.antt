@@ -20,7 +20,8 @@ use Rattle.hb_rules.specs.BroadcastRows.{shard_of, shards_of, value_of}
 use Rattle.hb_rules.specs.Claims.{is_echo, is_shard_echo}
 use Rattle.hb_rules.specs.Code.{data_count, echo_count}
 use Rattle.hb_rules.specs.FirstShown.{has_node, with_first}
-use Rattle.hb_rules.specs.Hearing.{Hearing, heard_by, said_in}
+use Rattle.hb_rules.specs.Hearing.{Hearing, heard_in, heard_by}
+use Rattle.hb_rules.specs.Ledger.{IsCorrect}
 use Rattle.hb_rules.specs.Strings.{NoCollision}
 use Rattle.hb_rules.proofs.Among.{Grows, AreEchoes-grows}
 use Rattle.hb_rules.proofs.BroadcastParts.{some_where}
@@ -107,10 +108,10 @@ shards_enough n e root heard =
 
 module _ (c : Numbers) (j e : ℕ) (root : List ℕ) (history : List Post) (sound : AreSound c) (premise : NoCollision c history)
     (bound : IsBoundTo c history root) where
-  -- the shards that came first give the value, whoever sent them
-  pub value_there : (heard : List Hearing) → Grows (heard_by heard) (said_in c j history)
+  -- the shards that came first to a lane of a correct node give the value, whoever sent them
+  pub value_there : (i : ℕ) (heard : List Hearing) → IsCorrect c i → Grows (heard_by heard) (heard_by (heard_in c i j history))
       → data_count c ≤ echo_count c.n e root (heard_by heard) → is_some (value_of c e heard root) ≡ true
-  value_there heard said enough =
+  value_there i heard correct posted enough =
       some_where ((length got == k) && (are_even got && bytes_eq (tree_root (completed c.n k got)) root)) (framed_value k (completed c.n k got))
       (and_from (length got == k) (are_even got && bytes_eq (tree_root (completed c.n k got)) root) (eq-eqb (length got) k length_is)
       (and_from (are_even got) (bytes_eq (tree_root (completed c.n k got)) root) even
@@ -136,7 +137,8 @@ module _ (c : Numbers) (j e : ℕ) (root : List ℕ) (history : List Post) (soun
 
       rebuilt : IsRebuilt c.n (data_count c) (take (data_count c) (shards_of c.n e root heard)) bound.shards
       rebuilt =
-          on_bound c j e root history sound premise bound got (AreEchoes-grows c.n k e root (heard_by heard) (said_in c j history) got said (record {
+          on_bound c i j e root history sound premise bound correct got
+          (AreEchoes-grows c.n k e root (heard_by heard) (heard_by (heard_in c i j history)) got posted (record {
             enough = length_is;
             shards = are;
             each =

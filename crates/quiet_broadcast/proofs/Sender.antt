@@ -33,7 +33,7 @@ use Rattle.rbc_world.proofs.Backed.{IsProposedRoot, quorum_proposed}
 use Rattle.rbc_world.proofs.Once.{one_proposal}
 use Rattle.rbc_world.proofs.Theorems.{deliveries_proposed, ready_quorum}
 use Rattle.quiet_lanes.specs.Lanes.{IsQuietLane}
-use Rattle.quiet_lanes.proofs.Hearings.{cast_heard, all_heard, heard_said}
+use Rattle.quiet_lanes.proofs.Hearings.{cast_heard, all_heard, heard_posted}
 use Rattle.quiet_broadcast.proofs.Marks.{IsVal, echo_named}
 use Rattle.quiet_broadcast.proofs.Settled.{val_cast, echo_cast}
 use Rattle.rbc_world.proofs.Binding.{IsBoundTo}
@@ -117,7 +117,7 @@ module _ (c : Numbers) (j : ℕ) (history : List Post) (runs : ℕ → Bool) (he
     shards = encoded c.n (data_count c) value;
     codeword = encoding.codeword;
     root_is = refl;
-    hashed = record { each = λ string stands. IsHashed.proposed j e value (encoded c.n (data_count c) value) honest proposes encoding stands };
+    hashed = record { each = λ string stands. IsHashed.proposed j e value (encoded c.n (data_count c) value) (quiet.correct j sends) proposes encoding stands };
   }
 
   -- ---- Val
@@ -239,7 +239,8 @@ module _ (c : Numbers) (j : ℕ) (history : List Post) (runs : ℕ → Bool) (he
       let enough = echoes_heard m here in
       let some = member_from_count c.n (λ a. heard_by (heard m) a (is_echo c.n e root a)) (omega (arith, enough, quiet.sound.enough)) in
       let rebuilds : is_some (value_of c e (heard m) root) ≡ true =
-      value_there c j e root history quiet.sound quiet.apart bound (heard m) (heard_said c j history runs heard m quiet here) (omega (arith, enough)) in
+      value_there c j e root history quiet.sound quiet.apart bound m (heard m) (quiet.correct m here) (heard_posted c j history runs heard m quiet here)
+      (omega (arith, enough)) in
       let quorum : Bool = nat_le (c.n - c.f) (echo_count c.n e root (heard_by (heard m))) in
       let makes : is_made_ready c e (heard m) root ≡ true =
       or_left (quorum && is_some (value_of c e (heard m) root)) (nat_le (c.f + 1) (ready_count c.n e root (heard_by (heard m))))

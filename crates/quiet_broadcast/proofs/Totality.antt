@@ -19,10 +19,10 @@ use Rattle.hb_rules.proofs.Cast.{was_allowed, heard_from}
 use Rattle.hb_rules.proofs.Counts.{member_from_count}
 use Rattle.hb_rules.proofs.Lists.{list_any-from}
 use Rattle.rbc_world.specs.Backing.{IsBacked}
-use Rattle.rbc_world.proofs.Binding.{echoed-hashed, IsBoundTo}
-use Rattle.rbc_world.proofs.Theorems.{deliveries_agree, ready_quorum, is_backed}
+use Rattle.rbc_world.proofs.Binding.{IsBoundTo}
+use Rattle.rbc_world.proofs.Theorems.{deliveries_agree, ready_bound, ready_quorum, is_backed}
 use Rattle.quiet_lanes.specs.Lanes.{IsQuietLane}
-use Rattle.quiet_lanes.proofs.Hearings.{IsForLanes, AreForLanes, many_heard, all_heard, heard_said}
+use Rattle.quiet_lanes.proofs.Hearings.{IsForLanes, AreForLanes, many_heard, all_heard, heard_posted}
 use Rattle.quiet_broadcast.proofs.Marks.{IsNamed, ready-is, ready-marked, ready_named, echo-is}
 use Rattle.quiet_broadcast.proofs.Settled.{ready_cast, delivery_cast}
 use Rattle.quiet_broadcast.proofs.Codewords.{value_there}
@@ -104,7 +104,7 @@ module _ (c : Numbers) (j : ℕ) (history : List Post) (runs : ℕ → Bool) (he
       → (m : ℕ) → runs m ≡ true → (value : List ℕ) × Contains (own_in c m j history) (Delivered e value)
   all_deliver root bound echoes ready m here =
       delivery_cast c m j e (own_in c m j history) (heard m) (quiet.idle m here) below root (ready_named c.n e some.0 root (heard m) some.2) enough
-      (value_there c j e root history quiet.sound quiet.apart bound (heard m) (heard_said c j history runs heard m quiet here) shards)
+      (value_there c j e root history quiet.sound quiet.apart bound m (heard m) (quiet.correct m here) (heard_posted c j history runs heard m quiet here) shards)
     where
       readies : c.n - c.f ≤ ready_count c.n e root (heard_by (heard m))
       readies =
@@ -138,12 +138,7 @@ module _ (c : Numbers) (j : ℕ) (history : List Post) (runs : ℕ → Bool) (he
         subst (λ (r : List ℕ). Contains (own_in c m j history) (Ready e r)) same own.1
 
     bound : IsBoundTo c history backed.delivery.root
-    bound = record {
-      shards = backed.delivery.shards;
-      codeword = backed.delivery.echoed.rebuilt.codeword;
-      root_is = backed.delivery.echoed.root_is;
-      hashed = echoed-hashed c j e backed.delivery.root history backed.delivery.shards quiet.lane backed.delivery.echoed;
-    }
+    bound = ready_bound c history j e backed.delivery.root quiet.sound quiet.legal (omega (arith, backed.delivery.readies))
 
     pub total : (m : ℕ) → runs m ≡ true → Contains (own_in c m j history) (Delivered e value)
     total m here =

@@ -112,9 +112,14 @@ all_heard c j history runs heard i test quiet here meant said =
     omega (arith, more, quiet.many)
 
 -- what the lane of a running node has heard, lanes have said
+pub heard_posted : (c : Numbers) (j : ℕ) (history : List Post) (runs : ℕ → Bool) (heard : ℕ → List Hearing) (i : ℕ)
+    → IsQuietLane c j history runs heard → runs i ≡ true → Grows (heard_by (heard i)) (heard_by (heard_in c i j history))
+heard_posted c j history runs heard i quiet here =
+    heard_by-grows (heard i) (heard_in c i j history) (record { each = λ h stands. quiet.posted i h here stands })
+
 pub heard_said : (c : Numbers) (j : ℕ) (history : List Post) (runs : ℕ → Bool) (heard : ℕ → List Hearing) (i : ℕ)
     → IsQuietLane c j history runs heard → runs i ≡ true → Grows (heard_by (heard i)) (said_in c j history)
 heard_said c j history runs heard i quiet here =
-    let among = heard_by-grows (heard i) (heard_in c i j history) (record { each = λ h stands. quiet.posted i h here stands }) in
+    let among = heard_posted c j history runs heard i quiet here in
     let said = heard-said c i j history (legal_addressed c history quiet.legal) quiet.lane (quiet.correct i here).honest in
     record { grows = λ a test away h. said.grows a test away (among.grows a test away h) }

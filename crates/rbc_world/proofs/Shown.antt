@@ -11,7 +11,7 @@ use Rattle.hb_wire.specs.declared.vote.Vote.{Vote}
 use Rattle.hb_wire.specs.declared.vote.Vote.TheVariants.{Echo, Ready}
 use Rattle.hb_wire.specs.declared.post.Post.{Post}
 use Rattle.hb_rules.specs.Claims.{echoed, readied, are_these, has_root, has_both, is_echo, is_shard_echo, is_ready}
-use Rattle.hb_rules.specs.Hearing.{own_in, said_in}
+use Rattle.hb_rules.specs.Hearing.{Hearing, hearing, heard_by, own_in, said_in}
 use Rattle.hb_rules.proofs.Among.{any_stands}
 use Rattle.hb_rules.proofs.BroadcastSlots.{readied-is}
 
@@ -56,13 +56,17 @@ shard_echo_is n e root m shard (Echo d other piece branch) passes =
     by false tests h = absurd (cc (h))
 shard_echo_is n e root m shard vote passes = absurd (cc (passes))
 
--- the Echo that was shown
-pub shard_echo_said : (c : Numbers) (x e m : ℕ) (root shard : List ℕ) (history : List Post)
-    → said_in c x history m (is_shard_echo c.n e root m shard) ≡ true
-    → (vote : Vote) × Contains (own_in c m x history) vote × IsShardEcho c.n e root m shard vote
-shard_echo_said c x e m root shard history h =
-    let found = any_stands (is_shard_echo c.n e root m shard) (own_in c m x history) h in
-    (found.0, found.1, shard_echo_is c.n e root m shard found.0 found.2)
+-- the Echo that was heard
+pub shard_echo_heard : (n e m : ℕ) (root shard : List ℕ) (heard : List Hearing) → heard_by heard m (is_shard_echo n e root m shard) ≡ true
+    → (vote : Vote) × Contains heard (hearing m vote) × IsShardEcho n e root m shard vote
+shard_echo_heard n e m root shard heard h =
+    let found = any_stands (λ (g : Hearing). (g.from == m) && is_shard_echo n e root m shard g.vote) heard h in
+    let parts = and_parts (found.0.from == m) (is_shard_echo n e root m shard found.0.vote) found.2 in
+    let from : found.0.from ≡ m = eqb-true found.0.from m parts.0 in (
+      found.0.vote,
+      subst (λ (a : ℕ). Contains heard (hearing a found.0.vote)) from found.1,
+      shard_echo_is n e root m shard found.0.vote parts.1,
+    )
 
 root_only : (root shard : List ℕ) (part : List ℕ × List ℕ) → bytes_eq root part.0 ≡ true → (bytes_eq root part.0 && bytes_eq part.1 part.1) ≡ true
 root_only root shard part h = rw (h, (bytes_eq-Decides part.1 part.1).1 refl) refl

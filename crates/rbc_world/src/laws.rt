@@ -26,8 +26,9 @@ pub fn broadcast_laws()
 
 /// What stands behind a root and a value. For a root that a correct node is ready for, n - f nodes have posted valid Echoes,
 /// and some k of them rebuild to it. Where more than f nodes have posted Ready for a root in a lane, it is the root of one
-/// codeword, and any k valid Echoes for it rebuild to this codeword and to no other. What a correct node delivers was
-/// rebuilt, in a lane, from valid Echoes under the root that each correct node's Ready there names.
+/// codeword; any k valid Echoes for it that this lane of a correct node has heard rebuild to this codeword and to no other.
+/// What a correct node delivers was rebuilt, in a lane, from valid Echoes under the root that each correct node's Ready there
+/// names.
 pub fn root_laws()
     ensures ready { (c : Numbers) (history : List Post) (j e i : ℕ) (root : List ℕ) → AreSound c → IsLegal c history → IsCorrect c i
         → Contains (own_in c i j history) (Ready e root) → HasQuorum c e root (said_in c j history) }

@@ -48,7 +48,7 @@ returns-clause-complete c =
     (λ may told legal apart allowed.
     told
     (λ lane. subst (IsHeardApart t.config i x) (sym heard)
-    (told_apart t.config t.posts.items t.buckets.by_place c.requires.told i x vote known such c.requires.correct legal apart lane))
+    (told_apart t.config t.posts.items t.buckets.by_place c.requires.told i x vote known such legal apart lane))
     (subst (λ (hs : List Hearing). MayCast t.config i x c.args.own.now hs vote) (sym heard)
     (subst (λ (own : List Vote). MayCast t.config i x own (told_from t.config i x t.buckets.by_place (looked_at t.config i x vote)) vote) (sym c.requires.own)
     (cast_complete t.config t.posts.items t.buckets.by_place c.requires.told i x vote known such c.requires.correct legal allowed))))
