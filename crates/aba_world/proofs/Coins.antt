@@ -1,4 +1,4 @@
--- What a correct lane has heard gives no coin but the dealt one, where no two strings that were hashed share a digest.
+-- What a correct lane has heard gives no coin but the dealt one, where no two hashed strings share a digest.
 use Rattle.std.proofs.Common.{◌≡◌, ℕ, ◌<◌, Bool, true, ◌&&◌, nat_lt, inl, inr, List, ◌++◌, Contains, sym, ap, ◌∙◌, subst}
 use Rattle.std.proofs.lemmas.Bool.{ltb-true, and_parts}
 use Rattle.hb_base.specs.Numbers.{Numbers, AreSound}

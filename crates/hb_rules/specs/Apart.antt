@@ -1,4 +1,4 @@
--- What a lane has heard, where no two strings that were hashed share a digest.
+-- What a lane has heard, where no two hashed strings share a digest.
 use Rattle.std.specs.Prelude.{ℕ, ◌<◌, List}
 use Rattle.hb_base.specs.Numbers.{Numbers}
 use Rattle.hb_wire.specs.declared.post.Post.{Post}
@@ -8,7 +8,7 @@ use Rattle.hb_rules.specs.Ledger.{IsCorrect}
 use Rattle.hb_rules.specs.Strings.{NoCollision}
 use Rattle.hb_rules.specs.Terms.{AreAmong}
 
--- all of it is heard by lane j of node i, which is correct, in a legal history in which no two strings that were hashed share a
+-- all of it is heard by lane j of node i, which is correct, in a legal history in which no two hashed strings share a
 -- digest
 pub record IsHeardApart (c : Numbers) (i j : ℕ) (heard : List Hearing) : Type 0 where
   pub history : List Post

@@ -7,13 +7,13 @@ use Rattle.hb_rules.specs.Strings.{NoCollision}
 use Rattle.history_verdict.specs.declared.verdict.Verdict.{Verdict}
 use Rattle.history_verdict.specs.declared.verdict.Verdict.TheVariants.{Legal, Illegal}
 
--- The answer says whether the post may follow the history. A yes is always right, and a no is right where no two strings
--- that were hashed share a digest.
+-- The answer says whether the post may follow the history. A yes is always right, and a no is right where no two hashed
+-- strings share a digest.
 pub record Judges (c : Numbers) (history : List Post) (post : Post) (answer : Bool) : Type 0 where
   pub sound : answer ≡ true → MayFollow c history post
   pub complete : answer ≡ false → NoCollision c (history ++ post ∷ []) → MayFollow c history post → ⊥
 
--- The posts before post k are a legal history, and where no two strings that were hashed share a digest, these with post k
+-- The posts before post k are a legal history, and where no two hashed strings share a digest, these with post k
 -- are none.
 pub record IsFirstIllegal (c : Numbers) (history : List Post) (k : ℕ) : Type 0 where
   pub inside : k < length history

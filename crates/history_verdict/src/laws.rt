@@ -9,7 +9,7 @@ ghost use Rattle.history_verdict.specs.Verdicts.{IsVerdict};
 ghost use Rattle.history_verdict.specs.declared.verdict.Verdict.{Verdict};
 ghost use Rattle.history_verdict.specs.declared.verdict.Verdict.TheVariants.{Legal};
 
-/// Where no two strings that were hashed share a digest, the verdict on a legal history is that it is: so it is exactly there, since
+/// Where no two hashed strings share a digest, the verdict on a legal history is that it is: so it is exactly there, since
 /// no other history has it. There a history has one verdict. What is so of a history is so of its beginnings.
 pub fn verdict_laws()
     ensures legal { (c : Numbers) (history : List Post) (verdict : Verdict) → NoCollision c history → IsVerdict c history verdict → IsLegal c history

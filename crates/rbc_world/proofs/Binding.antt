@@ -1,4 +1,4 @@
--- What one root binds where no two strings that were hashed share a digest: trees of one root have equal leaves, and a valid
+-- What one root binds where no two hashed strings share a digest: trees of one root have equal leaves, and a valid
 -- branch of a tree's root proves the tree's leaf.
 use Rattle.std.proofs.Common.{◌≡◌, ℕ, ◌<◌, ◌≤◌, true, inl, inr, List, [], Contains, Some, length, slice_get, sym, ap, ◌∙◌, subst, arith}
 use Rattle.std.specs.Prelude.{slice_index_or}

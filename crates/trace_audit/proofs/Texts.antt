@@ -38,7 +38,7 @@ not_broken : (old new : SourceView) (input : List ℕ) (line : ℕ) (c : Numbers
 not_broken old new input line c posts left text refused =
     refused.3.0 c posts (subst (λ (bytes : List ℕ). IsTrace bytes c posts) (all_left old new input refused.0 refused.2 left) text)
 
--- where no two strings that were hashed share a digest, the verdict on a legal history is that it is
+-- where no two hashed strings share a digest, the verdict on a legal history is that it is
 abbrev pub LegalIsFound : Type 0
 LegalIsFound = (c : Numbers) (history : List Post) (verdict : Verdict) → NoCollision c history → IsVerdict c history verdict → IsLegal c history
     → verdict ≡ Legal (length history)

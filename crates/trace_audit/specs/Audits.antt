@@ -26,7 +26,7 @@ abbrev pub Audits : SourceView → SourceView → Result Verdict TraceFault → 
 Audits old new (Ok verdict) = ReadsWhole old new (λ bytes. HasVerdict bytes verdict)
 Audits old new (Err fault) = IsRefusal old new fault
 
--- The answer to the text of a run and posts. It is the verdict on them, and where no two strings that were hashed share a digest, a
+-- The answer to the text of a run and posts. It is the verdict on them, and where no two hashed strings share a digest, a
 -- legal history is found legal; or a take failed, or there was no memory.
 abbrev pub IsRightOn : Numbers → List Post → Result Verdict TraceFault → Type 0
 IsRightOn c posts (Ok verdict) = IsVerdict c posts verdict × (NoCollision c posts → IsLegal c posts → verdict ≡ Legal (length posts))
