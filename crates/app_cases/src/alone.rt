@@ -4,7 +4,7 @@
 //! 66 times. `tools/oracles/run journals_of_one` counts all this again.
 
 use crate::calls::{Answer, Coins, Host, check_ran, run};
-use crate::disks::has_posted_all_again;
+use crate::repeats::has_posted_all_again;
 use crate::texts::fault_at;
 use hb_rules::{Fate, Report};
 use std::alloc::{AllocError, Global};

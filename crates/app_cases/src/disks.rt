@@ -2,52 +2,13 @@
 
 use crate::calls::{Host, check_ran};
 use crate::four::run_four;
+use crate::repeats::{has_posted_all_again, posts_twice};
 use crate::texts::{
     ALL, FOUR_COINS, FOUR_FRONT, WITHOUT_1, check_four_coins, fault_at, stop_at, text,
 };
 use hb_rules::{Fate, Report};
-use hb_wire::Post;
 use std::alloc::{AllocError, Global};
 use std::test::Fail;
-
-fn stands_in(posts: &[Post], post: &Post) -> bool {
-    posts.iter().any(|other| *other == *post)
-}
-
-fn is_of(post: &Post, node: u8, actor: u8) -> bool {
-    post.from == node && post.actor == actor
-}
-
-// Whether what an actor had posted stands behind this again, all of it and in its order, before anything else of it.
-fn begins_with_all(after: &[Post], before: &[Post], node: u8, actor: u8) -> bool {
-    let mut again = after.iter().filter(|post| is_of(post, node, actor));
-    before
-        .iter()
-        .filter(|old| is_of(old, node, actor))
-        .all(|old| again.next().is_some_and(|new| *new == *old))
-}
-
-// Whether an actor that posts a vote again posts from there on all that it had posted, in that order, before anything else. An actor
-// that never began again posts none twice.
-pub(crate) fn has_posted_all_again(report: &Report, node: u8, actor: u8) -> bool {
-    let history = report.history.as_slice();
-    for (place, post) in history.iter().enumerate() {
-        let (before, after) = history.split_at(place.min(history.len()));
-        if is_of(post, node, actor) && stands_in(before, post) {
-            return begins_with_all(after, before, node, actor);
-        }
-    }
-    true
-}
-
-// Whether an actor posts a vote twice.
-fn posts_twice(report: &Report, node: u8, actor: u8) -> bool {
-    let history = report.history.as_slice();
-    history.iter().enumerate().any(|(place, post)| {
-        let (before, _after) = history.split_at(place.min(history.len()));
-        is_of(post, node, actor) && stands_in(before, post)
-    })
-}
 
 // Runs the four nodes with one stop. However early or late it comes, and whatever the crash leaves, the actor begins again at once,
 // and all nodes close all four batches. What it had posted it posts again, which is its first entry at least where the stop comes after

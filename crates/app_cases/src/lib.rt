@@ -1,7 +1,7 @@
 //! Calls of the program over memory: what it answers, prints and tells for scenarios by hand, and what it leaves of its report.
 //!
-//! `callers` is as any user might write it, and what is proved of it stands on the contracts of hb_app and trace_audit alone. `false_frame` is a liar
-//! for tests of runs on threads, too.
+//! `callers` is as any user might write it, and what is proved of it stands on the contracts of hb_app and trace_audit alone.
+//! `false_frame` is a liar and `repeats` has questions for tests of runs on threads, too.
 #![tactic(auto)]
 
 #[cfg(test)]
@@ -34,6 +34,7 @@ mod observing;
 mod quiet;
 #[cfg(test)]
 mod refusals;
+mod repeats;
 #[cfg(test)]
 mod runs;
 #[cfg(test)]
@@ -43,3 +44,4 @@ mod texts;
 
 pub use callers::{run_bytes, trace_and_audit};
 pub use false_frame::FalseFrame;
+pub use repeats::{has_posted_all_again, posts_twice};
