@@ -2,7 +2,7 @@
 
 use coin_deal::deal;
 use hb_app::hb_main;
-use hb_base::{Bytes, Config, MemorySink, MemorySource, NodeSet, OpenGate};
+use hb_base::{Bytes, Config, Gate, MemorySink, MemorySource, NodeSet, OpenGate};
 use hb_rules::Report;
 use liar_cast::{Liar, cast};
 use quiet_check::is_quiet;
@@ -94,12 +94,13 @@ fn check_quiet(rt: &impl Abort, alloc: Global, report: &Report) -> Result<(), Al
     Ok(())
 }
 
-// Calls the program with this cast. What a run leaves is quiet.
-pub(crate) fn call_with(
+// Calls the program with this cast, through this gate. What a run leaves is quiet.
+pub(crate) fn call_through<G: Gate>(
     rt: &impl Host,
     alloc: Global,
     given: &Request<'_>,
     liars: Vec<Box<dyn Liar>>,
+    gate: &G,
 ) -> Result<Answer, AllocError> {
     let mut answer = before(alloc, given)?;
     let words = words_of(alloc, given)?;
@@ -112,11 +113,21 @@ pub(crate) fn call_with(
         &mut answer.out,
         &mut answer.err,
         liars,
-        &OpenGate,
+        gate,
         &mut answer.report,
     );
     check_quiet(rt, alloc, &answer.report)?;
     Ok(answer)
+}
+
+// Calls the program with this cast. What a run leaves is quiet.
+pub(crate) fn call_with(
+    rt: &impl Host,
+    alloc: Global,
+    given: &Request<'_>,
+    liars: Vec<Box<dyn Liar>>,
+) -> Result<Answer, AllocError> {
+    call_through(rt, alloc, given, liars, &OpenGate)
 }
 
 // The cast of the program.

@@ -19,6 +19,8 @@ mod calls;
 mod commands;
 #[cfg(test)]
 mod disks;
+#[cfg(test)]
+mod entries;
 mod false_frame;
 #[cfg(test)]
 mod four;
