@@ -181,7 +181,7 @@ fn run_counting(
 #[test]
 fn boxes_are_asked_and_dropped(rt: HostRuntime) -> Result<(), Fail> {
     let alloc = rt.alloc();
-    for hears in [0u32, 1, 3, 50] {
+    for hears in [0u32, 1, 3, 50, 100] {
         let shared = Arc::new(alloc, 0u8)?;
         let liars = three_counting(alloc, &shared)?;
         let answer = run_counting(&rt, alloc, hears, liars)?;
@@ -190,6 +190,60 @@ fn boxes_are_asked_and_dropped(rt: HostRuntime) -> Result<(), Fail> {
             found.len() == hears as usize && Arc::strong_count(&shared) == 1,
             "{hears}"
         );
+    }
+    Ok(())
+}
+
+// A liar that says at its start all the lies that it may and one more, and another each time it hears. One that renews puts a new
+// list in the place of the one that it is handed then, which takes as many again.
+#[derive(Drop)]
+struct Flooding {
+    renews: bool,
+}
+
+impl Liar for Flooding {
+    ghost called = { λ _. codes "flooding" };
+
+    fn name(&self) -> LiarName {
+        LiarName::of("flooding").unwrap()
+    }
+
+    fn start(&mut self, alloc: Global, _me: &LiarSeat, lies: &mut Lies) {
+        for _ in 0..4_097u32 {
+            lies.say(alloc, 0, To::Book, &[0xff]);
+        }
+    }
+
+    fn hear(&mut self, alloc: Global, me: &LiarSeat, _post: &Post, lies: &mut Lies) {
+        if self.renews {
+            *lies = Lies::new(alloc, me.node);
+        }
+        lies.say(alloc, 0, To::Book, &[0xfe]);
+    }
+}
+
+// How many posts of its first byte a liar has that floods, and how many in all.
+fn posts_of_flooding(
+    rt: &impl Host,
+    alloc: Global,
+    renews: bool,
+) -> Result<(usize, usize), AllocError> {
+    let mut liars: Vec<Box<dyn Liar>> = Vec::new(alloc);
+    liars.push(Box::new(alloc, Flooding { renews })?)?;
+    let scenario = with_liar(alloc, "flooding", 100)?;
+    let given = Request::new(&["run"], scenario.as_str());
+    let answer = call_with(rt, alloc, &given, liars)?;
+    let found = first_bytes(alloc, &answer.report, 3)?;
+    let first = found.iter().filter(|byte| **byte == 0xff).count();
+    Ok((first, found.len()))
+}
+
+// However much it says, 4,096 lies of a node are posted, and the first ones, also where its own list would take more.
+#[test]
+fn lies_are_counted(rt: HostRuntime) -> Result<(), Fail> {
+    for renews in [false, true] {
+        let found = posts_of_flooding(&rt, rt.alloc(), renews)?;
+        assert!(rt; found == (4_096, 4_096), "{renews}");
     }
     Ok(())
 }
