@@ -62,8 +62,8 @@ pub fn run_bytes<R: Threads + Wait + Sync>(
 }
 
 /// Prints the history of a run, and asks whether it is legal: both statuses, and what was printed of the second. The scenario comes
-/// from a source. After 0, 4 and 5 a history that is not too long to be read is found legal, with the number of its posts, where no
-/// two strings that count as hashed share a digest. The second status tells otherwise only of a call that failed, or of memory.
+/// from a source. Say that the first is 0, 4 or 5, that the text is not too long to be read, and that no two different strings
+/// that count as hashed share a digest. Then the second is neither 8 nor 3, and after 0 the line has the number of the posts.
 pub fn trace_and_audit<R: Threads + Wait + Sync, S: Source, E: Sink>(
     rt: &R,
     alloc: Global,
