@@ -1,4 +1,5 @@
-//! Callers of the program, as of one that runs scenarios of its own. What they promise is proved by the contracts of the calls alone.
+//! Callers of the program, as of one that runs scenarios of its own. What they promise is proved by the contracts of the calls
+//! alone.
 
 ghost use Rattle.std.specs.Prelude.{◌≡◌, ◌≢◌, ◌≤◌, [], ◌∷◌, length, map, string_bytes, Ok, IfOk};
 ghost use Rattle.net_script.specs.Scenario.{Scenario, told};
@@ -22,9 +23,9 @@ use std::sync::Wait;
 use std::thread::Threads;
 use trace_audit::audit_laws;
 
-/// Runs the scenario that the bytes say to this cast: the status, and what was printed. After 0, 4 and 5 the report tells a run of
-/// exactly that scenario, whose text was printed, and whose ledgers are comparable where no two hashed strings share a digest. It
-/// is not 4 where nothing of correct nodes was lost. After 3 the bytes say no scenario.
+/// Runs the scenario that the bytes say to this cast: the status, and what was printed. After 0, 4 and 5 the report tells a run
+/// of exactly that scenario, whose text was printed. Where no two hashed strings share a digest, its ledgers are comparable,
+/// and the status is not 4 if nothing of correct nodes was lost. After 3 the bytes say no scenario.
 pub fn run_bytes<R: Threads + Wait + Sync>(
     rt: &R,
     alloc: Global,
@@ -61,9 +62,10 @@ pub fn run_bytes<R: Threads + Wait + Sync>(
     Ok((status, out))
 }
 
-/// Prints the history of a run, and asks whether it is legal: both statuses, and what was printed of the second. The scenario comes
-/// from a source. Say that the first is 0, 4 or 5, that the text is not too long to be read, and that no two different strings
-/// that count as hashed share a digest. Then the second is neither 8 nor 3, and after 0 the line has the number of the posts.
+/// Prints the history of a run, and asks whether it is legal: both statuses, and what was printed of the second. The scenario
+/// comes from a source. Say that the first is 0, 4 or 5, that the text is not too long to be read, and that no two different
+/// strings that count as hashed share a digest. Then the second is neither 8 nor 3, and after 0 the line has the number of the
+/// posts.
 pub fn trace_and_audit<R: Threads + Wait + Sync, S: Source, E: Sink>(
     rt: &R,
     alloc: Global,
