@@ -5,26 +5,13 @@
 //! has forgotten the post, and gets it again. In a run of one node with workers nobody then has anything to do. So all else
 //! comes behind them, in the last deliveries.
 
+use crate::CountingGate;
 use crate::calls::{Answer, Host, Request, call_through, cast_of};
 use crate::texts::four;
-use hb_base::Gate;
 use hb_rules::Report;
 use hb_wire::{Post, To};
 use std::alloc::{AllocError, Global};
-use std::sync::atomic::{AtomicU64, Ordering};
 use std::test::Fail;
-
-// Lets everybody through, and counts who enters.
-#[derive(Drop)]
-struct Counted {
-    entered: AtomicU64,
-}
-
-impl Gate for Counted {
-    fn enter(&self, _node: u8, _actor: u8) {
-        self.entered.fetch_add(1, Ordering::SeqCst);
-    }
-}
 
 // The scenario of one node, or of the four, with these keys besides.
 fn scenario(alloc: Global, nodes: u8, keys: &str) -> Result<String, AllocError> {
@@ -41,13 +28,12 @@ fn run_counted(
     nodes: u8,
     keys: &str,
 ) -> Result<(u64, Answer), AllocError> {
-    let gate = Counted {
-        entered: AtomicU64::new(0),
-    };
+    let gate = CountingGate::new(0, 0);
     let scenario = scenario(alloc, nodes, keys)?;
     let given = Request::new(&["run"], scenario.as_str());
     let answer = call_through(rt, alloc, &given, cast_of(alloc)?, &gate)?;
-    Ok((gate.entered.load(Ordering::SeqCst), answer))
+    let entered = gate.of_actor().saturating_add(gate.of_others());
+    Ok((entered, answer))
 }
 
 // To how many actors the address of a post leads. A node that lies counts once, for all its actors.

@@ -1,7 +1,7 @@
 //! Calls of the program over memory: what it answers, prints and tells for scenarios by hand, and what it leaves of its report.
 //!
 //! `callers` is as any user might write it, and what is proved of it stands on the contracts of hb_app and trace_audit alone.
-//! `false_frame` is a liar and `repeats` has questions for tests of runs on threads, too.
+//! Tests of runs on threads use the rest that is public: `counting` has a gate, `false_frame` a liar, and `repeats` questions.
 #![tactic(auto)]
 
 #[cfg(test)]
@@ -17,6 +17,7 @@ mod callers;
 mod calls;
 #[cfg(test)]
 mod commands;
+mod counting;
 #[cfg(test)]
 mod disks;
 #[cfg(test)]
@@ -45,5 +46,6 @@ mod streams;
 mod texts;
 
 pub use callers::{run_bytes, trace_and_audit};
+pub use counting::CountingGate;
 pub use false_frame::FalseFrame;
 pub use repeats::{has_posted_all_again, posts_twice};

@@ -5,38 +5,11 @@
 
 use crate::calls::{Host, check_any, run_with};
 use crate::texts::{FOUR, with_workers};
-use hb_base::Gate;
+use app_cases::CountingGate;
 use hb_rules::Report;
 use hb_wire::{Post, reaches};
 use std::alloc::{AllocError, Global};
-use std::sync::atomic::{AtomicU64, Ordering};
 use std::test::Fail;
-
-// Counts the entries of lane 1 of node 1, and those of all others.
-#[derive(Drop)]
-struct Entries {
-    of_lane: AtomicU64,
-    of_others: AtomicU64,
-}
-
-impl Entries {
-    fn new() -> Entries {
-        Entries {
-            of_lane: AtomicU64::new(0),
-            of_others: AtomicU64::new(0),
-        }
-    }
-}
-
-impl Gate for Entries {
-    fn enter(&self, node: u8, actor: u8) {
-        if node == 1 && actor == 1 {
-            self.of_lane.fetch_add(1, Ordering::SeqCst);
-        } else {
-            self.of_others.fetch_add(1, Ordering::SeqCst);
-        }
-    }
-}
 
 // How often a post comes to an actor, where one to another node comes so many times.
 fn times(n: u8, post: &Post, node: u8, actor: u8, copies: u64) -> u64 {
@@ -82,14 +55,13 @@ fn check(
 ) -> Result<(), AllocError> {
     for workers in [1, 4] {
         let scenario = with_workers(alloc, front, keys, workers)?;
-        let gate = Entries::new();
+        let gate = CountingGate::new(1, 1);
         let answer = run_with(rt, alloc, scenario.as_str(), Vec::new(alloc), &gate)?;
         check_any(rt, alloc, &answer, &[0, 5], scenario.as_str())?;
         let of_lane = count_due(&answer.report, 1, 1, copies).saturating_add(more);
         let of_others = count_others(&answer.report, copies);
         assert!(rt;
-            gate.of_lane.load(Ordering::SeqCst) == of_lane
-                && gate.of_others.load(Ordering::SeqCst) == of_others,
+            gate.of_actor() == of_lane && gate.of_others() == of_others,
             "{scenario}"
         );
     }
