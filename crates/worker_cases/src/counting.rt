@@ -78,6 +78,7 @@ const TWICE: &str = r#","links":[{"every":1,"at":0,"shape":"twice"}]"#;
 #[test]
 fn workers_leave_nothing(rt: HostRuntime) -> Result<(), Fail> {
     check(&rt, rt.alloc(), FOUR, "", 1, 0)?;
+    check(&rt, rt.alloc(), FOUR, TWICE, 2, 0)?;
     check(&rt, rt.alloc(), SIXTEEN, TWICE, 2, 0)?;
     Ok(())
 }
