@@ -1,4 +1,4 @@
-// Draws rows that are too low for texts and arrow heads: of each a line over the nodes that its post reaches, and a mark at the
+// Draws rows that are too low for texts and arrow heads. Each has a line over the nodes that its post reaches, and a mark at the
 // node that said it. What has one colour is drawn together and as rectangles, since hundreds of rows are in sight.
 import { COLOURS, FAINT, MARKS } from "./words.js";
 import { KIND_LIST } from "./votes.js";

@@ -2,7 +2,7 @@
 begins with the other.
 
 A run on one thread makes the same allocations each time, and so does one with workers that the caller runs, since no thread can
-be started: there it is checked that the one that is to fail was asked for. Where threads are started, each run has its own.
+be started. There it is checked that the one that is to fail was asked for. Where threads are started, each run has its own.
 A library that is loaded before the C library counts them and lets one fail. The kit's compiler builds it.
 """
 import dataclasses

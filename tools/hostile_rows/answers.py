@@ -1,7 +1,7 @@
 """What a node that lies posts, by workers, where it hears 0, 1, 3, 50 and 100 posts, and where it hears all.
 
 Workers choose in which order a liar hears, but no schedule changes how much it may say. What each kind says is told in
-docs/SCENARIOS.md. Where it hears all that reaches its node, its answers are as many as what others post calls for: that shows
+docs/SCENARIOS.md. Where it hears all that reaches its node, its answers are as many as what others post calls for. That shows
 too that the workers have carried each post, since a liar hears nothing of what the last deliveries bring about.
 """
 import collections

@@ -1,7 +1,7 @@
 """Liars on one thread that hear so many posts: each answers these, and says nothing more. None tells more than 4,096 lies.
 
-A liar that babbles answers each post that it hears with the byte FF, and one of another node also with the bytes of that post, of
-which the last bit is turned. It says both to all, in the lane of the post. First in first out, posts come to it in their order.
+A liar that babbles answers each post that it hears with the byte FF. Where that was another node's it also says the bytes of that
+post with the last bit turned. It says both to all, in the lane of the post. First in first out, posts come to it in their order.
 """
 import functools
 import json
