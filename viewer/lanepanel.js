@@ -77,7 +77,8 @@ function lackingAgreement(world, scene) {
   if (scene.ownVote("AUX", round).length === 0) return [0, 1].map((bit) => need("AUX", { round, bit }));
   if (version === 2 && scene.ownVote("CONF", round).length === 0) return [1, 2].map((bits) => need("CONF", { round, bits }));
   if (scene.ownVote("PICK", round).length === 0) return [1, 2].map((bits) => need("PICK", { round, bits }));
-  if (cell.spent) return [[`It spent all its ${counted(rounds, "round")}: in none did the coin fall on the bit that it picked.`, []]];
+  const spent = `It spent all its ${counted(rounds, "round")}: in none did the coin fall on the bit that it picked.`;
+  if (cell.spent) return [[spent, []]];
   return [0, 1].map((bit) => need("DECIDED", { bit }));
 }
 
@@ -102,9 +103,10 @@ export function lanePanel(world, epoch, node, lane) {
   const { history } = world;
   const cell = world.lanes.cell(epoch, node, lane);
   const found = lackingOfLane(world, cell, world.rules.scene(node, lane, epoch));
+  const duty = `. Here node ${node} works on the batch that node ${lane} proposed.`;
   return [
     element("h2", {}, `Lane ${lane} of node ${node}, epoch ${epoch}`),
-    para("meaning", word(stateText(cell), stateOf(cell).name), `. Here node ${node} works on the batch that node ${lane} proposed.`),
+    para("meaning", word(stateText(cell), stateOf(cell).name), duty),
     cell.decided >= 0 ? para("", "It decided with ", postLink(history, cell.decided), ".") : null,
     endedText(world, node, lane),
     droppedText(world, node, lane, epoch),

@@ -85,7 +85,8 @@ function openItem(world, node) {
   const lost = world.reach.droppedTo(node);
   const dropped = ` ${counted(lost, "post")} of other nodes to it ${lost === 1 ? "was" : "were"} dropped on the way.`;
   const closed = `Node ${node} closed ${world.lanes.closedCount(node)} of ${counted(epochs, "epoch")}.`;
-  return item("warn", closed, lost > 0 ? dropped : "", " ", linkTo(`desk-${epoch}-${node}`, `Show what it lacks in epoch ${epoch}`));
+  const link = linkTo(`desk-${epoch}-${node}`, `Show what it lacks in epoch ${epoch}`);
+  return item("warn", closed, lost > 0 ? dropped : "", " ", link);
 }
 
 // A line of the text that is no line of a history.
@@ -191,7 +192,8 @@ function legendItem(style, sign, ...text) {
 
 function legend() {
   const states = STATES.map((name) => legendItem(STYLES[name], SIGNS[name], word(name)));
-  const others = [["closed", "✓"], ["liar", "\u00a0"], ["ended", "\u00a0"]].map(([name, sign]) => legendItem(name, sign, word(name)));
+  const signs = [["closed", "✓"], ["liar", "\u00a0"], ["ended", "\u00a0"]];
+  const others = signs.map(([name, sign]) => legendItem(name, sign, word(name)));
   return element("ul", { class: "legend" }, states, others, element("li", {}, "r0: the round in which it decided"));
 }
 
@@ -204,7 +206,8 @@ function summary(world) {
   const { config, history, run } = world;
   const numbers = [
     `${counted(config.n, "node")}, of which at most ${config.f} may lie, and ${liarCount(config)}`,
-    counted(config.epochs, "epoch"), `version ${config.version} of the rules`, `seed ${config.seed}`, counted(history.count, "post"),
+    counted(config.epochs, "epoch"), `version ${config.version} of the rules`, `seed ${config.seed}`,
+    counted(history.count, "post"),
   ];
   const ended = run && run.status !== null ? ` The run ended with status ${run.status}: ${statusText(run.status)}.` : "";
   return para("", `${numbers.join("; ")}.${ended}`);

@@ -69,8 +69,9 @@ function needItem(history, need) {
   const shown = need.posts.slice(0, Math.max(need.need, SHOWN_POSTS));
   const links = shown.map((k) => element("li", {}, postLink(history, k)));
   const more = need.posts.length > shown.length ? element("li", {}, `and ${need.posts.length - shown.length} more`) : null;
-  return element("li", { class: need.met ? "met" : "unmet" }, element("span", sign, need.met ? "✓" : "✗"), ` ${need.text}${found}`,
-    links.length > 0 ? element("ul", { class: "posts" }, links, more) : null);
+  const posts = links.length > 0 ? element("ul", { class: "posts" }, links, more) : null;
+  const [style, mark] = need.met ? ["met", "✓"] : ["unmet", "✗"];
+  return element("li", { class: style }, element("span", sign, mark), ` ${need.text}${found}`, posts);
 }
 
 function needList(history, needs) {
@@ -98,7 +99,8 @@ function verdictOf(world, k, why) {
 }
 
 const AGAIN = "It was said before, and an actor that was switched on again may repeat what it said: ";
-const ILLUSTRATION = "This is an illustration: it lists earlier posts that reach this actor and meet the rule. The proved judge is ";
+const ILLUSTRATION =
+  "This is an illustration: it lists earlier posts that reach this actor and meet the rule. The proved judge is ";
 
 function whySection(world, k, why) {
   const { history } = world;
@@ -175,7 +177,8 @@ function contradictionText(history, first, second) {
   const [one, other] = [first, second].map((k) => history.vote(k));
   if (!one || !other || one.kind !== other.kind) return "";
   const when = one.round === undefined ? `epoch ${one.epoch}` : `epoch ${one.epoch}, round ${one.round}`;
-  if (one.kind !== "VAL") return `Both are its ${one.kind} of ${when}, and they differ: it said two things where one may be said.`;
+  const differ = `Both are its ${one.kind} of ${when}, and they differ: it said two things where one may be said.`;
+  if (one.kind !== "VAL") return differ;
   const isOneRoot = history.samePart(one.root, other.root);
   if (isOneRoot) return `Both are its shard of ${when} for node ${one.target}, and they differ.`;
   return `Both hand out shards of its batch of ${when}, but the roots differ: these are two batches.`;
@@ -187,7 +190,8 @@ function pairRows(history, pair) {
   const plain = (name, read) => [name, pair.map(read), read(pair[0]) !== read(pair[1])];
   const rows = [
     plain("from", (k) => `node ${history.from[k]}, ${history.actorName(history.actor[k])}`),
-    plain("to", (k) => addressText(history, k)), plain("kind", (k) => history.kindName(k)), plain("epoch", (k) => `${history.epoch[k]}`),
+    plain("to", (k) => addressText(history, k)), plain("kind", (k) => history.kindName(k)),
+    plain("epoch", (k) => `${history.epoch[k]}`),
   ];
   if (!votes[0] || !votes[1] || votes[0].kind !== votes[1].kind) return rows;
   for (const field of kindNamed(votes[0].kind).fields) {
@@ -202,7 +206,8 @@ function pairTable(history, pair) {
   const heads = pair.map((k) => head("col", postLink(history, k, `post ${k}`)));
   const rows = pairRows(history, pair).map(([name, cells, isOther]) => element("tr", { class: isOther ? "differs" : null },
     head("row", name, isOther ? " ≠" : ""), cells.map((cell) => element("td", {}, cell))));
-  return tableOf({ class: "pair" }, element("caption", {}, `Posts ${pair[0]} and ${pair[1]}`), row(head("col", "Part"), heads), rows);
+  const caption = element("caption", {}, `Posts ${pair[0]} and ${pair[1]}`);
+  return tableOf({ class: "pair" }, caption, row(head("col", "Part"), heads), rows);
 }
 
 const FOUND_BY = {

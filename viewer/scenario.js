@@ -3,7 +3,8 @@
 const LIES = {
   silent: "says nothing",
   equivocate: "hands out shards of two batches in its own lane: of one to even nodes, of another to odd ones",
-  echo_split: "echoes the shard that it gets to even nodes alone, and tells odd ones that it is ready for a root that nobody sent",
+  echo_split:
+    "echoes the shard that it gets to even nodes alone, and tells odd ones that it is ready for a root that nobody sent",
   bval_both: "supports and accepts both bits in each round (BVAL 0 and 1, AUX 0 and 1)",
   false_share: "shows a share of the coin of its own making (a COIN whose branch leads nowhere)",
   babble: "sends back what it hears with a bit turned, and a byte that is no vote",
