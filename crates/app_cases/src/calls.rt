@@ -17,8 +17,8 @@ pub(crate) trait Host: Abort + Threads + Wait + Sync {}
 
 impl<R: Abort + Threads + Wait + Sync> Host for R {}
 
-// What a call is given: its words, its input and the length of the pieces in which it comes, and the numbers of the take, of the
-// put on out and of the put on err that fail, 0 for none.
+// What a call is given: its words, its input, and the length of the pieces in which that comes. Of takes, puts on out and puts on
+// err the one with this number fails, none where it is 0.
 #[derive(Clone, Copy)]
 pub(crate) struct Request<'a> {
     pub(crate) words: &'a [&'a str],

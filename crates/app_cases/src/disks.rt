@@ -10,9 +10,9 @@ use hb_rules::{Fate, Report};
 use std::alloc::{AllocError, Global};
 use std::test::Fail;
 
-// Runs the four nodes with one stop. However early or late it comes, and whatever the crash leaves, the actor begins again at once,
-// and all nodes close all four batches. What it had posted it posts again, which is its first entry at least where the stop comes after
-// the calls that make the journal and that entry, and not after the last call of its disk.
+// Runs the four nodes with one stop. However early or late it comes, and whatever the crash leaves, the actor begins again at
+// once, and all nodes close all four batches. What it had posted it posts again. That is its first entry at least where the stop
+// comes after the calls that make the journal and that entry, and not after the last call of its disk.
 fn check_stop(
     rt: &impl Host,
     alloc: Global,
@@ -62,10 +62,10 @@ fn lane_1_has(report: &Report, fate: Fate) -> bool {
     })
 }
 
-// The journal of a lane is made by six calls of its disk, and each entry by four. Lane 1 of node 1 has nine: the shards of its node's
-// proposal; Echo; Ready; Delivered with what it begins round 0 with; Aux; Pick with its share; since the coins of rounds 0 and 1 are
-// both 1, Decided with what it begins round 1 with; its Aux; and its Pick with its share. These are the last calls for the first
-// entry, for the seventh, which has Decided, and for the ninth.
+// The journal of a lane is made by six calls of its disk, and each entry by four. Lane 1 of node 1 has nine. The first four are
+// the shards of its node's proposal; Echo; Ready; Delivered with what it begins round 0 with. The others are Aux; Pick with its
+// share; Decided with what it begins round 1 with, since the coins of rounds 0 and 1 are both 1; its Aux; its Pick with its share.
+// These are the last calls for the first entry, for the seventh, which has Decided, and for the ninth.
 const FIRST_ENTRY: u32 = 10;
 
 const DECIDED: u32 = 34;
@@ -87,8 +87,8 @@ fn node_1(alloc: Global, call: u32) -> Result<String, AllocError> {
     Ok(ledger)
 }
 
-// What a run prints if this call of the disk of lane 1 of node 1 fails. If it is one up to the first entry no shard is sent. If it
-// is a later one, the three other nodes are enough to deliver the proposal. A call that is never made can't fail.
+// What a run prints if this call of the disk of lane 1 of node 1 fails. If it is one up to the first entry no shard is sent. If
+// it is a later one, the three other nodes are enough to deliver the proposal. A call that is never made can't fail.
 fn text_of_fault(alloc: Global, call: u32) -> Result<String, AllocError> {
     let other = ("running", if call > FIRST_ENTRY { ALL } else { WITHOUT_1 });
     let ledger = node_1(alloc, call)?;
@@ -97,8 +97,8 @@ fn text_of_fault(alloc: Global, call: u32) -> Result<String, AllocError> {
     text(alloc, FOUR_FRONT, &[other, first, other, other], 0)
 }
 
-// Checks that a run in which that call fails ends with 0 and prints that text. It checks the 20 ends and their fates, too: the lane
-// alone has ended, since its journal failed, if the call is made at all.
+// Checks that a run in which that call fails ends with 0 and prints that text. It checks the 20 ends and their fates, too: the
+// lane alone has ended, since its journal failed, if the call is made at all.
 fn check_fault(rt: &impl Host, alloc: Global, call: u32) -> Result<(), Fail> {
     let keys = fault_at(alloc, 1, 1, call)?;
     let answer = run_four(rt, alloc, keys.as_str())?;

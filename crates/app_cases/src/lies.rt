@@ -34,9 +34,9 @@ fn posts_of_liar(
 // A liar that goes on is asked to hear at most so many posts.
 const ALL: u32 = 4_194_304;
 
-// The first bytes of what a liar posts. Where it speaks at once it sends each node a VAL. The three correct nodes send it a VAL each,
-// and these are the first posts that reach it: one that splits its Echo answers with one to nodes 0 and 2 and a Ready to nodes 1 and
-// 3, one that babbles with a byte of no vote and the VAL with one bit turned.
+// The first bytes of what a liar posts. Where it speaks at once it sends each node a VAL. The three correct nodes send it a VAL
+// each, and these are the first posts that reach it. One that splits its Echo answers with one to nodes 0 and 2 and a Ready to
+// nodes 1 and 3. One that babbles answers with a byte of no vote and the VAL with one bit turned.
 #[test]
 fn posts_of_liars(rt: HostRuntime) -> Result<(), Fail> {
     let alloc = rt.alloc();

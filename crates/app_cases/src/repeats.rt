@@ -20,8 +20,8 @@ fn begins_with_all(after: &[Post], before: &[Post], node: u8, actor: u8) -> bool
         .all(|old| again.next().is_some_and(|new| *new == *old))
 }
 
-/// Whether an actor that posts a vote again posts from there on all that it had posted, in that order, before anything else. An actor
-/// that never began again posts none twice.
+/// Whether an actor that posts a vote again posts from there on all that it had posted, in that order, before anything else. An
+/// actor that never began again posts none twice.
 pub fn has_posted_all_again(report: &Report, node: u8, actor: u8) -> bool {
     let history = report.history.as_slice();
     for (place, post) in history.iter().enumerate() {

@@ -63,8 +63,8 @@ fn put_or_take<R: Wait>(rt: &R, left: &Mutex<u64>, rounds: &AtomicU64, node: usi
     }
 }
 
-// No worker may leave before all were started, nor one whose node gets something to do in the last round of another: the first node
-// has nothing to do until the last one's worker runs.
+// No worker may leave before all were started, nor one whose node gets something to do in the last round of another. Here the
+// first node has nothing to do until the last one's worker runs.
 #[test]
 fn the_first_wait_for_the_last(rt: HostRuntime) -> Result<(), Fail> {
     let left = Mutex::new(0u64);

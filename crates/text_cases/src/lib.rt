@@ -1,4 +1,4 @@
-//! Reports made by hand, the statuses of their nodes, their texts, and what observers take from them; and texts of histories, what is
+//! Reports made by hand, the statuses of their nodes, their texts, and what observers take from them. Texts of histories, what is
 //! read in them, and the verdicts of their audit. `tools/oracles/run` makes texts and answers: its checks run_texts, soak_texts,
 //! full_texts, trace_texts, observed_posts, observed_texts and agreeing_observers.
 //!

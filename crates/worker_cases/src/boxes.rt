@@ -104,9 +104,9 @@ fn count_posts(report: &Report) -> (u64, u64) {
     (reaching, own)
 }
 
-// The number of each post that reaches node 3 comes into its mailbox once, and no worker leaves before it is taken. So the liar there
-// is asked to hear as often as the scenario says, if so many posts reach it; what it says stands in the history; and each box of the cast
-// is dropped once, be it asked for or not.
+// The number of each post that reaches node 3 comes into its mailbox once, and no worker leaves before it is taken. So the liar
+// there is asked to hear as often as the scenario says, if so many posts reach it, and what it says stands in the history. Each
+// box of the cast is dropped once, be it asked for or not.
 #[test]
 fn boxes_are_asked_and_dropped(rt: HostRuntime) -> Result<(), Fail> {
     let alloc = rt.alloc();

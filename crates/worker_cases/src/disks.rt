@@ -6,15 +6,15 @@ use app_cases::{has_posted_all_again, posts_twice};
 use std::alloc::{AllocError, Global};
 use std::test::Fail;
 
-// The journal of an actor is made by six calls of its disk, and each entry by four. A lane writes two entries at least, whatever it
-// hears, and so does a desk that closes the epoch. These are the last calls for the first entry and for the second.
+// The journal of an actor is made by six calls of its disk, and each entry by four. A lane writes two entries at least, whatever
+// it hears, and so does a desk that closes the epoch. These are the last calls for the first entry and for the second.
 const FIRST_ENTRY: u32 = 10;
 
 const SECOND_ENTRY: u32 = 14;
 
-// Runs the four nodes with one stop, with one worker and with four. However early or late it comes, and whatever the crash leaves, the
-// actor begins again, and its node runs. What it had posted it posts again: nothing where the stop comes before it has the first
-// entry, and that entry at least where it comes in the calls of the second.
+// Runs the four nodes with one stop, with one worker and with four. However early or late it comes, and whatever the crash
+// leaves, the actor begins again, and its node runs. What it had posted it posts again. That is nothing where the stop comes
+// before it has the first entry, and that entry at least where it comes in the calls of the second.
 fn check_stop(
     rt: &impl Host,
     alloc: Global,
