@@ -72,8 +72,8 @@ impl Liar for Doubtful {
     fn hear(&mut self, _alloc: Global, _me: &LiarSeat, _post: &Post, _lies: &mut Lies) {}
 }
 
-// The three correct nodes propose first, so the two votes are posts 3 and 4. A node may support both bits of a round (kind 6), and
-// may vote for one of them (kind 7).
+// The three correct nodes propose first, so the two votes are posts 3 and 4. A node may support both bits of a round (kind 6),
+// and may vote for one of them (kind 7).
 #[test]
 fn two_votes_of_a_liar(rt: HostRuntime) -> Result<(), Fail> {
     check_four_coins(&rt, rt.alloc())?;

@@ -1,7 +1,7 @@
-//! One node alone, over fourteen epochs. By a model of the rules in Python its lane casts 260 votes, in 156 entries of its journal,
-//! and its desk 42 votes, in 15 entries. A journal is opened by 6 calls of its disk, an entry is written by 4, and 64 entries are
-//! folded by 9 before the next. So the lane's disk is called 648 times, with folds at calls 263 to 271 and 524 to 532, and the
-//! desk's 66 times. `tools/oracles/run journals_of_one` counts all this again.
+//! One node alone, over fourteen epochs. By a model of the rules in Python its lane casts 260 votes, in 156 entries of its
+//! journal, and its desk 42 votes, in 15 entries. A journal is opened by 6 calls of its disk, an entry is written by 4, and 64
+//! entries are folded by 9 before the next. So the lane's disk is called 648 times, with folds at calls 263 to 271 and 524 to
+//! 532, and the desk's 66 times. `tools/oracles/run journals_of_one` counts all this again.
 
 use crate::calls::{Answer, Coins, Host, check_ran, run};
 use crate::repeats::has_posted_all_again;

@@ -158,8 +158,8 @@ pub(crate) fn traced(
     Ok((trace, answer))
 }
 
-// Checks that what is printed of a run of the four nodes, with these keys besides, is found legal, with as many posts as its history
-// has.
+// Checks that what is printed of a run of the four nodes, with these keys besides, is found legal, with as many posts as its
+// history has.
 fn check_legal(rt: &impl Host, alloc: Global, keys: &str) -> Result<(), AllocError> {
     let scenario = four(alloc, keys)?;
     let (trace, answer) = traced(rt, alloc, scenario.as_str())?;

@@ -7,11 +7,13 @@ use crate::texts::check_one_coins;
 use std::alloc::{AllocError, Global};
 use std::test::Fail;
 
-// The number of a post of the one node's history, the line in its place, or none where its last digit is another, and what is answered.
+// The number of a post of the one node's history, the line in its place, or none where its last digit is another, and what is
+// answered.
 type Bend = (usize, &'static str, &'static str);
 
-// The node is alone, so all counts are one. Its 23 posts are, in this order: the desk's Propose; in the broadcast Val, Echo, Ready and
-// Delivered; in each of the three rounds Est, Bval, Aux, Pick and Coin, all for 1; Decided; and the desk's NoMore and Closed.
+// The node is alone, so all counts are one. Its 23 posts are, in this order: the desk's Propose; in the broadcast Val, Echo,
+// Ready and Delivered; in each of the three rounds Est, Bval, Aux, Pick and Coin, all for 1; Decided; and the desk's NoMore and
+// Closed.
 const BENDS: [Bend; 18] = [
     // there is no such node, no such address for a proposal, and no lane proposes
     (

@@ -64,8 +64,8 @@ fn lane_1_has(report: &Report, fate: Fate) -> bool {
 
 // The journal of a lane is made by six calls of its disk, and each entry by four. Lane 1 of node 1 has nine. The first four are
 // the shards of its node's proposal; Echo; Ready; Delivered with what it begins round 0 with. The others are Aux; Pick with its
-// share; Decided with what it begins round 1 with, since the coins of rounds 0 and 1 are both 1; its Aux; its Pick with its share.
-// These are the last calls for the first entry, for the seventh, which has Decided, and for the ninth.
+// share; Decided with what it begins round 1 with, since the coins of rounds 0 and 1 are both 1; its Aux; its Pick with its
+// share. These are the last calls for the first entry, for the seventh, which has Decided, and for the ninth.
 const FIRST_ENTRY: u32 = 10;
 
 const DECIDED: u32 = 34;

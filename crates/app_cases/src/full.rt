@@ -68,9 +68,9 @@ const COINS: Coins = Coins {
     seed: 0,
 };
 
-// The first bytes of votes, and how long each such vote is. A batch has its count in 2 bytes, and 64 transactions of 256 with their
-// lengths in 2: 2 + 64 * 258 = 16,514. Its frame has its length in 4 bytes before it, and k = 16 - 2 * 5 = 6 shards make it up:
-// 16,518 / 6 = 2,753, and nothing is left. A branch over 16 leaves has 4 digests of 32: 128.
+// The first bytes of votes, and how long each such vote is. A batch has its count in 2 bytes, and 64 transactions of 256 with
+// their lengths in 2: 2 + 64 * 258 = 16,514. Its frame has its length in 4 bytes before it, and k = 16 - 2 * 5 = 6 shards make
+// it up: 16,518 / 6 = 2,753, and nothing is left. A branch over 16 leaves has 4 digests of 32: 128.
 const LENGTHS: [(u8, usize); 3] = [
     // Val: kind, epoch and target, the root, the length in 4, the shard, the branch: 3 + 32 + 4 + 2,753 + 128
     (0x01, 2_920),

@@ -1,5 +1,5 @@
-//! Scenarios of four nodes that submit a transaction each, keys of scenarios, the coins of the four nodes and of one alone, and the
-//! texts of runs.
+//! Scenarios of four nodes that submit a transaction each, keys of scenarios, the coins of the four nodes and of one alone, and
+//! the texts of runs.
 
 use crate::calls::Coins;
 use std::alloc::{AllocError, Global};

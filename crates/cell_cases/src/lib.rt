@@ -1,6 +1,6 @@
-//! A lane of a correct node, and a node that lies, that are started over a shared book and put behind their locks: a caller of cells, with
-//! contracts of its own. Beside it stand the mailboxes and the pool of workers of a run on threads, and the line of envelopes of a run on
-//! one thread.
+//! A lane of a correct node, and a node that lies, that are started over a shared book and put behind their locks: a caller of
+//! cells, with contracts of its own. Beside it stand the mailboxes and the pool of workers of a run on threads, and the line of
+//! envelopes of a run on one thread.
 #![tactic(auto)]
 
 mod beginning;

@@ -99,8 +99,8 @@ fn turn_often<'a, 'b, K: Naming, J: RunName, R: Wait>(
     turns_of::<SharedBook<'a, R, K>, J, R>(rt, alloc, script, hears, shared, shared, seat, mail)
 }
 
-/// Node 0, which lies and answers each of so many posts with a lie, begins over a new book, and is served four times. None where there is no
-/// mailbox for it. The error is want of memory.
+/// Node 0, which lies and answers each of so many posts with a lie, begins over a new book, and is served four times. None
+/// where there is no mailbox for it. The error is want of memory.
 pub fn lie_and_hear<K: Naming, R: Wait>(
     rt: &R,
     alloc: Global,

@@ -251,8 +251,8 @@ fn is_kept(
     Ok(outcome == want || outcome == want.with(most))
 }
 
-// The recovery of a new disk takes the calls 1 to 6, three appends 7 to 18, and the fold 19 to 27. Each of them is stopped or fails.
-// What was acknowledged is found, and of the append that failed the entry or nothing.
+// The recovery of a new disk takes the calls 1 to 6, three appends 7 to 18, and the fold 19 to 27. Each of them is stopped or
+// fails. What was acknowledged is found, and of the append that failed the entry or nothing.
 #[test]
 fn each_call_is_stopped_or_fails(rt: HostRuntime) -> Result<(), Fail> {
     let alloc = rt.alloc();

@@ -22,8 +22,8 @@ fn audit_of(
     Ok(audit(alloc, &mut source))
 }
 
-// A desk may propose at once, and no more than that; a proposal may be said again. A line that breaks the form is told of whatever
-// stands before it.
+// A desk may propose at once, and no more than that; a proposal may be said again. A line that breaks the form is told of
+// whatever stands before it.
 const ROWS: [(&str, Result<Verdict, TraceFault>); 8] = [
     ("end 0\n", Ok(Verdict::Legal { posts: 0 })),
     (

@@ -9,7 +9,8 @@ use hb_rules::Report;
 use ledger_text::{print_run, print_soak};
 use std::alloc::Global;
 
-/// Prints the text of a run, and behind it that of the generated run of this number. After an error a front of the two was written.
+/// Prints the text of a run, and behind it that of the generated run of this number. After an error a front of the two was
+/// written.
 #[tactic(auto, using(script_fault::proofs::Writing::writes_front))]
 pub fn print_both<O: Sink>(
     alloc: Global,

@@ -1,4 +1,5 @@
-//! A caller of runs with workers. What it promises is proved by the contract of the call alone, and so whatever its threads do when.
+//! A caller of runs with workers. What it promises is proved by the contract of the call alone, and so whatever its threads do
+//! when.
 
 ghost use Rattle.std.specs.Prelude.{◌≡◌, map, Ok, IfOk};
 ghost use Rattle.net_script.specs.Scenario.{told};
@@ -18,11 +19,11 @@ use std::alloc::{AllocError, Global};
 use std::sync::Wait;
 use std::thread::Threads;
 
-/// Runs the scenario that the bytes say to this cast, through this gate: the status, and what was printed. It may wait. How many
-/// workers run it, and when they enter the gate, no clause tells. After 0, 4 and 5 the report tells a run of
-/// exactly that scenario, with this status, whose text was printed. Its history is legal, nothing is left to do, and no more was done
-/// than is planned. Where no two hashed strings share a digest, of any two correct nodes' ledgers one begins with the other, each list
-/// has the batches of n - f nodes at least, and correct nodes' batches are unaltered.
+/// Runs the scenario that the bytes say to this cast, through this gate: the status, and what was printed. It may wait. How
+/// many workers run it, and when they enter the gate, no clause tells. After 0, 4 and 5 the report tells a run of exactly that
+/// scenario, with this status, whose text was printed. Its history is legal, nothing is left to do, and no more was done than
+/// is planned. Where no two hashed strings share a digest, of any two correct nodes' ledgers one begins with the other, each
+/// list has the batches of n - f nodes at least, and correct nodes' batches are unaltered.
 pub fn run_gated<R: Threads + Wait + Sync, G: Gate>(
     rt: &R,
     alloc: Global,

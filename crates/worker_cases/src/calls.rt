@@ -151,7 +151,8 @@ pub(crate) fn run_workers(
     run_workers_with(rt, alloc, front, keys, workers, liars, statuses)
 }
 
-// Runs a scenario with these keys besides, with one worker and with four. It has this status and this text, whatever the schedule.
+// Runs a scenario with these keys besides, with one worker and with four. It has this status and this text, whatever the
+// schedule.
 pub(crate) fn check_whole(
     rt: &impl Host,
     alloc: Global,
@@ -174,8 +175,8 @@ pub(crate) fn has_lines(text: &[u8], lines: &str) -> bool {
         .any(|part| part == lines.as_bytes())
 }
 
-// Runs a scenario with these keys besides, with one worker and with four. It has one of these statuses, and its text has these lines,
-// whatever the schedule.
+// Runs a scenario with these keys besides, with one worker and with four. It has one of these statuses, and its text has these
+// lines, whatever the schedule.
 pub(crate) fn check_lines(
     rt: &impl Host,
     alloc: Global,

@@ -1,5 +1,5 @@
-//! Schedules that no run on one thread can have: gates hold actors of node 0 until others have entered. Another gate sees in which order
-//! a worker serves the lanes of a node.
+//! Schedules that no run on one thread can have: gates hold actors of node 0 until others have entered. Another gate sees in
+//! which order a worker serves the lanes of a node.
 
 use crate::calls::{Answer, Host, check_any, check_text, run_with};
 use crate::texts::{FOUR, text_without, with_workers};
@@ -89,15 +89,15 @@ impl Desks {
         }
     }
 
-    // While lane 0 of node 0 is held, nobody has anything of its broadcast. Each of these desks then hears what its lanes 1, 2 and 3
-    // have delivered and decided, says that it wants no more, and hears that lane 0 has decided 0: seven posts.
+    // While lane 0 of node 0 is held, nobody has anything of its broadcast. Each of these desks then hears what its lanes 1, 2
+    // and 3 have delivered and decided, says that it wants no more, and hears that lane 0 has decided 0: seven posts.
     fn have_closed(&self) -> bool {
         is_at_least(&self.first, 7) && is_at_least(&self.second, 7) && is_at_least(&self.third, 7)
     }
 }
 
-// Holds lane 0 of node 0 at its first entry until lane 1 has entered and the other nodes have closed the epoch, and lane 1 until lane 0
-// has entered. It counts the entries of both, and the holds that have ended by themselves.
+// Holds lane 0 of node 0 at its first entry until lane 1 has entered and the other nodes have closed the epoch, and lane 1
+// until lane 0 has entered. It counts the entries of both, and the holds that have ended by themselves.
 #[derive(Drop)]
 struct LateLane {
     lane_0: AtomicU64,
@@ -136,8 +136,8 @@ fn lane_0_is_late(rt: HostRuntime) -> Result<(), Fail> {
     Ok(())
 }
 
-// Holds lane 0 of node 0 at its first entry until the other nodes have closed the epoch, and counts the entries of other actors of node 0
-// meanwhile.
+// Holds lane 0 of node 0 at its first entry until the other nodes have closed the epoch, and counts the entries of other actors
+// of node 0 meanwhile.
 #[derive(Drop)]
 struct LateNode {
     entered: AtomicU64,
@@ -227,8 +227,8 @@ impl Gate for FourLanes {
     }
 }
 
-// Each lane of node 0 has the number of what its desk proposes before a worker begins, and worker w begins at lane w. So four workers hold
-// four lanes at once, and three never do.
+// Each lane of node 0 has the number of what its desk proposes before a worker begins, and worker w begins at lane w. So four
+// workers hold four lanes at once, and three never do.
 #[test]
 fn four_lanes_at_once(rt: HostRuntime) -> Result<(), Fail> {
     let gate = FourLanes::new();

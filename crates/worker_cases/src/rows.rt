@@ -10,8 +10,8 @@ use liar_cast::Liar;
 use std::alloc::{AllocError, Global};
 use std::test::Fail;
 
-// Scenarios of one node, up to their workers, their texts and their statuses. One node alone casts the same votes in every schedule.
-// Its coins of rounds 0, 1 and 2 are 0, 0 and 1 with the seed 0.
+// Scenarios of one node, up to their workers, their texts and their statuses. One node alone casts the same votes in every
+// schedule. Its coins of rounds 0, 1 and 2 are 0, 0 and 1 with the seed 0.
 const ALONE: [(&str, &str, u8); 6] = [
     (
         r#"{"nodes":1,"faulty":0,"epochs":1,"rounds":3,"seed":0,"submit":[{"node":0,"tx":"6869"}]"#,
@@ -126,7 +126,8 @@ fn check_stops(rt: &impl Host, alloc: Global, actor: u8, call: u32) -> Result<()
     Ok(())
 }
 
-// One node alone casts the same votes in every schedule: at the first calls of each disk, and at those of the first fold of the lane's.
+// One node alone casts the same votes in every schedule: at the first calls of each disk, and at those of the first fold of the
+// lane's.
 #[test]
 fn one_node_that_stops(rt: HostRuntime) -> Result<(), Fail> {
     for call in 1..41u32 {
@@ -277,8 +278,8 @@ fn first_bytes(alloc: Global, answer: &Answer, node: u8) -> Result<Vec<u8>, Allo
     Ok(firsts)
 }
 
-// Two liars among seven nodes, each at its own node: one sends each node a VAL at its start, and the other answers the first post that
-// reaches it by a byte of no vote and that post with a bit turned.
+// Two liars among seven nodes, each at its own node: one sends each node a VAL at its start, and the other answers the first
+// post that reaches it by a byte of no vote and that post with a bit turned.
 #[test]
 fn two_liars(rt: HostRuntime) -> Result<(), Fail> {
     let alloc = rt.alloc();

@@ -4,8 +4,8 @@ use crate::calls::{check_any, run};
 use crate::texts::with_workers;
 use std::test::Fail;
 
-// Seven nodes, of which two lie. What one of the liars says is dropped on its way to others each second time. Much is late, much comes
-// twice, and lanes and desks of four nodes lose their power.
+// Seven nodes, of which two lie. What one of the liars says is dropped on its way to others each second time. Much is late,
+// much comes twice, and lanes and desks of four nodes lose their power.
 const STORM: &str = r#"{"nodes":7,"faulty":2,"epochs":2,"batch":2,"seed":11,
 "submit":[{"node":0,"tx":"61"},{"node":1,"tx":"62"},{"node":2,"tx":"63"},{"node":3,"tx":"64"},{"node":4,"tx":"65"},{"node":0,"tx":"66"}],
 "liars":[{"node":5,"name":"equivocate"},{"node":6,"name":"babble","hears":200}],
