@@ -1,7 +1,8 @@
 //! Calls of the program over memory: what it answers, prints and tells for scenarios by hand, and what it leaves of its report.
 //!
 //! `callers` is as any user might write it, and what is proved of it stands on the contracts of hb_app and trace_audit alone.
-//! Tests of runs on threads use the rest that is public: `counting` has a gate, `false_frame` a liar, and `repeats` questions.
+//! Tests of runs on threads use the rest that is public: `counting` has a gate, `false_frame` and `flooding` have liars, and
+//! `repeats` has questions.
 #![tactic(auto)]
 
 #[cfg(test)]
@@ -23,6 +24,7 @@ mod disks;
 #[cfg(test)]
 mod entries;
 mod false_frame;
+mod flooding;
 #[cfg(test)]
 mod four;
 #[cfg(test)]
@@ -48,4 +50,5 @@ mod texts;
 pub use callers::{run_bytes, trace_and_audit};
 pub use counting::CountingGate;
 pub use false_frame::FalseFrame;
+pub use flooding::Flooding;
 pub use repeats::{has_posted_all_again, posts_twice};

@@ -2,6 +2,7 @@
 
 ghost use Rattle.std.specs.Prelude.{codes};
 
+use crate::Flooding;
 use crate::calls::{Answer, Host, Request, call_with, first_bytes, has_first_bytes, run};
 use crate::texts::four;
 use hb_base::LiarName;
@@ -194,34 +195,6 @@ fn boxes_are_asked_and_dropped(rt: HostRuntime) -> Result<(), Fail> {
     Ok(())
 }
 
-// A liar that says at its start all the lies that it may and one more, and another each time it hears. One that renews puts a new
-// list in the place of the one that it is handed then, which takes as many again.
-#[derive(Drop)]
-struct Flooding {
-    renews: bool,
-}
-
-impl Liar for Flooding {
-    ghost called = { λ _. codes "flooding" };
-
-    fn name(&self) -> LiarName {
-        LiarName::of("flooding").unwrap()
-    }
-
-    fn start(&mut self, alloc: Global, _me: &LiarSeat, lies: &mut Lies) {
-        for _ in 0..4_097u32 {
-            lies.say(alloc, 0, To::Book, &[0xff]);
-        }
-    }
-
-    fn hear(&mut self, alloc: Global, me: &LiarSeat, _post: &Post, lies: &mut Lies) {
-        if self.renews {
-            *lies = Lies::new(alloc, me.node);
-        }
-        lies.say(alloc, 0, To::Book, &[0xfe]);
-    }
-}
-
 // How many posts of its first byte a liar has that floods, and how many in all.
 fn posts_of_flooding(
     rt: &impl Host,
@@ -229,7 +202,7 @@ fn posts_of_flooding(
     renews: bool,
 ) -> Result<(usize, usize), AllocError> {
     let mut liars: Vec<Box<dyn Liar>> = Vec::new(alloc);
-    liars.push(Box::new(alloc, Flooding { renews })?)?;
+    liars.push(Box::new(alloc, Flooding::new(renews))?)?;
     let scenario = with_liar(alloc, "flooding", 100)?;
     let given = Request::new(&["run"], scenario.as_str());
     let answer = call_with(rt, alloc, &given, liars)?;

@@ -4,6 +4,7 @@ ghost use Rattle.std.specs.Prelude.{codes};
 
 use crate::calls::{Answer, Host, run_workers_with};
 use crate::texts::FOUR;
+use app_cases::Flooding;
 use hb_base::LiarName;
 use hb_rules::Report;
 use hb_wire::{Post, To, reaches};
@@ -135,37 +136,14 @@ fn boxes_are_asked_and_dropped(rt: HostRuntime) -> Result<(), Fail> {
     Ok(())
 }
 
-// A liar that says as much at its start as a node may, and goes on with lies of which none counts as taken.
-#[derive(Drop)]
-struct Endless;
-
-impl Liar for Endless {
-    ghost called = { λ _. codes "endless" };
-
-    fn name(&self) -> LiarName {
-        LiarName::of("endless").unwrap()
-    }
-
-    fn start(&mut self, alloc: Global, _me: &LiarSeat, lies: &mut Lies) {
-        for _lie in 0..4_096u32 {
-            lies.say(alloc, 0, To::Node(0), &[0xff]);
-        }
-    }
-
-    fn hear(&mut self, alloc: Global, me: &LiarSeat, _post: &Post, lies: &mut Lies) {
-        *lies = Lies::new(alloc, me.node);
-        lies.say(alloc, 0, To::Node(0), &[0xff]);
-    }
-}
-
-// Of a node that lies 4,096 posts stand, and no more.
+// Of a node that lies 4,096 posts stand, and no more, also where its own list would take more.
 #[test]
 fn no_more_than_a_liar_may_say(rt: HostRuntime) -> Result<(), Fail> {
     let alloc = rt.alloc();
-    let keys = r#","liars":[{"node":3,"name":"endless"}]"#;
+    let keys = r#","liars":[{"node":3,"name":"flooding"}]"#;
     for workers in [1, 4] {
         let mut cast: Vec<Box<dyn Liar>> = Vec::new(alloc);
-        cast.push(Box::new(alloc, Endless)?)?;
+        cast.push(Box::new(alloc, Flooding::new(true))?)?;
         let answer = run_workers_with(&rt, alloc, FOUR, keys, workers, cast, &[0])?;
         let (reaching, own) = count_posts(&answer.report);
         assert!(rt; own == 4_096 && reaching > 3, "{workers}");
