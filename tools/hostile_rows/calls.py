@@ -26,6 +26,17 @@ def read_legal(bench, given, statuses=ENDS, limits=Limits()):
     return posts
 
 
+def place_of_difference(found, wanted):
+    """The first place in which two lists differ. Where one begins with the other it is the end of the shorter one."""
+    places = (place for place, pair in enumerate(zip(found, wanted)) if pair[0] != pair[1])
+    return next(places, min(len(found), len(wanted)))
+
+
+def post_at(posts, place):
+    """The post at a place of a list, or that there is none."""
+    return posts[place] if place < len(posts) else "none"
+
+
 def difference(found, wanted):
     """The first line in which two texts differ, if they do."""
     lines = (text.decode(errors="replace").split("\n") for text in (found, wanted))

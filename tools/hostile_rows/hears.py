@@ -6,7 +6,7 @@ post with the last bit turned. It says both to all, in the lane of the post. Fir
 import functools
 import json
 
-from hostile_rows.calls import read_legal
+from hostile_rows.calls import place_of_difference, read_legal
 from hostile_rows.texts import Wrong
 
 MOST_LIES, ALL = 4096, 4194304
@@ -48,7 +48,7 @@ def check(bench, nodes, hears, keys):
             raise Wrong(f"only {len(heard)} posts come to node {node}")
         said, want = [post for post in posts if post[0] == node], answers(node, heard)
         if said != want:
-            place = next((place for place, pair in enumerate(zip(said, want)) if pair[0] != pair[1]), min(len(said), len(want)))
+            place = place_of_difference(said, want)
             return f"node {node} has {len(said)} posts in the place of {len(want)}; number {place} is the first that differs"
         if count == ALL and len(said) != MOST_LIES:
             return f"node {node} has {len(said)} posts, and a liar that never ends has {MOST_LIES}"

@@ -9,7 +9,7 @@ import os
 import shutil
 import threading
 
-from hostile_rows.calls import compare, read_legal
+from hostile_rows.calls import compare, place_of_difference, post_at, read_legal
 from hostile_rows.program import Limits, set_limits
 from hostile_rows.texts import Wrong
 
@@ -125,8 +125,9 @@ def check_alone(bench, workers, number):
     """With no thread but the first, the caller runs each worker: the order of the first posts shows it."""
     found = first_posts(bench, with_workers(bench.scenario("four_nodes.json"), workers), number)
     if found != ALONE:
-        place = next(place for place, pair in enumerate(zip(found, ALONE)) if pair[0] != pair[1])
-        return f"post {place} is {found[place]} (node, actor, kind), and {ALONE[place]} where the caller runs the workers"
+        place = place_of_difference(found, ALONE)
+        post = post_at(found, place)
+        return f"post {place} is {post} (node, actor, kind), and {ALONE[place]} where the caller runs the workers"
     return None
 
 

@@ -2,7 +2,7 @@
 import functools
 import json
 
-from hostile_rows.calls import read_legal
+from hostile_rows.calls import place_of_difference, post_at, read_legal
 
 NODES = (1, 2, 3, 4, 5, 6, 7, 10, 16)
 PROPOSE, VAL, ECHO = "10", "01", "02"
@@ -47,9 +47,8 @@ def check(bench, nodes, liar, name):
     want = wanted(nodes, liar, name)
     found = [(node, actor, code[:2]) for node, actor, _, code in read_legal(bench, scenario(nodes, liar, name))][: len(want)]
     if found != want:
-        place = next((place for place, pair in enumerate(zip(found, want)) if pair[0] != pair[1]), len(found))
-        post = found[place] if place < len(found) else "none"
-        return f"post {place} is {post} (node, actor, kind) in the place of {want[place]}"
+        place = place_of_difference(found, want)
+        return f"post {place} is {post_at(found, place)} (node, actor, kind) in the place of {want[place]}"
     return None
 
 
