@@ -2,9 +2,12 @@
 
 use node_workers::serve_all;
 use std::sync::atomic::{AtomicU64, Ordering};
+use std::io;
+use std::rt::Clock;
 use std::sync::{Mutex, Wait};
 use std::test::*;
 use std::thread::Threads;
+use std::time::Instant;
 
 // Takes one of the jobs, unless there is none.
 fn take_one<R: Wait>(rt: &R, left: &Mutex<u64>) -> bool {
@@ -151,29 +154,33 @@ fn find_or_look(looks: &Looks, node: usize) -> bool {
     true
 }
 
-// How often fifteen workers look that find nothing, while another finds something again and again.
-fn count_looks(rt: &(impl Threads + Wait + Sync)) -> u64 {
+// How often fifteen workers look that find nothing, while another finds something again and again, and how many milliseconds
+// that takes.
+fn count_looks(rt: &(impl Threads + Wait + Clock + Sync)) -> io::Result<(u64, u128)> {
     let looks = Looks {
         of_first: AtomicU64::new(0),
         of_others: AtomicU64::new(0),
     };
+    let began = Instant::now(rt)?;
     serve_all(
         rt,
         SIXTEEN,
         1,
         &|node: usize, _worker: usize| find_or_look(&looks, node),
     );
-    looks.of_others.load(Ordering::SeqCst)
+    let took = began.elapsed(rt)?.as_millis();
+    Ok((looks.of_others.load(Ordering::SeqCst), took))
 }
 
-// Who has found nothing naps, and longer each time. So the fifteen together look seldom: a find takes some microseconds, and a
-// nap soon a thousandth of a second. Who does not nap is seen only while it runs beside the one that finds. So there are several
-// tries.
+// Who has found nothing naps for 20 millionths of a second, and twice as long each time up to a thousandth. So in some
+// milliseconds it looks once for each, and eight times more at most, however slow the machine is. Who does not nap is seen only
+// while it runs beside the one that finds. So there are several tries.
 #[test]
 fn who_finds_nothing_looks_seldom(rt: HostRuntime) -> Result<(), Fail> {
     for _try in 0..5u8 {
-        let looks = count_looks(&rt);
-        assert!(rt; looks > 0 && looks < FINDS / 4, "{looks}");
+        let (looks, took) = count_looks(&rt)?;
+        let most = took.saturating_add(8).saturating_mul(15);
+        assert!(rt; looks > 0 && u128::from(looks) <= most, "{looks}");
     }
     Ok(())
 }
