@@ -43,11 +43,11 @@ class Bench:
         """How the program ends with these words. Streams are those of `subprocess.run`."""
         if "stdin" not in streams:
             streams["input"] = given
-        how = {"stdout": subprocess.PIPE, "stderr": subprocess.PIPE, "timeout": SECONDS, "env": self.environment}
+        how = {"stdout": subprocess.PIPE, "stderr": subprocess.PIPE, "timeout": SECONDS, "env": self.environment, **streams}
         try:
-            ran = subprocess.run([self.program, *words], preexec_fn=functools.partial(set_limits, limits), **{**how, **streams})
+            ran = subprocess.run([self.program, *words], preexec_fn=functools.partial(set_limits, limits), **how)
         except subprocess.TimeoutExpired:
-            return Answer(f"none after {SECONDS} seconds", b"", b"")
+            return Answer(f"none after {how['timeout']} seconds", b"", b"")
         except (OSError, subprocess.SubprocessError) as fault:
             return Answer(f"none, since it does not start ({fault})", b"", b"")
         return Answer(ran.returncode, ran.stdout or b"", ran.stderr or b"")
