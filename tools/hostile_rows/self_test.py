@@ -1,4 +1,4 @@
-"""Which ways of misbehaving each row has to notice."""
+"""Which ways of misbehaving each row has to notice, and what it must not take for one."""
 import dataclasses
 import os
 
@@ -6,6 +6,8 @@ import os
 FAULTS = (
     ("limits", "crash", "run on four_nodes.json in 512 kB of stack"),
     ("limits", "half_by_memory", "trace on four_nodes.json in 8192 kB of stack"),
+    ("limits", "gives_up", "trace on workers.json in 262144 kB above the least memory"),
+    ("limits", "gives_up", "audit on the history of four_nodes in 8192 kB of stack"),
     ("limits", "parted", "run on four_nodes.json in 8192 kB of stack"),
     ("allocations", "parted", "one thread, no allocation"),
     ("allocations", "uncounted", "4 workers, run by the caller, no allocation"),
@@ -48,6 +50,8 @@ FAULTS = (
     ("largest", "lenient", "1048577 bytes"),
     ("votes", "crash", "longer posts in 512 kB of stack"),
     ("votes", "half_by_memory", "many posts in 8192 kB of stack"),
+    ("votes", "gives_up", "many posts in 65536 kB above the least memory"),
+    ("votes", "gives_up", "longer posts in 8192 kB of stack"),
     ("votes", "greedy", "100000 posts"),
     ("votes", "bent", "hb_votes, its words"),
     ("votes", "one_read", "hb_votes --full, 4095 bytes at a read"),
@@ -63,6 +67,19 @@ FAULTS = (
     ("answers", "hard_of_hearing", "echo_split hears 4194304, 1 workers"),
     ("answers", "tired", "bval_both among sixteen, 4 workers"),
 )
+
+# Ways of false_program that are no faults, and the faults that take the same way: they too hand on a text, or a scenario. The
+# case that notices such a fault has to be silent here. So it notices the fault, and not that a program stands in between.
+CONTROLS = {
+    "same_text": {"half_by_memory", "parted", "bent", "accuser", "exchanged", "content", "lenient", "falls", "shifted", "deaf"},
+    "same_keys": {"one_thread", "one_less", "fifo", "mixed", "restless", "no_stops", "no_stops_with_workers", "few_links",
+                  "few_submitted", "all_ears", "soon_spent", "eager", "tired", "hard_of_hearing"},
+}
+
+
+def control_of(fault):
+    """The control for a case that notices this fault."""
+    return next((control for control, faults in CONTROLS.items() if fault in faults), "itself")
 
 
 def bench_of(bench, row, fault):

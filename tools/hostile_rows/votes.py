@@ -10,13 +10,16 @@ import sys
 
 from hostile_rows import streams
 from hostile_rows.calls import compare
-from hostile_rows.limits import ABOVE, ABOVE_WITH_SMALL_STACK, STACKS, least_memory
-from hostile_rows.program import Limits, tell
+from hostile_rows.limits import ABOVE, ABOVE_WITH_SMALL_STACK, STACKS, Least, bounds_of
+from hostile_rows.program import tell
 from hostile_rows.texts import Wrong
 
 NO_MEMORY, FIRST_LINE = b"no memory\n", b"trace nodes 4 faulty 1 version 1 epochs 1 rounds 32 batch 64 seed 0 liars 8\n"
 UNKNOWN = ["--all"]
 FEW_POSTS, MANY_POSTS = 10, 100_000
+# What is far above the least memory, in kilobytes. The last of them suffices: no history of this row has a megabyte.
+FAR_ABOVE = (16384, 65536)
+AMPLE = FAR_ABOVE[-1]
 # The lines of this history get longer, so that memory may give out at any of them.
 LONG_LINES = 12
 
@@ -51,23 +54,11 @@ def of_long_lines():
     return tuple(FIRST_LINE + lines + b"end %d\n" % LONG_LINES for lines in (text, words))
 
 
-class Least:
-    """The least address space with which the program loads, in kilobytes. It is looked for where a case first asks for it."""
-
-    def __init__(self, bench):
-        self.bench, self.found = bench, None
-
-    def limits(self, above, stack=None):
-        """Limits of so much more address space, or of none, and of the stack."""
-        if above is not None and self.found is None:
-            self.found = least_memory(self.bench, UNKNOWN)
-        return Limits(memory=None if above is None else self.found + above, stack=stack)
-
-
-def check_limits(bench, given, whole, limits):
-    """The whole text with status 0, or with 9 the words of a beginning, in whole lines, and the line that tells why."""
+def check_limits(bench, given, whole, limits, is_ample):
+    """The whole text with status 0, or with 9 the words of a beginning, in whole lines, and the line that tells why. Where memory
+    suffices it is the whole text."""
     answer = bench.ask([], given, limits())
-    if answer.status != 9:
+    if answer.status != 9 or is_ample:
         return compare(answer, 0, whole)
     return compare(answer, 9, lines_of(whole, answer.out.count(b"\n")), NO_MEMORY)
 
@@ -108,14 +99,13 @@ def check_no_read(bench, path):
 
 def limit_cases(bench):
     histories = (("many", *of_votes(1000)), ("longer and longer", *of_long_lines()))
-    least = Least(bench)
-    amounts = [(above, None) for above in (*ABOVE, 16384, 65536)] + [(None, stack) for stack in STACKS]
+    least = Least(bench, UNKNOWN)
+    amounts = [(above, None) for above in (*ABOVE, *FAR_ABOVE)] + [(None, stack) for stack in STACKS]
     for above, stack in [*amounts, *((above, 512) for above in ABOVE_WITH_SMALL_STACK)]:
-        bounds = ((f"{above} kB above the least memory", above), (f"{stack} kB of stack", stack))
-        amount = ", ".join(bound for bound, limit in bounds if limit is not None)
+        limits, is_ample = functools.partial(least.limits, above, stack), above is None or above >= AMPLE
         for name, given, whole in histories:
-            call = functools.partial(check_limits, bench, given, whole, functools.partial(least.limits, above, stack))
-            yield f"{name} posts in {amount}", call
+            call = functools.partial(check_limits, bench, given, whole, limits, is_ample)
+            yield f"{name} posts in {bounds_of(above, stack)}", call
     yield f"{MANY_POSTS} posts", functools.partial(check_many, bench, least)
 
 
