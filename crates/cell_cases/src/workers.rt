@@ -1,9 +1,9 @@
 //! Workers that share jobs.
 
 use node_workers::serve_all;
-use std::sync::atomic::{AtomicU64, Ordering};
 use std::io;
 use std::rt::Clock;
+use std::sync::atomic::{AtomicU64, Ordering};
 use std::sync::{Mutex, Wait};
 use std::test::*;
 use std::thread::Threads;
