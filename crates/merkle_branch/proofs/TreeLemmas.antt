@@ -1,9 +1,9 @@
 -- What a tree keeps is a tree of its leaves.
-use Rattle.std.proofs.Common.{◌≡◌, ℕ, ◌+◌, ◌-◌, ◌*◌, ◌^◌, ◌<◌, ◌≤◌, List, length, take, get_or, sym, ap, ◌∙◌, subst, arith, inl, inr}
+use Rattle.std.proofs.Common.{◌≡◌, ℕ, ◌+◌, ◌-◌, ◌*◌, ◌^◌, ◌<◌, ◌≤◌, List, [], length, take, get_or, sym, ap, ap₂, ◌∙◌, subst, arith, inl, inr}
 use Rattle.std.specs.List.{All}
-use Rattle.std.proofs.lemmas.List.{get_or-take, get_or-drop, take-take, get_or-replicate, get_or_past, length-take-le, length-take}
+use Rattle.std.proofs.lemmas.List.{get_or-take, get_or-drop, take-take, get_or-replicate, get_or_past, get_or_default, length-take-le, length-take}
 use Rattle.std.proofs.lemmas.Bool.{cases_lt}
-use Rattle.merkle_branch.specs.Digests.{IsDigest, no_digest, height, root_of, top_digest}
+use Rattle.merkle_branch.specs.Digests.{IsDigest, no_digest, inner_digest, height, root_of, top_digest}
 use Rattle.merkle_branch.specs.Shapes.{IsPaddedTo16, HasAllLevels, HasParents, level_start}
 use Rattle.merkle_branch.proofs.Levels.{all_levels, digest_at-top}
 
@@ -62,3 +62,41 @@ last_is_root count h nodes digests tree fits view =
     ∙ digest_at-top (take count nodes) h inside
     ∙ ap (λ k. top_digest k (take count nodes)) is_height
     ∙ ap root_of view
+
+-- the parents stand among the first of all digests
+parents_front : (width : ℕ) (all : List (List ℕ)) → HasParents width all → HasParents width (take (2 * width - 1) all)
+parents_front width all parents i inside =
+    let kept : (k : ℕ) → k < 2 * width - 1 → get_or (take (2 * width - 1) all) k no_digest ≡ get_or all k no_digest = λ k low.
+    get_or-take (2 * width - 1) all k no_digest low
+    in
+    kept (width + i) (omega arith) ∙ parents i inside ∙ sym (ap₂ inner_digest (kept (2 * i) (omega arith)) (kept (2 * i + 1) (omega arith)))
+
+-- digests of which the first are leaves with their parents, and behind which others stand
+module _ (count h width : ℕ) (digests all now : List (List ℕ)) (size : length digests ≡ 16) (room : length all ≡ 31) (padded : IsPaddedTo16 count digests)
+    (some : 1 ≤ count) (is_height : h ≡ height count) (is_width : width ≡ 2 ^ h) (fits : count ≤ width) (small : width ≤ 16)
+    (same : take width all ≡ take width digests) (parents : HasParents width all) (view : take count digests ≡ now) where
+  -- as many of them as a tree has
+  front_size : length (take (2 * width - 1) all) + 1 ≡ 2 * width
+  front_size = omega (arith, length-take-le (2 * width - 1) all (omega arith))
+
+  front_leaves : take width (take (2 * width - 1) all) ≡ take width digests
+  front_leaves = take-take width (2 * width - 1) all (omega arith) ∙ same
+
+  -- are a tree
+  pub front_built : HasAllLevels count h (take (2 * width - 1) all)
+  front_built =
+      built count h width digests (take (2 * width - 1) all) size padded some is_height is_width fits small front_size front_leaves (parents_front width all parents)
+
+  -- of these leaves
+  pub front_view : take count (take (2 * width - 1) all) ≡ now
+  front_view = same_view count width digests (take (2 * width - 1) all) front_leaves fits ∙ view
+
+  -- whose last digest is the root
+  pub front_root : get_or all (2 * width - 2) [] ≡ root_of now
+  front_root =
+      let nodes = take (2 * width - 1) all in
+      let last : length nodes - 1 ≡ 2 * width - 2 = omega (arith, front_size) in
+      get_or_default all (2 * width - 2) [] no_digest (omega arith)
+      ∙ sym (get_or-take (2 * width - 1) all (2 * width - 2) no_digest (omega arith))
+      ∙ ap (λ i. get_or nodes i no_digest) (sym last)
+      ∙ last_is_root count h nodes now front_built (rw (← is_width) fits) front_view

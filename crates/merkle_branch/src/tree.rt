@@ -1,6 +1,6 @@
 //! Trees that keep all their digests.
 
-ghost use Rattle.std.specs.Prelude.{◌≡◌, ℕ, ◌+◌, ◌-◌, ◌*◌, ◌^◌, ◌<◌, ◌≤◌, List, [], ◌∷◌, ◌++◌, length, take, drop, replicate, slice_index_or, OnOk, IfOk, IsTrue, ◌↔◌};
+ghost use Rattle.std.specs.Prelude.{◌≡◌, ℕ, ◌+◌, ◌-◌, ◌*◌, ◌^◌, ◌<◌, ◌≤◌, List, [], ◌∷◌, ◌++◌, length, take, drop, replicate, slice_index_or, IfOk, IsTrue, ◌↔◌};
 ghost use Rattle.merkle_branch.specs.Digests.{no_digest, leaf_digest, leaf_digests, root_of, tree_root, height as height_of, sibling, siblings_from};
 ghost use Rattle.merkle_branch.specs.Branches.{IsBranch, IsPath, branch_of};
 ghost use Rattle.merkle_branch.specs.Shapes.{IsPaddedTo16, HasAllLevels, HasParents};
@@ -8,6 +8,9 @@ ghost use Rattle.merkle_branch.specs.Shapes.{IsPaddedTo16, HasAllLevels, HasPare
 use crate::{Branch, MAX_HEIGHT, MAX_LEAVES, hash_inner, hash_leaf, height};
 use std::alloc::{AllocError, Global};
 use std::marker::Model;
+
+// The most digests of a tree, those of one of 16 leaves.
+const MAX_NODES: usize = 2 * MAX_LEAVES - 1;
 
 /// The digests of up to 16 leaves. A contract sees the list of them.
 #[derive(Drop)]
@@ -64,6 +67,16 @@ impl Leaves {
         self.digests[self.count as usize] = hash_leaf(self.count, leaf);
         self.count += 1;
     }
+
+    /// The digest at the top of the tree over the leaves. No memory is asked for.
+    pub fn root(&self) -> [u8; 32]
+        requires { 0 < length self.now }
+        ensures { result ≡ root_of self.now }
+    {
+        let width = width_of(height(self.count));
+        let nodes = all_nodes(&self.digests, width);
+        nodes[2 * width - 2]
+    }
 }
 
 /// A tree with all its digests. A contract sees the list of its leaves' digests.
@@ -109,20 +122,19 @@ fn sibling_of(position: usize) -> usize
     }
 }
 
-// Puts the levels above the leaves behind them: the parent of each two neighbours, in order.
-fn push_parents(nodes: &mut Vec<[u8; 32]>) -> Result<(), AllocError>
-    requires some { 1 ≤ length nodes.old.items }
-    requires few { length nodes.old.items ≤ 16 }
-    ensures size { OnOk result (length nodes.new.items + 1 ≡ 2 * length nodes.old.items) }
-    ensures leaves { OnOk result (take (length nodes.old.items) nodes.new.items ≡ nodes.old.items) }
-    ensures parents { OnOk result (HasParents (length nodes.old.items) nodes.new.items) }
+// The digests of a tree level by level, the first `width` of these at the bottom. The entries behind them are zero bytes.
+fn all_nodes(digests: &[[u8; 32]; MAX_LEAVES], width: usize) -> [[u8; 32]; MAX_NODES]
+    requires some { 1 ≤ width }
+    requires few { width ≤ 16 }
+    ensures leaves { take width result ≡ take width digests.now }
+    ensures parents { HasParents width result }
 {
-    let width = nodes.len();
+    let mut nodes = [[0; 32]; MAX_NODES];
+    nodes[..width].copy_from_slice(&digests[..width]);
     for i in 0..width - 1 {
-        let parent = hash_inner(&nodes[2 * i], &nodes[2 * i + 1]);
-        nodes.push(parent)?;
+        nodes[width + i] = hash_inner(&nodes[2 * i], &nodes[2 * i + 1]);
     }
-    Ok(())
+    nodes
 }
 
 impl Tree {
@@ -133,13 +145,11 @@ impl Tree {
     {
         let height = height(leaves.count);
         let width = width_of(height);
-        let mut nodes = Vec::with_capacity(alloc, 2 * width - 1)?;
-        nodes.extend_from_slice(&leaves.digests[..width])?;
-        push_parents(&mut nodes)?;
+        let nodes = all_nodes(&leaves.digests, width);
         Ok(Tree {
             count: leaves.count,
             height,
-            nodes,
+            nodes: Vec::from_slice(alloc, &nodes[..2 * width - 1])?,
         })
     }
 

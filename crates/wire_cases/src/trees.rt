@@ -133,6 +133,7 @@ fn roots(rt: HostRuntime) -> Result<(), Fail> {
         assert!(rt; !leaves.is_empty() && leaves.len() == n, "{n} leaves");
         let tree = Tree::build(rt.alloc(), &leaves)?;
         assert!(rt; is_spelled(rt.alloc(), tree.root(), root)?, "{n} leaves");
+        assert!(rt; is_spelled(rt.alloc(), leaves.root(), root)?, "{n} leaves");
     }
     Ok(())
 }
