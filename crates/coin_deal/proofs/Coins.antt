@@ -2,11 +2,8 @@
 use Rattle.std.proofs.Common.{◌≡◌, ℕ, ◌+◌, ◌*◌, ◌<◌, ◌≤◌, List, [], ◌∷◌, ◌++◌, length, get_or, take, drop, map, ap, ap₂, ◌∙◌, subst, arith, below_more, length-append}
 use Rattle.std.specs.List.{range_with_len}
 use Rattle.std.proofs.lemmas.List.FromFn.{fill_by_all, length-map-range_with_len, get_or-map-range_with_len}
-use Rattle.std.proofs.lemmas.List.{get_or_push, get_or_append_left}
 use Rattle.rand_chacha.specs.ChaCha.{ChaCha}
 use Rattle.gf_field.specs.Polynomial.{polynomial_at}
-use Rattle.merkle_branch.specs.Digests.{leaf_digests}
-use Rattle.merkle_branch.proofs.LeavesLemmas.{length-leaf_digests_from}
 use Rattle.hb_base.specs.Numbers.{Numbers}
 use Rattle.coin_deal.specs.Deal.{coefficients, salt, coin_leaf, coin_leaves, coin_words}
 use Rattle.seed_words.specs.Words.{words_from, moved_by}
@@ -24,48 +21,31 @@ coefficients_by c k = next_bytes (start c k) (c.f + 1)
 abbrev pub salts_by : Numbers → ℕ → List (List ℕ)
 salts_by c k = next_fours (moved_by (start c k) (c.f + 1)) c.n
 
-abbrev pub tree_by : Numbers → ℕ → List (List ℕ)
-tree_by c k = leaf_digests (leaves_with (coefficients_by c k) (salts_by c k))
-
--- it has as many leaves as there are nodes
-pub length-tree_by : (c : Numbers) (k : ℕ) → length (tree_by c k) ≡ c.n
-length-tree_by c k =
-    let salts = salts_by c k in
-    length-leaf_digests_from 0 (leaves_with (coefficients_by c k) salts) ∙ length-map-range_with_len _ 0 (length salts) ∙ length-map-range_with_len _ 0 c.n
-
 -- the lists hold the coins below count
-pub record HoldsCoins (c : Numbers) (count : ℕ) (cs : List ℕ) (salts : List (List ℕ)) (trees : List (List (List ℕ))) : Type 0 where
+pub record HoldsCoins (c : Numbers) (count : ℕ) (cs : List ℕ) (salts : List (List ℕ)) : Type 0 where
   pub coefficients_fill : length cs ≡ count * (c.f + 1)
   pub salts_fill : length salts ≡ count * c.n
-  pub trees_fill : length trees ≡ count
   pub are_coefficients : (k : ℕ) → k < count → take (c.f + 1) (drop (k * (c.f + 1)) cs) ≡ coefficients_by c k
   pub are_salts : (k : ℕ) → k < count → take c.n (drop (k * c.n) salts) ≡ salts_by c k
-  pub are_trees : (k : ℕ) → k < count → get_or trees k [] ≡ tree_by c k
 
-module _ (c : Numbers) (count : ℕ) (cs : List ℕ) (salts : List (List ℕ)) (trees : List (List (List ℕ))) (tree : List (List ℕ))
-    (held : HoldsCoins c count cs salts trees) (is_tree : tree ≡ tree_by c count) where
+module _ (c : Numbers) (count : ℕ) (cs : List ℕ) (salts : List (List ℕ)) (held : HoldsCoins c count cs salts) where
   next_coefficients : length (coefficients_by c count) ≡ c.f + 1
   next_coefficients = length-map-range_with_len _ 0 (c.f + 1)
 
   next_salts : length (salts_by c count) ≡ c.n
   next_salts = length-map-range_with_len _ 0 c.n
 
-  next_tree : get_or (trees ++ tree ∷ []) count [] ≡ tree_by c count
-  next_tree = get_or_push trees tree [] count held.trees_fill ∙ is_tree
-
   -- one coin more
-  pub holds_more : HoldsCoins c (count + 1) (cs ++ coefficients_by c count) (salts ++ salts_by c count) (trees ++ tree ∷ [])
+  pub holds_more : HoldsCoins c (count + 1) (cs ++ coefficients_by c count) (salts ++ salts_by c count)
   holds_more = record {
     coefficients_fill = omega (arith, length-append cs (coefficients_by c count), next_coefficients, held.coefficients_fill);
     salts_fill = omega (arith, length-append salts (salts_by c count), next_salts, held.salts_fill);
-    trees_fill = omega (arith, length-append trees (tree ∷ []), held.trees_fill);
     are_coefficients = below_more _ _
         (λ k h. block_kept cs (coefficients_by c count) k count (c.f + 1) held.coefficients_fill h ∙ held.are_coefficients k h)
         (block_last cs (coefficients_by c count) count (c.f + 1) held.coefficients_fill next_coefficients);
     are_salts = below_more _ _
         (λ k h. block_kept salts (salts_by c count) k count c.n held.salts_fill h ∙ held.are_salts k h)
         (block_last salts (salts_by c count) count c.n held.salts_fill next_salts);
-    are_trees = below_more _ _ (λ k h. get_or_append_left trees (tree ∷ []) [] k (omega (arith, held.trees_fill)) ∙ held.are_trees k h) next_tree;
   }
 
 -- the leaves over salts that are given node by node
@@ -81,28 +61,24 @@ leaves_are cs s n =
 pub coin_leaves_are : (c : Numbers) (e j r : ℕ) → leaves_with (coefficients c e j r) (coin_salts c e j r) ≡ coin_leaves c e j r
 coin_leaves_are c e j r = leaves_are (coefficients c e j r) (salt c e j r) c.n
 
-pub tree_is : (c : Numbers) (e j r : ℕ) → tree_by c (coin_number c e j r) ≡ leaf_digests (coin_leaves c e j r)
-tree_is c e j r = ap leaf_digests (coin_leaves_are c e j r)
-
 pub number_within : (c : Numbers) (e j r : ℕ) → e < c.epochs → j < c.n → r < c.rounds → coin_number c e j r < coin_count c
 number_within c e j r he hj hr =
     let lanes : e * c.n + c.n ≤ c.epochs * c.n = block_within e c.epochs c.n he in
     let rounds : (e * c.n + j) * c.rounds + c.rounds ≤ c.epochs * c.n * c.rounds = block_within (e * c.n + j) (c.epochs * c.n) c.rounds (omega arith) in
     omega arith
 
-pub holds_all : (c : Numbers) (cs : List ℕ) (salts : List (List ℕ)) (trees : List (List (List ℕ))) → HoldsCoins c (coin_count c) cs salts trees → HoldsAllCoins c cs salts trees
-holds_all c cs salts trees held = record {
+pub holds_all : (c : Numbers) (cs : List ℕ) (salts : List (List ℕ)) (cells : ℕ) → cells ≡ coin_count c → HoldsCoins c (coin_count c) cs salts → HoldsAllCoins c cs salts cells
+holds_all c cs salts cells fill held = record {
   coefficients_fill = held.coefficients_fill;
   salts_fill = held.salts_fill;
-  trees_fill = held.trees_fill;
+  cells_fill = fill;
   are_coefficients = λ e j r h. held.are_coefficients (coin_number c e j r) (number_within c e j r h.epoch h.lane h.round);
   are_salts = λ e j r h. held.are_salts (coin_number c e j r) (number_within c e j r h.epoch h.lane h.round);
-  are_trees = λ e j r h. held.are_trees (coin_number c e j r) (number_within c e j r h.epoch h.lane h.round) ∙ tree_is c e j r;
 }
 
 -- what is held of equal numbers
-pub held : (c now : Numbers) (cs : List ℕ) (salts : List (List ℕ)) (trees : List (List (List ℕ))) → c ≡ now → HoldsAllCoins c cs salts trees → HoldsAllCoins now cs salts trees
-held c now cs salts trees e h = subst (λ c. HoldsAllCoins c cs salts trees) e h
+pub held : (c now : Numbers) (cs : List ℕ) (salts : List (List ℕ)) (cells : ℕ) → c ≡ now → HoldsAllCoins c cs salts cells → HoldsAllCoins now cs salts cells
+held c now cs salts cells e h = subst (λ c. HoldsAllCoins c cs salts cells) e h
 
 -- the words of one coin end where those of the next one begin
 pub start_next : (c : Numbers) (k : ℕ) → moved_by (moved_by (start c k) (c.f + 1)) (4 * c.n) ≡ start c (k + 1)
@@ -133,3 +109,8 @@ leaf_at c e j r m h = get_or-map-range_with_len (coin_leaf c e j r) 0 c.n m m []
 
 pub salt_at : (c : Numbers) (e j r m : ℕ) (salts : List (List ℕ)) → salts ≡ coin_salts c e j r → m < c.n → get_or salts m [] ≡ salt c e j r m
 salt_at c e j r m salts are h = ap (λ ss. get_or ss m []) are ∙ get_or-map-range_with_len (salt c e j r) 0 c.n m m [] h (omega arith)
+
+-- the leaves depend on some numbers of the run alone
+pub same_leaves : (c d : Numbers) (e j r e' j' r' : ℕ) → c.n ≡ d.n → c.f ≡ d.f → c.rounds ≡ d.rounds → c.seed ≡ d.seed → e ≡ e' → j ≡ j' → r ≡ r'
+    → coin_leaves c e j r ≡ coin_leaves d e' j' r'
+same_leaves c d e j r e' j' r' n f rounds seed epoch lane round = rw (n, f, rounds, seed, epoch, lane, round)

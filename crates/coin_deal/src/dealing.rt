@@ -3,14 +3,14 @@
 ghost use Rattle.std.specs.Prelude.{◌≡◌, IfOk};
 
 use crate::dealt::Deal;
-use crate::leaves::leaves_of;
 use crate::words::{draw_bytes, draw_salts};
 use hb_base::Config;
-use merkle_branch::Tree;
+use once_cell::race::OnceBox;
 use seed_words::words_of;
 use std::alloc::{AllocError, Global};
 
-/// All coins of the run with these numbers, drawn from its seed in one pass over the words.
+/// All coins of the run with these numbers, drawn from its seed in one pass over the words. Their trees are built when they
+/// are first asked for.
 pub fn deal(alloc: Global, config: &Config) -> Result<Deal, AllocError>
     ensures { IfOk result (λ deal. deal ≡ config.now) }
 {
@@ -21,13 +21,13 @@ pub fn deal(alloc: Global, config: &Config) -> Result<Deal, AllocError>
     let mut coefficients = Vec::with_capacity(alloc, count * width)?;
     let mut salts = Vec::with_capacity(alloc, count * n)?;
     let mut trees = Vec::with_capacity(alloc, count)?;
-    for coin in 0..count {
+    for _ in 0..count {
         draw_bytes(&mut words, width, &mut coefficients)?;
         draw_salts(&mut words, n, &mut salts)?;
-        let leaves = leaves_of(&coefficients[coin * width..], &salts[coin * n..]);
-        trees.push(Tree::build(alloc, &leaves)?)?;
+        trees.push(OnceBox::new(alloc))?;
     }
     Ok(Deal {
+        alloc,
         config: *config,
         coefficients,
         salts,

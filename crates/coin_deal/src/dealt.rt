@@ -1,6 +1,6 @@
 //! What a deal gives: roots, and the shares of the nodes.
 
-ghost use Rattle.std.specs.Prelude.{◌≡◌, ◌+◌, ◌*◌, ◌<◌, ◌≤◌, IfOk, length};
+ghost use Rattle.std.specs.Prelude.{◌≡◌, ◌+◌, ◌*◌, ◌<◌, ◌≤◌, IfOk, IfSome, length};
 ghost use Rattle.hb_base.specs.Limits.{most_nodes};
 ghost use Rattle.hb_base.specs.Numbers.{Numbers};
 ghost use Rattle.merkle_branch.specs.Digests.{leaf_digests};
@@ -9,25 +9,30 @@ ghost use Rattle.coin_deal.specs.Deal.{coefficients as dealt_coefficients, salt 
 ghost use Rattle.coin_deal.specs.Heard.{heard_share, IsGoodShare, HasForm};
 ghost use Rattle.coin_deal.specs.Holding.{coin_number, coin_count, coin_salts};
 
-use crate::leaves::share_at;
+use crate::kept::CoinTree;
+use crate::leaves::{leaves_of, share_at};
 use gf_field::eval;
 use hb_base::Config;
-use merkle_branch::{Branch, Tree};
+use merkle_branch::{Branch, Leaves, Tree};
+use once_cell::race::OnceBox;
 use std::alloc::{AllocError, Global};
 use std::marker::Model;
 
 /// All coins of a run, by epoch, then lane, then round. A contract sees the numbers of the run.
 #[derive(Drop)]
 pub struct Deal {
+    // The allocator of the trees, which are built later.
+    pub(crate) alloc: Global,
     pub(crate) config: Config,
 
-    // The coins lie one behind the other: f + 1 coefficients, n salts and one tree each.
+    // The coins lie one behind the other: f + 1 coefficients, n salts and a cell for one tree each.
     pub(crate) coefficients: Vec<u8>,
     pub(crate) salts: Vec<[u8; 16]>,
-    pub(crate) trees: Vec<Tree>,
+    pub(crate) trees: Vec<OnceBox<CoinTree>>,
 }
 
 impl Model for Deal {
+    ghost use Rattle.std.specs.Prelude.{length};
     ghost use Rattle.hb_base.specs.Numbers.{Numbers};
     ghost use Rattle.coin_deal.specs.Holding.{HoldsAllCoins};
 
@@ -35,7 +40,7 @@ impl Model for Deal {
 
     ghost view = { λ d. d.config };
 
-    ghost invariant = { λ d. HoldsAllCoins d.config d.coefficients.items d.salts.items d.trees.items };
+    ghost invariant = { λ d. HoldsAllCoins d.config d.coefficients.items d.salts.items (length d.trees.items) };
 }
 
 /// The share of a node, and the salt and the branch that prove it against the coin's root.
@@ -54,7 +59,10 @@ impl Deal {
         requires round { r < self.now.rounds }
         ensures { result ≡ coin_root self.now e j r }
     {
-        self.tree_of(e, j, r).root()
+        match self.kept_tree(e, j, r) {
+            Some(tree) => tree.root(),
+            None => self.leaves_of(e, j, r).root(),
+        }
     }
 
     /// The coin of an epoch, a lane and a round: the lowest bit of the secret.
@@ -68,10 +76,11 @@ impl Deal {
     }
 
     /// The share of node m of the coin of an epoch, a lane and a round. The branch leads from it to the root. It
-    /// is read from the coin's tree, which the deal keeps, so that no memory is asked for.
+    /// is read from the coin's tree, which the deal builds when it is first asked for, and keeps. An error says that no
+    /// memory is left for the tree.
     pub fn share_of(
         &self,
-        _alloc: Global,
+        alloc: Global,
         e: u8,
         j: u8,
         r: u8,
@@ -92,8 +101,22 @@ impl Deal {
         Ok(DealtShare {
             share: share_at(coefficients, m),
             salt: salts[m as usize],
-            branch: self.tree_of(e, j, r).branch(m),
+            branch: self.branch_from(alloc, e, j, r, m)?,
         })
+    }
+
+    // The branch of the leaf of node m, by a tree of its own where none is kept.
+    fn branch_from(&self, alloc: Global, e: u8, j: u8, r: u8, m: u8) -> Result<Branch, AllocError>
+        requires epoch { e < self.now.epochs }
+        requires lane { j < self.now.n }
+        requires round { r < self.now.rounds }
+        requires node { m < self.now.n }
+        ensures { IfOk result (λ branch. branch ≡ branch_of (leaf_digests (coin_leaves self.now e j r)) m) }
+    {
+        match self.kept_tree(e, j, r) {
+            Some(tree) => Ok(tree.branch(m)),
+            None => Ok(Tree::build(alloc, &self.leaves_of(e, j, r))?.branch(m)),
+        }
     }
 
     // The coefficients of one coin.
@@ -122,14 +145,42 @@ impl Deal {
         &self.salts[start..start + n]
     }
 
-    // The tree of one coin.
-    fn tree_of(&self, e: u8, j: u8, r: u8) -> &Tree
+    // The leaves of one coin's tree.
+    fn leaves_of(&self, e: u8, j: u8, r: u8) -> Leaves
         requires epoch { e < self.now.epochs }
         requires lane { j < self.now.n }
         requires round { r < self.now.rounds }
-        ensures { result.now ≡ leaf_digests (coin_leaves self.now e j r) }
+        ensures leaves { result ≡ leaf_digests (coin_leaves self.now e j r) }
+        ensures count { length result ≡ self.now.n }
+        ensures some { 0 < length result }
     {
-        &self.trees[self.number_of(e, j, r)]
+        leaves_of(self.coefficients_of(e, j, r), self.salts_of(e, j, r))
+    }
+
+    // The tree of one coin, which is built when it is first asked for, and kept. None where no memory is left for it. None too
+    // where another coin's tree is kept there, which never happens: no clause says what a cell holds.
+    fn kept_tree(&self, e: u8, j: u8, r: u8) -> Option<&Tree>
+        requires epoch { e < self.now.epochs }
+        requires lane { j < self.now.n }
+        requires round { r < self.now.rounds }
+        ensures { IfSome result (λ tree. tree.now ≡ leaf_digests (coin_leaves self.now e j r)) }
+    {
+        let cell = &self.trees[self.number_of(e, j, r)];
+        match cell.get_or_try_init(move || self.new_tree(e, j, r)) {
+            Ok(kept) => kept.of(&self.config, e, j, r),
+            Err(_) => None,
+        }
+    }
+
+    // The tree of one coin, to be kept.
+    fn new_tree(&self, e: u8, j: u8, r: u8) -> Result<Box<CoinTree>, AllocError>
+        requires epoch { e < self.now.epochs }
+        requires lane { j < self.now.n }
+        requires round { r < self.now.rounds }
+    {
+        let tree = Tree::build(self.alloc, &self.leaves_of(e, j, r))?;
+        let kept = CoinTree::new(&self.config, e, j, r, tree);
+        Ok(Box::new(self.alloc, kept)?)
     }
 
     // How many coins stand before this one.

@@ -5,6 +5,7 @@
 
 mod dealing;
 mod dealt;
+mod kept;
 mod laws;
 mod leaves;
 mod others;
