@@ -1,5 +1,5 @@
 -- The states of a disk in memory whose second sync is stopped, and what is read of it once it is on again.
-use Rattle.std.proofs.Common.{◌≡◌, ◌-◌, ⊎_elim, ℕ, min, List, [], ◌∷◌, ◌++◌, length, take, drop, Result, Ok, IfOk, OnOk, ◌∙◌, ap, subst, arith}
+use Rattle.std.proofs.Common.{◌≡◌, ◌-◌, ⊎_elim, ℕ, min, List, [], ◌∷◌, ◌++◌, length, take, drop, Result, Ok, Err, is_ok, true, IfOk, OnOk, ◌∙◌, ap, subst, arith}
 use Rattle.std.specs.Prelude.{IsOk, IsErrOf, IsSomeAnd}
 use Rattle.std.proofs.lemmas.List.{take_all, drop_all, append-nil}
 use Rattle.disk_model.specs.declared.disk.DiskFault.{DiskFault}
@@ -94,3 +94,13 @@ found l leave disk before after result n back ok bytes room is four =
     subst (λ (r : Result ℕ DiskFault). IfOk r (λ m. Reads (half_of A (content_of disk.halves)) 0 before after m)) ok bytes in
     whole (half_of A (content_of (restarted l (off_after l)).halves)) before after n four room
     (subst (λ (d : MemoryState). Reads (half_of A (content_of d.halves)) 0 before after n) here read)
+
+-- which does not fail: the disk is on, and no fault is planned
+pub reads_on : (leave : Leave) (disk after : MemoryState) (result : Result ℕ DiskFault) (fault : DiskFault)
+    → disk ≡ restarted leave (off_after leave) → Answers disk.halves disk.halves disk after result → result ≡ Err fault → ⊥
+reads_on leave disk after result fault back answers failed =
+    let here : MemoryState = restarted leave (off_after leave) in
+    let ok : IsOk result × (after ≡ passed here.halves here) =
+    subst (λ (d : MemoryState). Answers d.halves d.halves d after result) back answers in
+    let no : is_ok {T = ℕ} (Err fault) ≡ true = subst (λ (r : Result ℕ DiskFault). is_ok r ≡ true) failed ok.0 in
+    cc
