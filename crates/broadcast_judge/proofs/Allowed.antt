@@ -193,8 +193,9 @@ value_same c i j e root value heard shards sound from echoed is =
     let second = apart_echoed c i j e root heard shards from echoed in
     let one = one_codeword c j e root from.history sound from.apart (echoed-bound c i j e root from.history shards from.correct second) in
     let these : given.shards ≡ one.shards =
-    one.only i first.got given.shards (record { correct = from.correct; echoes = first.echoes }) first.rebuilt in
-    let those : shards ≡ one.shards = one.only i second.got shards (record { correct = from.correct; echoes = second.echoes }) second.rebuilt in
+    one.only first.got given.shards (record { node = i; correct = from.correct; echoes = first.echoes }) first.rebuilt in
+    let those : shards ≡ one.shards =
+    one.only second.got shards (record { node = i; correct = from.correct; echoes = second.echoes }) second.rebuilt in
     sym given.value_is ∙ ap (framed_value (data_count c)) (these ∙ sym those)
 
 -- ---- Ready

@@ -56,6 +56,14 @@ shard_echo_is n e root m shard (Echo d other piece branch) passes =
     by false tests h = absurd (cc (h))
 shard_echo_is n e root m shard vote passes = absurd (cc (passes))
 
+-- the Echo that was said
+pub shard_echo_said : (c : Numbers) (x e m : ℕ) (root shard : List ℕ) (history : List Post)
+    → said_in c x history m (is_shard_echo c.n e root m shard) ≡ true
+    → (vote : Vote) × Contains (own_in c m x history) vote × IsShardEcho c.n e root m shard vote
+shard_echo_said c x e m root shard history h =
+    let found = any_stands (is_shard_echo c.n e root m shard) (own_in c m x history) h in
+    (found.0, found.1, shard_echo_is c.n e root m shard found.0 found.2)
+
 -- the Echo that was heard
 pub shard_echo_heard : (n e m : ℕ) (root shard : List ℕ) (heard : List Hearing) → heard_by heard m (is_shard_echo n e root m shard) ≡ true
     → (vote : Vote) × Contains heard (hearing m vote) × IsShardEcho n e root m shard vote

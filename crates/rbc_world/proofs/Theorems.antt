@@ -14,14 +14,14 @@ use Rattle.hb_rules.specs.Ledger.{IsCorrect}
 use Rattle.hb_rules.specs.Strings.{IsHashed, NoCollision}
 use Rattle.hb_rules.proofs.FirstShards.{data_count-some}
 use Rattle.rbc_world.specs.Agreed.{ReadiesAgree, DeliveriesAgree, DeliveriesAreProposed, ProposalsAgree, IsAgreed}
-use Rattle.rbc_world.specs.Backing.{RootsAreBound, IsBacked}
+use Rattle.rbc_world.specs.Backing.{RootsAreBound, SaidRootsAreBound, IsHashedOrSaid, NoCollisionAmong, IsBacked}
 use Rattle.hb_rules.proofs.Addressed.{legal_addressed}
 use Rattle.hb_rules.proofs.Among.{ready_count-grows}
 use Rattle.hb_rules.proofs.Cast.{cast_fits}
 use Rattle.hb_rules.proofs.Said.{heard-said}
 use Rattle.rbc_world.proofs.Once.{one_proposal}
 use Rattle.rbc_world.proofs.Backed.{ready_correct, ready_heard, ready_backed, delivery_heard, delivery_backed, delivery_lane, quorums_agree, IsProposedRoot, quorum_proposed}
-use Rattle.rbc_world.proofs.Binding.{AreHashed, IsBoundTo, one_tree, echoed-hashed, echoed-bound, one_codeword}
+use Rattle.rbc_world.proofs.Binding.{AreCounted, IsBoundTo, one_tree, echoed-hashed, echoed-bound, one_codeword, one_codeword_said}
 
 one_ready : (c : Numbers) (j e i m : ℕ) (root other : List ℕ) (history : List Post) → AreSound c → IsLegal c history → IsCorrect c i
     → IsCorrect c m → Contains (own_in c i j history) (Ready e root) → Contains (own_in c m j history) (Ready e other) → root ≡ other
@@ -84,7 +84,7 @@ proposals_agree c history legal = record {
 
 -- the strings of the tree over the codeword of a proposal count as hashed
 proposed-hashed : (c : Numbers) (j e : ℕ) (root : List ℕ) (history : List Post) → IsCorrect c j → (source : IsProposedRoot c j e root history)
-    → AreHashed c history (tree_strings source.shards)
+    → AreCounted (IsHashed c history) (tree_strings source.shards)
 proposed-hashed c j e root history sender source = record {
   each = λ string stands. IsHashed.proposed j e source.value source.shards sender source.proposed source.encoding stands;
 }
@@ -139,6 +139,12 @@ ready_bound c history j e root sound legal readies =
 pub roots_bound : (c : Numbers) (history : List Post) → AreSound c → IsLegal c history → NoCollision c history → RootsAreBound c history
 roots_bound c history sound legal premise = record {
   one = λ j e root lane readies. one_codeword c j e root history sound premise (ready_bound c history j e root sound legal readies);
+}
+
+pub said_roots_bound : (c : Numbers) (history : List Post) → AreSound c → IsLegal c history → NoCollisionAmong (IsHashedOrSaid c history)
+    → SaidRootsAreBound c history
+said_roots_bound c history sound legal premise = record {
+  one = λ j e root lane readies. one_codeword_said c j e root history sound premise (ready_bound c history j e root sound legal readies);
 }
 
 pub ready_quorum : (c : Numbers) (history : List Post) (j e i : ℕ) (root : List ℕ) → AreSound c → IsLegal c history → IsCorrect c i

@@ -4,7 +4,7 @@ use Rattle.hb_wire.specs.declared.post.Post.{Post}
 use Rattle.rbc_world.specs.declared.claims.Kind.TheVariants.{Ready, Delivered}
 use Rattle.rbc_world.specs.Claimed.{AreEntries, AreLeft}
 use Rattle.rbc_world.proofs.Exact.{readies_one, deliveries_one, agreed_from, none_from_agreed}
-use Rattle.rbc_world.proofs.Theorems.{roots_bound, legal_agreed}
+use Rattle.rbc_world.proofs.Theorems.{roots_bound, said_roots_bound, legal_agreed}
 use Rattle.rbc_world.proofs.agreed.delivered_agree.Goals as goal
 
 pub returns-in_default-clause-exact : goal.returns-in_default-clause-exact
@@ -57,3 +57,12 @@ returns-in_default-first_claims-clause-roots c = roots_bound c.args.report.now.c
 
 pub returns-clause-roots : goal.returns-clause-roots
 returns-clause-roots c = roots_bound c.args.report.now.config c.args.report.now.history.items c.liars-liars.ensures.sound
+
+pub returns-in_default-clause-said : goal.returns-in_default-clause-said
+returns-in_default-clause-said c = said_roots_bound c.args.report.now.config c.args.report.now.history.items c.liars-liars.ensures.sound
+
+pub returns-in_default-first_claims-clause-said : goal.returns-in_default-first_claims-clause-said
+returns-in_default-first_claims-clause-said c = said_roots_bound c.args.report.now.config c.args.report.now.history.items c.liars-liars.ensures.sound
+
+pub returns-clause-said : goal.returns-clause-said
+returns-clause-said c = said_roots_bound c.args.report.now.config c.args.report.now.history.items c.liars-liars.ensures.sound
