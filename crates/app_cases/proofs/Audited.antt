@@ -1,6 +1,7 @@
 -- What `audit` answers to what `trace` printed.
-use Rattle.std.proofs.Common.{◌≡◌, ◌≢◌, ℕ, ◌≤◌, All, length, Some, Result, Ok, Err, sym, ap, ◌∙◌, subst}
+use Rattle.std.proofs.Common.{◌≡◌, ◌≢◌, ◌⊎◌, inl, inr, ℕ, ◌≤◌, List, [], All, length, Option, Some, Result, Ok, Err, sym, ap, ◌∙◌, subst, arith}
 use Rattle.std.specs.Io.KnownBytes.{Appends}
+use Rattle.hb_base.specs.Outside.{Rose}
 use Rattle.hb_rules.specs.declared.report.Report.{Report}
 use Rattle.hb_rules.specs.History.{IsLegal}
 use Rattle.hb_rules.specs.Strings.{NoCollision}
@@ -13,10 +14,11 @@ use Rattle.trace_reader.specs.declared.fault.TraceFault.TheVariants.{ReadFault, 
 use Rattle.trace_reader.specs.Trace.{longest_trace, IsConfig, IsPost}
 use Rattle.trace_audit.specs.Audits.{Audits, FindsLegal}
 use Rattle.verdict_text.specs.Text.{verdict_line}
+use Rattle.hb_app.specs.declared.command.Text.TheVariants.{Trace}
 use Rattle.hb_app.specs.Audited.{IsOfBytes}
 use Rattle.hb_app.specs.Headline.{IsKept}
 use Rattle.hb_app.specs.Scene.{Scene}
-use Rattle.hb_app.specs.Statuses.{AuditStatuses}
+use Rattle.hb_app.specs.Statuses.{IsRunStatus, RunStatuses, AuditStatuses}
 
 -- the law of audits of what was printed
 abbrev pub PrintedIsLegal : Type 0
@@ -38,6 +40,20 @@ found_by {O} {E} {before} {after} law answered kept left short apart answer audi
     law after.report before.source after.source answer run.trace.config run.trace.each short run.legal apart
     (left ∙ ap (λ (r : Report). Some (trace_text r)) (sym answered.report)) audited
 
+-- so it is where `trace` printed it on an empty sink, and `audit` reads these bytes
+pub printed_found : {A B O E : Type 0} {names : List (List ℕ)} {begun ended : Scene A B} {before after : Scene O E} {ran status : ℕ} (printed : List ℕ)
+    → PrintedIsLegal → RunStatuses Trace names begun ended ran → AuditStatuses before after status → begun.out.held ≡ Some []
+    → ended.out.held ≡ Some printed → before.source.left ≡ Some printed → before.report ≡ ended.report → IsRunStatus ran
+    → length (trace_text after.report) ≤ longest_trace → NoCollision after.report.config after.report.history.items
+    → Finds (length after.report.history.items) before.source after.source
+printed_found {A} {B} {O} {E} {names} {begun} {ended} {before} {after} printed law runs judged none held left same is_run short apart =
+    let first = runs.ran is_run in
+    let text : printed ≡ trace_text ended.report =
+    subst (λ (h : Option (List ℕ)). Appends h (Some printed) (trace_text ended.report)) none
+    (subst (λ (h : Option (List ℕ)). Appends begun.out.held h (trace_text ended.report)) held first.2.0) in
+    found_by law judged (subst IsKept (sym same) first.0.2.kept)
+    (left ∙ ap Some text ∙ ap (λ (r : Report). Some (trace_text r)) (sym same)) short apart
+
 not_refused : (posts : ℕ) (fault : TraceFault) → FindsLegal posts (Err fault) → IsOfBytes fault → ⊥
 not_refused posts ReadFault found of = of
 not_refused posts TooLong found of = found
@@ -55,6 +71,29 @@ pub not_8 : {O E : Type 0} {before after : Scene O E} {status : ℕ} (posts : �
 not_8 posts answered finds eight =
     let was = answered.illegal eight in
     absurd (cc (finds (Ok (Illegal was.0)) was.1))
+
+-- a source that counts no fault had none
+pub not_6 : {O E : Type 0} {before after : Scene O E} {status : ℕ} → AuditStatuses before after status → before.source.faults ≡ 0
+    → after.source.faults ≡ 0 → status ≢ 6
+not_6 {O} {E} {before} {after} answered none still six =
+    let rose : Rose 0 0 =
+    subst (λ (n : ℕ). Rose n 0) none (subst (λ (n : ℕ). Rose before.source.faults n) still (answered.read_failed six).0.0) in
+    absurd (omega (arith, rose))
+
+left_over : (status : ℕ) → (status ≡ 0) ⊎ (status ≡ 8) ⊎ (status ≡ 3) ⊎ (status ≡ 6) ⊎ (status ≡ 7) ⊎ (status ≡ 9) → status ≢ 8 → status ≢ 3
+    → status ≢ 6 → (status ≡ 0) ⊎ (status ≡ 7) ⊎ (status ≡ 9)
+left_over status (inl zero) no_8 no_3 no_6 = inl zero
+left_over status (inr (inl eight)) no_8 no_3 no_6 = absurd (no_8 eight)
+left_over status (inr (inr (inl three))) no_8 no_3 no_6 = absurd (no_3 three)
+left_over status (inr (inr (inr (inl six)))) no_8 no_3 no_6 = absurd (no_6 six)
+left_over status (inr (inr (inr (inr rest)))) no_8 no_3 no_6 = inr rest
+
+-- so there is a verdict, or a put failed or memory was wanting
+pub is_one_of : {O E : Type 0} {before after : Scene O E} {status : ℕ} (posts : ℕ) → AuditStatuses before after status
+    → Finds posts before.source after.source → before.source.faults ≡ 0 → after.source.faults ≡ 0
+    → (status ≡ 0) ⊎ (status ≡ 7) ⊎ (status ≡ 9)
+is_one_of {O} {E} {before} {after} {status} posts answered finds none still =
+    left_over status answered.no_other (not_8 posts answered finds) (not_3 posts answered finds) (not_6 answered none still)
 
 -- and the line tells how many posts it has
 pub tells : {O E : Type 0} {before after : Scene O E} {status : ℕ} (posts : ℕ) → AuditStatuses before after status

@@ -1,7 +1,7 @@
 //! Callers of the program, as of one that runs scenarios of its own. What they promise is proved by the contracts of the calls
 //! alone.
 
-ghost use Rattle.std.specs.Prelude.{◌≡◌, ◌≢◌, ◌≤◌, [], ◌∷◌, length, map, string_bytes, Ok, IfOk};
+ghost use Rattle.std.specs.Prelude.{◌≡◌, ◌≢◌, ◌⊎◌, ◌≤◌, [], ◌∷◌, length, map, string_bytes, Some, Ok, IfOk};
 ghost use Rattle.net_script.specs.Scenario.{Scenario, told};
 ghost use Rattle.script_reader.specs.Reading.{scenario_of};
 ghost use Rattle.hb_rules.specs.Ledger.{AreComparable};
@@ -15,7 +15,7 @@ ghost use Rattle.verdict_text.specs.Text.{verdict_line};
 ghost use Rattle.hb_app.specs.Statuses.{IsRunStatus};
 
 use hb_app::hb_main;
-use hb_base::{Bytes, MemorySink, MemorySource, OpenGate, Sink, Source};
+use hb_base::{Bytes, Failed, MemorySink, MemorySource, OpenGate, Sink, Source};
 use hb_rules::Report;
 use liar_cast::Liar;
 use std::alloc::{AllocError, Global};
@@ -64,8 +64,8 @@ pub fn run_bytes<R: Threads + Wait + Sync>(
 
 /// Prints the history of a run, and asks whether it is legal: both statuses, and what was printed of the second. The scenario
 /// comes from a source. Say that the first is 0, 4 or 5, that the text is not too long to be read, and that no two different
-/// strings that count as hashed share a digest. Then the second is neither 8 nor 3, and after 0 the line has the number of the
-/// posts.
+/// strings that count as hashed share a digest. Then the second is 0, or 7 or 9 where a put failed or memory was wanting, and
+/// after 0 the line has the number of the posts.
 pub fn trace_and_audit<R: Threads + Wait + Sync, S: Source, E: Sink>(
     rt: &R,
     alloc: Global,
@@ -76,6 +76,8 @@ pub fn trace_and_audit<R: Threads + Wait + Sync, S: Source, E: Sink>(
 ) -> Result<(u8, u8, MemorySink), AllocError>
     ensures legal { IfOk result (λ answer. IsRunStatus answer.0 → length (trace_text report.new) ≤ longest_trace
         → NoCollision report.new.config report.new.history.items → (answer.1 ≢ 8) × (answer.1 ≢ 3)) }
+    ensures status { IfOk result (λ answer. IsRunStatus answer.0 → length (trace_text report.new) ≤ longest_trace
+        → NoCollision report.new.config report.new.history.items → (answer.1 ≡ 0) ⊎ (answer.1 ≡ 7) ⊎ (answer.1 ≡ 9)) }
     ensures told { IfOk result (λ answer. IsRunStatus answer.0 → length (trace_text report.new) ≤ longest_trace
         → NoCollision report.new.config report.new.history.items
         → answer.1 ≡ 0 → answer.2.held ≡ verdict_line (Legal (length report.new.history.items))) }
@@ -97,7 +99,8 @@ pub fn trace_and_audit<R: Threads + Wait + Sync, S: Source, E: Sink>(
         report,
     );
     let printed = Bytes::copy(alloc, text.held())?;
-    let mut again = MemorySource::new(printed, 4_096, Vec::new(alloc));
+    let kept = MemorySource::new(printed, 4_096, Vec::new(alloc));
+    let mut again = SureSource { kept };
     let mut verdict = MemorySink::new(alloc, Vec::new(alloc));
     let judged = hb_main(
         rt,
@@ -111,6 +114,23 @@ pub fn trace_and_audit<R: Threads + Wait + Sync, S: Source, E: Sink>(
         report,
     );
     Ok((ran, judged, verdict))
+}
+
+// A source of bytes in memory of which no call fails.
+#[derive(Drop)]
+struct SureSource {
+    kept: MemorySource,
+    ghost sure: { kept.failing ≡ [] },
+}
+
+impl Source for SureSource {
+    ghost left = { λ s. Some s.kept.left };
+
+    ghost faults = { λ s. 0 };
+
+    fn take(&mut self, buf: &mut [u8]) -> Result<usize, Failed> {
+        self.kept.take(buf)
+    }
 }
 
 // The words of a call with one word.

@@ -1,36 +1,24 @@
-use Rattle.std.proofs.Common.{rules, ◌≡◌, ◌∷◌, [], ◌++◌, codes, length, map, string_bytes, Some, ap, ◌∙◌}
+use Rattle.std.proofs.Common.{rules, ◌≡◌, ◌∷◌, [], ◌++◌, codes, length, map, string_bytes, Some, sym, refl, ap, ◌∙◌}
 use Rattle.hb_base.specs.Memory.{Shelf, Tape}
 use Rattle.history_verdict.specs.declared.verdict.Verdict.TheVariants.{Legal}
-use Rattle.trace_text.specs.Text.{trace_text}
 use Rattle.verdict_text.specs.Text.{verdict_line}
 use Rattle.hb_app.specs.declared.command.Text.TheVariants.{Trace}
-use Rattle.app_cases.proofs.Audited.{found_by, not_3, not_8, tells}
+use Rattle.app_cases.proofs.Audited.{printed_found, not_3, not_8, is_one_of, tells}
 use Rattle.app_cases.proofs.callers.trace_and_audit.Goals as goal
 
-pub returns-clause-legal : goal.returns-clause-legal
-returns-clause-legal g c ran short apart =
+pub returns : goal.returns
+returns g c =
     let trace : map string_bytes c.as_slice.result.now ≡ codes "trace" ∷ [] = search rules in
     let audit : map string_bytes c.as_slice-2.result.now ≡ codes "audit" ∷ [] = search rules in
-    let first = (c.hb_main-ran.ensures.run Trace trace).ran ran in
     let judged = c.hb_main-judged.ensures.audit audit in
-    let text : c.in_ok-printed.printed ≡ trace_text c.hb_main-ran.new.report =
-    c.in_ok-printed.ensures ∙ c.held.ensures ∙ first.2.0 ∙ ap (λ (s : Shelf). s.held ++ trace_text c.hb_main-ran.new.report) c.new-text.ensures in
-    let left : Some c.new-again.result.left ≡ Some (trace_text c.hb_main-ran.new.report) =
-    ap (λ (t : Tape). Some t.left) c.new-again.ensures ∙ ap Some text in
-    let found = found_by c.audit_laws.ensures.printed judged first.0.2.kept left short apart in
     let posts = length c.hb_main-judged.new.report.history.items in
-    (not_8 posts judged found, not_3 posts judged found)
-
-pub returns-clause-told : goal.returns-clause-told
-returns-clause-told g c ran short apart zero =
-    let trace : map string_bytes c.as_slice.result.now ≡ codes "trace" ∷ [] = search rules in
-    let audit : map string_bytes c.as_slice-2.result.now ≡ codes "audit" ∷ [] = search rules in
-    let first = (c.hb_main-ran.ensures.run Trace trace).ran ran in
-    let judged = c.hb_main-judged.ensures.audit audit in
-    let text : c.in_ok-printed.printed ≡ trace_text c.hb_main-ran.new.report =
-    c.in_ok-printed.ensures ∙ c.held.ensures ∙ first.2.0 ∙ ap (λ (s : Shelf). s.held ++ trace_text c.hb_main-ran.new.report) c.new-text.ensures in
-    let left : Some c.new-again.result.left ≡ Some (trace_text c.hb_main-ran.new.report) =
-    ap (λ (t : Tape). Some t.left) c.new-again.ensures ∙ ap Some text in
-    let found = found_by c.audit_laws.ensures.printed judged first.0.2.kept left short apart in
-    let posts = length c.hb_main-judged.new.report.history.items in
-    tells posts judged found zero ∙ ap (λ (s : Shelf). s.held ++ verdict_line (Legal posts)) c.new-verdict.ensures
+    let found =
+    printed_found c.in_ok-printed.printed c.audit_laws.ensures.printed (c.hb_main-ran.ensures.run Trace trace) judged
+    (ap (λ (s : Shelf). Some s.held) c.new-text.ensures) (ap Some (sym (c.in_ok-printed.ensures ∙ c.held.ensures)))
+    (ap (λ (t : Tape). Some t.left) c.new-kept.ensures) refl in
+    record {
+      legal = λ ran short apart. let finds = found ran short apart in (not_8 posts judged finds, not_3 posts judged finds);
+      status = λ ran short apart. is_one_of posts judged (found ran short apart) refl refl;
+      told = λ ran short apart zero.
+          tells posts judged (found ran short apart) zero ∙ ap (λ (s : Shelf). s.held ++ verdict_line (Legal posts)) c.new-verdict.ensures;
+    }
