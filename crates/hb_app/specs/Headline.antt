@@ -34,7 +34,7 @@ pub record IsKept (report : Report) : Type 0 where
   pub full : EndsFullByCause report
   -- each proposal of a correct desk is of the oldest transactions of its pool
   pub rule : FollowsPoolRule report
-  -- the history that is printed is the text of this run and these posts, as `audit` reads it
+  -- what `trace` prints is the text of this run and these posts, in the form that `audit` reads
   pub trace : IsTrace (trace_text report) report.config report.history.items
 
 -- What no liar, loss or crash can undo.
