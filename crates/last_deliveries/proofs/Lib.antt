@@ -3,3 +3,5 @@ pub mod Readings
 pub mod Players
 pub mod Catches
 pub mod Settles
+pub mod Lists
+pub mod Lackings

@@ -6,13 +6,13 @@ ghost use Rattle.hb_rules.specs.Report.{IsReceived, is_running_fate};
 ghost use Rattle.last_deliveries.specs.Catching.{lacks, IsCaughtUp};
 ghost use Rattle.last_deliveries.specs.Settling.{player_of, IsOfRun, HasGoneOn, HasReceivedAll};
 
-use crate::marking::{lacks, marks_of};
+use crate::listing::ListedPosts;
+use crate::marking::{lacking, marks_of};
 use crate::reading::{ends_by, is_level};
 use actor_cell::{Arrival, hear, look};
 use hb_base::Gate;
 use hb_base::limits::MOST_POSTS;
 use hb_rules::{Actor, Book, Fate, Outbox};
-use hb_wire::Post;
 use net_script::Script;
 use std::alloc::{AllocError, Global};
 use step_driver::{Player, is_running};
@@ -21,14 +21,14 @@ use step_driver::{Player, is_running};
 // hears those of these that come to it and that it has not received, in their order; one that was restarted in a delivery has
 // forgotten what it received, and waits for the next call. Of one that has ended it is only asked whether it has seen more posts.
 //
-// It costs a mark for each post, and a look at each post that has no mark; the book is read twice for each post that is delivered,
-// and twice where the actor lacked none.
+// It costs a mark for each post, and a look at each post in the two lists where those that may come to it stand; the book is read
+// twice for each post that is delivered, and twice where the actor lacked none.
 pub(crate) fn catch_up<B: Book, A: Actor<B>, G: Gate>(
     alloc: Global,
     script: &Script,
     book: &mut B,
     player: &mut Player<A>,
-    posts: &[Post],
+    posts: &ListedPosts,
     gate: &G,
 ) -> bool
     requires seat { B.knows book.old (A.seat player.old.actor) }
@@ -41,7 +41,7 @@ pub(crate) fn catch_up<B: Book, A: Actor<B>, G: Gate>(
         (player_of B.config B.node B.actor B.seen A.seat A.view player.new) }
     ensures up { result ≡ false → IsCaughtUp script.now posts.now (player_of B.config B.node B.actor B.seen A.seat A.view player.new) }
 {
-    let count = posts.len() as u32;
+    let count = posts.as_slice().len() as u32;
     match player.fate {
         Fate::Running => !receives_all(alloc, script, book, player, posts, gate),
         Fate::Full => count < MOST_POSTS,
@@ -55,7 +55,7 @@ fn receives_all<B: Book, A: Actor<B>, G: Gate>(
     script: &Script,
     book: &mut B,
     player: &mut Player<A>,
-    posts: &[Post],
+    posts: &ListedPosts,
     gate: &G,
 ) -> bool
     requires seat { B.knows book.old (A.seat player.old.actor) }
@@ -75,18 +75,18 @@ fn receives_all<B: Book, A: Actor<B>, G: Gate>(
             false
         }
         Ok(true) => false,
-        Ok(false) => is_level(book, &mut player.actor, posts.len() as u32),
+        Ok(false) => is_level(book, &mut player.actor, posts.as_slice().len() as u32),
     }
 }
 
 // Delivers to an actor that works what it lacks. Whether it lacked anything; if not, nothing was done. The error is want of memory for
-// the marks.
+// the marks, or for the numbers of what it lacks.
 fn deliver<B: Book, A: Actor<B>, G: Gate>(
     alloc: Global,
     script: &Script,
     book: &mut B,
     player: &mut Player<A>,
-    posts: &[Post],
+    posts: &ListedPosts,
     gate: &G,
 ) -> Result<bool, AllocError>
     requires seat { B.knows book.old (A.seat player.old.actor) }
@@ -103,47 +103,47 @@ fn deliver<B: Book, A: Actor<B>, G: Gate>(
         → IsReceived script.now.config script.now posts.now (B.node (A.seat player.old.actor)) (B.actor (A.seat player.old.actor)) k
         → Contains (A.view player.old.actor).got k) }
 {
-    let marks = marks_of(alloc, player.actor.got(), posts.len())?;
-    Ok(deliver_unmarked(alloc, script, book, player, posts, marks.as_slice(), gate))
+    let marks = marks_of(alloc, player.actor.got(), posts.as_slice().len())?;
+    player.actor.kept();
+    let numbers = lacking(
+        alloc,
+        script,
+        posts,
+        marks.as_slice(),
+        player.actor.node(),
+        player.actor.actor(),
+    )?;
+    if numbers.is_empty() {
+        return Ok(false);
+    }
+    hand_over_all(alloc, script, book, player, numbers.as_slice(), gate);
+    Ok(true)
 }
 
-// Delivers to an actor that works the posts that come to it and are not marked. Whether there was any; if not, nothing was done.
-fn deliver_unmarked<B: Book, A: Actor<B>, G: Gate>(
+// Lets an actor that works hear the posts with these numbers, in their order, as long as it keeps what it has received.
+fn hand_over_all<B: Book, A: Actor<B>, G: Gate>(
     alloc: Global,
     script: &Script,
     book: &mut B,
     player: &mut Player<A>,
-    posts: &[Post],
-    marks: &[bool],
+    numbers: &[u32],
     gate: &G,
-) -> bool
+)
     requires seat { B.knows book.old (A.seat player.old.actor) }
     requires of_run { IsOfRun script.now (player_of B.config B.node B.actor B.seen A.seat A.view player.old) }
-    requires few { length posts.now ≤ most_posts }
     requires running { player.old.fate ≡ Fate.Running }
-    requires marked { length marks.now ≡ length posts.now }
     ensures seat { B.knows book.new (A.seat player.new.actor) }
     ensures moved { B.moved (B.node (A.seat player.old.actor)) (B.actor (A.seat player.old.actor)) book.old book.new }
     ensures of_run { IsOfRun script.now (player_of B.config B.node B.actor B.seen A.seat A.view player.new) }
     ensures went { HasGoneOn (player_of B.config B.node B.actor B.seen A.seat A.view player.old)
         (player_of B.config B.node B.actor B.seen A.seat A.view player.new) }
-    ensures still { result ≡ false → player.new ≡ player.old }
-    ensures all { result ≡ false → (k : ℕ) → k < length posts.now
-        → lacks script.now posts.now marks.now (B.node (A.seat player.old.actor)) (B.actor (A.seat player.old.actor)) k ≡ false }
 {
     player.actor.kept();
-    let node = player.actor.node();
-    let number = player.actor.actor();
-    let mut lacked = false;
-    for k in 0..posts.len() {
-        if lacks(script, posts, marks, node, number, k) {
-            lacked = true;
-            if !hand_over(alloc, script, book, player, k as u32, gate) {
-                return true;
-            }
+    for k in numbers {
+        if !hand_over(alloc, script, book, player, *k, gate) {
+            return;
         }
     }
-    lacked
 }
 
 // Lets an actor that works hear post k, if it comes to it by its own seat too. Before that the gate is entered. Whether it has received

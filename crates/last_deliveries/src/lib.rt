@@ -4,6 +4,7 @@
 
 mod catching;
 mod levels;
+mod listing;
 mod marking;
 mod reading;
 mod settling;

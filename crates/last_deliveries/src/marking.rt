@@ -1,9 +1,11 @@
 //! What an actor has received of the posts of a book, and what it lacks.
 
-ghost use Rattle.std.specs.Prelude.{◌≡◌, ◌<◌, ◌≤◌, length, IfOk};
-ghost use Rattle.hb_base.specs.Limits.{most_posts};
+ghost use Rattle.std.specs.Prelude.{◌≡◌, ℕ, ◌++◌, true, length, filter, Contains, IfOk, OnOk};
+ghost use Rattle.std.specs.List.Sorted.{IsSorted};
+ghost use Rattle.std.specs.Ordering.{nat_cmp};
 ghost use Rattle.last_deliveries.specs.Catching.{AreMarked, lacks};
 
+use crate::listing::ListedPosts;
 use hb_wire::Post;
 use net_script::Script;
 use std::alloc::{AllocError, Global};
@@ -27,22 +29,72 @@ pub(crate) fn marks_of(
     Ok(marks)
 }
 
-// Whether post k comes to this actor of this node, and is not marked.
-pub(crate) fn lacks(
+// The numbers of the posts that come to this actor of this node and are not marked, rising. It looks only at the lists in which such
+// posts stand. Err is want of memory for the numbers.
+pub(crate) fn lacking(
+    alloc: Global,
+    script: &Script,
+    posts: &ListedPosts,
+    marks: &[bool],
+    node: u8,
+    actor: u8,
+) -> Result<Vec<u32>, AllocError>
+    requires marked { length marks.now ≡ length posts.now }
+    ensures all { IfOk result (λ numbers. (k : ℕ) → lacks script.now posts.now marks.now node actor k ≡ true → Contains numbers.items k) }
+    ensures rising { IfOk result (λ numbers. IsSorted nat_cmp numbers.items) }
+{
+    let all = posts.as_slice();
+    let mut numbers = Vec::new(alloc);
+    add_lacking(
+        script,
+        all,
+        marks,
+        node,
+        actor,
+        posts.to_node(node),
+        &mut numbers,
+    )?;
+    add_lacking(
+        script,
+        all,
+        marks,
+        node,
+        actor,
+        posts.to_actor(actor),
+        &mut numbers,
+    )?;
+    numbers.sort_unstable();
+    Ok(numbers)
+}
+
+// Adds those of a list that come to this actor of this node and are not marked.
+fn add_lacking(
     script: &Script,
     posts: &[Post],
     marks: &[bool],
     node: u8,
     actor: u8,
-    k: usize,
-) -> bool
-    requires stands { k < length posts.now }
-    requires few { length posts.now ≤ most_posts }
+    list: &[u32],
+    numbers: &mut Vec<u32>,
+) -> Result<(), AllocError>
+    requires marked { length marks.now ≡ length posts.now }
+    ensures { OnOk result (numbers.new.items ≡ numbers.old.items ++ filter (lacks script.now posts.now marks.now node actor) list.now) }
+{
+    for k in list {
+        if lacks(script, posts, marks, node, actor, *k) {
+            numbers.push(*k)?;
+        }
+    }
+    Ok(())
+}
+
+// Whether post k stands, comes to this actor of this node, and is not marked.
+fn lacks(script: &Script, posts: &[Post], marks: &[bool], node: u8, actor: u8, k: u32) -> bool
     requires marked { length marks.now ≡ length posts.now }
     ensures { result ≡ lacks script.now posts.now marks.now node actor k }
 {
-    if marks[k] {
+    let Some(post) = posts.get(k as usize) else {
         return false;
-    }
-    comes_to(&script.config, script, &posts[k], node, actor, k as u32)
+    };
+    !marks[k as usize] && comes_to(&script.config, script, post, node, actor, k)
 }

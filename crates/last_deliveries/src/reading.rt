@@ -7,6 +7,7 @@ ghost use Rattle.hb_rules.specs.declared.report.Fate.TheVariants.{Running};
 ghost use Rattle.actor_cell.specs.Held.{player_at};
 ghost use Rattle.actor_cell.specs.Turning.{IsShown};
 
+use crate::listing::ListedPosts;
 use hb_base::limits::MOST_POSTS;
 use hb_rules::{Actor, Book};
 use hb_wire::Post;
@@ -34,20 +35,20 @@ fn read_one<B: Book, A: Actor<B>>(
 pub(crate) fn read_on<B: Book, A: Actor<B>>(
     book: &mut B,
     actor: &mut A,
-    posts: &mut Vec<Post>,
+    posts: &mut ListedPosts,
 ) -> Result<(), AllocError>
     requires seat { B.knows book.old (A.seat actor.old) }
-    requires front { IsPrefix posts.old.items (B.seen (A.seat actor.old)) }
-    requires few { length posts.old.items ≤ most_posts }
+    requires front { IsPrefix posts.old (B.seen (A.seat actor.old)) }
+    requires few { length posts.old ≤ most_posts }
     ensures seat { B.knows book.new (A.seat actor.new) }
     ensures moved { B.moved (B.node (A.seat actor.old)) (B.actor (A.seat actor.old)) book.old book.new }
     ensures shown { IsShown (player_at B.config B.node B.actor B.seen A.seat A.view actor.old Running)
         (player_at B.config B.node B.actor B.seen A.seat A.view actor.new Running) }
-    ensures more { IsPrefix posts.old.items posts.new.items }
-    ensures all { IfOk result (λ _. posts.new.items ≡ B.seen (A.seat actor.new)) }
-    ensures few { IfOk result (λ _. length posts.new.items ≤ most_posts) }
+    ensures more { IsPrefix posts.old posts.new }
+    ensures all { IfOk result (λ _. posts.new ≡ B.seen (A.seat actor.new)) }
+    ensures few { IfOk result (λ _. length posts.new ≤ most_posts) }
 {
-    let first = posts.len() as u32;
+    let first = posts.as_slice().len() as u32;
     for k in first..MOST_POSTS + 1 {
         match read_one(book, actor, k)? {
             None => return Ok(()),

@@ -9,11 +9,11 @@ ghost use Rattle.last_deliveries.specs.Settling.{player_of, players_of, seats_at
 
 use crate::catching::catch_up;
 use crate::levels::highest;
+use crate::listing::ListedPosts;
 use crate::reading::read_on;
 use hb_base::Gate;
 use hb_base::limits::MOST_POSTS;
 use hb_rules::{Actor, Fate};
-use hb_wire::Post;
 use net_script::Script;
 use post_book::NamedBook;
 use std::alloc::{AllocError, Global};
@@ -23,11 +23,11 @@ use step_driver::Player;
 /// Delivers what is left of a run whose threads have all returned: to each actor that works, in turn and again and again, the posts
 /// that come to it and that it has not received, until none of them lacks one and nobody has seen more posts. Before each delivery
 /// the gate is entered. An actor that a stop leaves without power is restarted at once, and hears all posts that come to it again. One
-/// with another refusal ends, and so does one that finds no memory for the marks of what it has received, or to hear a post; the others
-/// go on. The answer is the number of posts, and bounds what any actor or seat has seen. Err is want of memory to read the posts. Some
-/// may have been delivered then, and all that is said of actors and seats holds.
+/// with another refusal ends, and so does one that finds no memory for the marks of what it has received, for the numbers of what it
+/// lacks, or to hear a post; the others go on. The answer is the number of posts, and bounds what any actor or seat has seen. Err is want
+/// of memory to read or to list the posts. Some may have been delivered then, and all that is said of actors and seats holds.
 ///
-/// Each post is read once for all rounds, and again only where the actor that reads has ended by a full book. A round costs the reading
+/// Each post is read and listed once for all rounds, and again only where the actor that reads has ended by a full book. A round costs the reading
 /// of the posts that are new in it, and for each actor what `catch_up` does. It may wait.
 pub fn settle<B: NamedBook, A: Actor<B>, R: Wait, G: Gate>(
     rt: &R,
@@ -86,7 +86,7 @@ fn settle_by_one<B: NamedBook, A: Actor<B>, R: Wait, G: Gate>(
     let Some(reader) = reader_of(players.as_slice()) else {
         return Ok(Some(highest(book, liars, MOST_POSTS)));
     };
-    let mut posts = Vec::new(alloc);
+    let mut posts = ListedPosts::new(alloc)?;
     for _ in rt.forever() {
         if !may_read(players.as_slice(), reader) {
             return Ok(None);
@@ -133,15 +133,15 @@ fn round<B: NamedBook, A: Actor<B>, G: Gate>(
     liars: &mut Vec<B::Seat>,
     gate: &G,
     reader: usize,
-    posts: &mut Vec<Post>,
+    posts: &mut ListedPosts,
 ) -> Result<Option<u32>, AllocError>
     requires seats { All (λ player. B.knows book.old (A.seat player.actor)) players.old.items }
     requires players { All (IsOfRun script.now) (players_of B.config B.node B.actor B.seen A.seat A.view players.old.items) }
     requires liars { All (λ seat. B.knows book.old seat) liars.old.items }
     requires within { reader < length players.old.items }
     requires reads { IfSome (slice_get players.old.items reader) (λ player. player.fate ≢ Fate.Full) }
-    requires front { HasReadFront posts.old.items reader (players_of B.config B.node B.actor B.seen A.seat A.view players.old.items) }
-    requires few { length posts.old.items ≤ most_posts }
+    requires front { HasReadFront posts.old reader (players_of B.config B.node B.actor B.seen A.seat A.view players.old.items) }
+    requires few { length posts.old ≤ most_posts }
     ensures book { B.name book.new ≡ B.name book.old }
     ensures seats { All (λ player. B.knows book.new (A.seat player.actor)) players.new.items }
     ensures players { All (IsOfRun script.now) (players_of B.config B.node B.actor B.seen A.seat A.view players.new.items) }
@@ -149,14 +149,14 @@ fn round<B: NamedBook, A: Actor<B>, G: Gate>(
         (players_of B.config B.node B.actor B.seen A.seat A.view players.new.items) }
     ensures liars { All (λ seat. B.knows book.new seat) liars.new.items }
     ensures watched { AllZip HasWatched (seats_at B.config B.node B.actor B.seen liars.old.items) (seats_at B.config B.node B.actor B.seen liars.new.items) }
-    ensures front { IfOk result (λ _. HasReadFront posts.new.items reader (players_of B.config B.node B.actor B.seen A.seat A.view players.new.items)) }
-    ensures few { IfOk result (λ _. length posts.new.items ≤ most_posts) }
+    ensures front { IfOk result (λ _. HasReadFront posts.new reader (players_of B.config B.node B.actor B.seen A.seat A.view players.new.items)) }
+    ensures few { IfOk result (λ _. length posts.new ≤ most_posts) }
     ensures settled { IfOk result (λ done. IfSome done (IsSettled script.now (players_of B.config B.node B.actor B.seen A.seat A.view players.new.items)
         (seats_at B.config B.node B.actor B.seen liars.new.items))) }
 {
     read_by(script, book, players, reader, posts)?;
-    let busy = catch_up_each(alloc, script, book, players, posts.as_slice(), gate);
-    let count = posts.len() as u32;
+    let busy = catch_up_each(alloc, script, book, players, posts, gate);
+    let count = posts.as_slice().len() as u32;
     let most = highest(book, liars, count);
     if busy || most > count {
         return Ok(None);
@@ -170,22 +170,22 @@ fn read_by<B: NamedBook, A: Actor<B>>(
     book: &mut B,
     players: &mut Vec<Player<A>>,
     reader: usize,
-    posts: &mut Vec<Post>,
+    posts: &mut ListedPosts,
 ) -> Result<(), AllocError>
     requires seats { All (λ player. B.knows book.old (A.seat player.actor)) players.old.items }
     requires players { All (IsOfRun _script.now) (players_of B.config B.node B.actor B.seen A.seat A.view players.old.items) }
     requires within { reader < length players.old.items }
     requires reads { IfSome (slice_get players.old.items reader) (λ player. player.fate ≢ Fate.Full) }
-    requires front { HasReadFront posts.old.items reader (players_of B.config B.node B.actor B.seen A.seat A.view players.old.items) }
-    requires few { length posts.old.items ≤ most_posts }
+    requires front { HasReadFront posts.old reader (players_of B.config B.node B.actor B.seen A.seat A.view players.old.items) }
+    requires few { length posts.old ≤ most_posts }
     ensures book { B.name book.new ≡ B.name book.old }
     ensures seats { All (λ player. B.knows book.new (A.seat player.actor)) players.new.items }
     ensures players { All (IsOfRun _script.now) (players_of B.config B.node B.actor B.seen A.seat A.view players.new.items) }
     ensures went { AllZip HasGoneOn (players_of B.config B.node B.actor B.seen A.seat A.view players.old.items)
         (players_of B.config B.node B.actor B.seen A.seat A.view players.new.items) }
-    ensures more { IsPrefix posts.old.items posts.new.items }
-    ensures read { IfOk result (λ _. HasReadAt posts.new.items reader (players_of B.config B.node B.actor B.seen A.seat A.view players.new.items)) }
-    ensures few { IfOk result (λ _. length posts.new.items ≤ most_posts) }
+    ensures more { IsPrefix posts.old posts.new }
+    ensures read { IfOk result (λ _. HasReadAt posts.new reader (players_of B.config B.node B.actor B.seen A.seat A.view players.new.items)) }
+    ensures few { IfOk result (λ _. length posts.new ≤ most_posts) }
 {
     let player = &mut players[reader];
     read_on(book, &mut player.actor, posts)
@@ -197,7 +197,7 @@ fn catch_up_each<B: NamedBook, A: Actor<B>, G: Gate>(
     script: &Script,
     book: &mut B,
     players: &mut Vec<Player<A>>,
-    posts: &[Post],
+    posts: &ListedPosts,
     gate: &G,
 ) -> bool
     requires seats { All (λ player. B.knows book.old (A.seat player.actor)) players.old.items }

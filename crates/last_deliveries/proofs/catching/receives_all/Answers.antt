@@ -1,4 +1,5 @@
-use Rattle.std.proofs.Common.{ℕ, Contains, refl, sym, ap, ◌∙◌, subst}
+use Rattle.std.proofs.Common.{ℕ, List, length, Contains, refl, sym, ap, ◌∙◌, subst}
+use Rattle.hb_wire.specs.declared.post.Post.{Post}
 use Rattle.hb_rules.specs.declared.report.Fate.TheVariants.{Running}
 use Rattle.hb_rules.specs.Report.{IsReceived}
 use Rattle.step_driver.specs.declared.player.Player.{Player}
@@ -38,4 +39,4 @@ returns-in-Ok-false-clause-all g c =
     let posts = c.args.posts.now in
     λ level. HasReceivedAll-level s posts p q shown
     (subst (λ (player : Player _). (k : ℕ) → IsReceived s.config s posts (b.node (a.seat player.actor)) (b.actor (a.seat player.actor)) k → Contains (a.view player.actor).got k) (sym still)
-    (c.in-Ok-false.ensures.all c.in-Ok-false.field-0-test)) (c.is_level.ensures.level level)
+    (c.in-Ok-false.ensures.all c.in-Ok-false.field-0-test)) (c.is_level.ensures.level level ∙ ap (λ (ps : List Post). length ps) c.as_slice.ensures)

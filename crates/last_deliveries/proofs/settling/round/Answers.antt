@@ -1,4 +1,4 @@
-use Rattle.std.proofs.Common.{List, subst, arith}
+use Rattle.std.proofs.Common.{List, length, ap, arith}
 use Rattle.std.specs.Prelude.{All}
 use Rattle.hb_wire.specs.declared.post.Post.{Post}
 use Rattle.last_deliveries.specs.Catching.{IsCaughtUp}
@@ -30,24 +30,24 @@ returns-clause-settled g c =
     let b = g.B.Book in
     let a = g.A.Actor in
     let s = c.args.script.now in
-    let posts = c.read_by.new.posts.items in
+    let posts = c.read_by.new.posts in
     let old = players_of b.config b.node b.actor b.seen a.seat a.view c.read_by.new.players.items in
     let new = players_of b.config b.node b.actor b.seen a.seat a.view c.catch_up_each-busy.new.players.items in
     let up : All (IsCaughtUp s posts) new =
-    subst (λ (ps : List Post). All (IsCaughtUp s ps) new) c.as_slice.ensures.value (c.catch_up_each-busy.ensures.up c.if-busy.false) in
-    IsSettled-up s posts c.args.reader c.len-count.result old new (seats_at b.config b.node b.actor b.seen c.highest-most.new.seats.items) c.in_ok-read_by.ensures.read c.catch_up_each-busy.ensures.went up
-    (omega (arith, c.len-count.ensures)) (λ k d within. omega (arith, c.highest-most.ensures.most k d within, c.if-most-count.false))
+    c.catch_up_each-busy.ensures.up c.if-busy.false in
+    IsSettled-up s posts c.args.reader (length c.as_slice.result.now) old new (seats_at b.config b.node b.actor b.seen c.highest-most.new.seats.items) c.in_ok-read_by.ensures.read c.catch_up_each-busy.ensures.went up
+    (omega (arith, ap (λ (ps : List Post). length ps) c.as_slice.ensures)) (λ k d within. omega (arith, c.highest-most.ensures.most k d within, c.if-most-count.false))
 
 pub returns-then-busy-clause-front : goal.returns-then-busy-clause-front
 returns-then-busy-clause-front g c =
     let b = g.B.Book in
     let a = g.A.Actor in
-    HasReadFront-on c.read_by.new.posts.items c.args.reader (players_of b.config b.node b.actor b.seen a.seat a.view c.read_by.new.players.items)
+    HasReadFront-on c.read_by.new.posts c.args.reader (players_of b.config b.node b.actor b.seen a.seat a.view c.read_by.new.players.items)
     (players_of b.config b.node b.actor b.seen a.seat a.view c.catch_up_each-busy.new.players.items) c.in_ok-read_by.ensures.read c.catch_up_each-busy.ensures.went
 
 pub returns-clause-front : goal.returns-clause-front
 returns-clause-front g c =
     let b = g.B.Book in
     let a = g.A.Actor in
-    HasReadFront-on c.read_by.new.posts.items c.args.reader (players_of b.config b.node b.actor b.seen a.seat a.view c.read_by.new.players.items)
+    HasReadFront-on c.read_by.new.posts c.args.reader (players_of b.config b.node b.actor b.seen a.seat a.view c.read_by.new.players.items)
     (players_of b.config b.node b.actor b.seen a.seat a.view c.catch_up_each-busy.new.players.items) c.in_ok-read_by.ensures.read c.catch_up_each-busy.ensures.went

@@ -24,8 +24,8 @@ loop-init g c =
       went = AllZip-refl HasGoneOn HasGoneOn-refl (players_of b.config b.node b.actor b.seen a.seat a.view c.args.players.now.items);
       liars = c.requires.liars;
       watched = AllZip-refl HasWatched HasWatched-refl (seats_at b.config b.node b.actor b.seen c.args.liars.now.items);
-      front = λ p stands. subst (λ (posts : List Post). IsPrefix posts p.seat.seen) (sym c.new-posts.ensures.items) (IsPrefix-nil p.seat.seen);
-      few = omega (arith, ap (λ (posts : List Post). length posts) c.new-posts.ensures.items);
+      front = λ p stands. subst (λ (posts : List Post). IsPrefix posts p.seat.seen) (sym c.in_ok-posts.ensures) (IsPrefix-nil p.seat.seen);
+      few = omega (arith, ap (λ (posts : List Post). length posts) c.in_ok-posts.ensures);
     }
 
 pub loop-preserved : goal.loop-preserved
@@ -83,3 +83,14 @@ returns-in_default-clause-settled g c =
     let full = subst (λ (players : List (Player _)). All (λ (player : Player _). player.fate ≡ Full) players) c.as_slice.ensures.value c.in_default.ensures in
     IsSettled-full c.args.script.now c.highest.result (players_of b.config b.node b.actor b.seen a.seat a.view c.args.players.now.items) (seats_at b.config b.node b.actor b.seen c.highest.new.seats.items)
     (All-map (λ (p : PlayerView). p.fate ≡ Full) (player_of b.config b.node b.actor b.seen a.seat a.view) c.args.players.now.items full) c.requires.players c.highest.ensures.least c.highest.ensures.most
+
+pub returns-in_err-posts-clause-went : goal.returns-in_err-posts-clause-went
+returns-in_err-posts-clause-went g c =
+    let b = g.B.Book in
+    let a = g.A.Actor in
+    AllZip-refl HasGoneOn HasGoneOn-refl (players_of b.config b.node b.actor b.seen a.seat a.view c.args.players.now.items)
+
+pub returns-in_err-posts-clause-watched : goal.returns-in_err-posts-clause-watched
+returns-in_err-posts-clause-watched g c =
+    let b = g.B.Book in
+    AllZip-refl HasWatched HasWatched-refl (seats_at b.config b.node b.actor b.seen c.args.liars.now.items)

@@ -18,6 +18,6 @@ invariant-loop g l =
       went : AllZip HasGoneOn (players_of b.config b.node b.actor b.seen a.seat a.view l.fn.players.items) (players_of b.config b.node b.actor b.seen a.seat a.view l.players.items);
       liars : All (λ seat. b.knows l.book seat) l.liars.items;
       watched : AllZip HasWatched (seats_at b.config b.node b.actor b.seen l.fn.liars.items) (seats_at b.config b.node b.actor b.seen l.liars.items);
-      front : HasReadFront l.posts.items l.reader (players_of b.config b.node b.actor b.seen a.seat a.view l.players.items);
-      few : length l.posts.items ≤ most_posts;
+      front : HasReadFront l.posts l.reader (players_of b.config b.node b.actor b.seen a.seat a.view l.players.items);
+      few : length l.posts ≤ most_posts;
     }

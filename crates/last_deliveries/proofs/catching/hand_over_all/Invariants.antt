@@ -1,10 +1,9 @@
-use Rattle.std.proofs.Common.{◌≡◌, ◌<◌, ℕ, false}
+use Rattle.std.proofs.Common.{◌≡◌}
 use Rattle.hb_rules.specs.declared.report.Fate.TheVariants.{Running}
-use Rattle.last_deliveries.specs.Catching.{lacks}
 use Rattle.last_deliveries.specs.Settling.{player_of, IsOfRun, HasGoneOn}
-use Rattle.last_deliveries.proofs.catching.deliver_unmarked.Given as goal
+use Rattle.last_deliveries.proofs.catching.hand_over_all.Given as goal
 
--- it works, and unless it lacked one of the posts so far nothing was done
+-- it works, and keeps what it has received
 abbrev pub invariant-loop-k : goal.invariant-loop-k
 invariant-loop-k g l =
     let b = g.B.Book in
@@ -15,6 +14,4 @@ invariant-loop-k g l =
       of_run : IsOfRun l.script (player_of b.config b.node b.actor b.seen a.seat a.view l.player);
       running : l.player.fate ≡ Running;
       went : HasGoneOn (player_of b.config b.node b.actor b.seen a.seat a.view l.fn.player) (player_of b.config b.node b.actor b.seen a.seat a.view l.player);
-      still : l.lacked ≡ false → l.player ≡ l.fn.player;
-      none : l.lacked ≡ false → (j : ℕ) → j < l.k → lacks l.script l.posts l.marks (b.node (a.seat l.fn.player.actor)) (b.actor (a.seat l.fn.player.actor)) j ≡ false;
     }
