@@ -49,8 +49,8 @@ impl Numbers {
     }
 }
 
-// Posts in their order, and their numbers in lists by where their addresses lead: to one node, or to one actor of each node. So an
-// actor finds in two of the lists all posts that may reach it. Clauses see the posts alone.
+// Posts in their order, and their numbers in lists by where their addresses lead: to one node, or to one actor of each node. So
+// an actor finds in two of the lists all posts that may reach it. Clauses see the posts alone.
 #[derive(Drop)]
 pub(crate) struct ListedPosts {
     posts: Vec<Post>,
@@ -127,7 +127,7 @@ fn no_numbers(alloc: Global) -> Result<Vec<Numbers>, AllocError>
     Ok(lists)
 }
 
-// Adds the number of a post to the list to which its address leads, if there is one. Err is want of memory, and nothing was added.
+// Adds the number of a post to the list to which its address leads, if there is one. Err is want of memory: nothing was added.
 fn enter(
     to_nodes: &mut Vec<Numbers>,
     to_actors: &mut Vec<Numbers>,

@@ -29,8 +29,8 @@ pub(crate) fn marks_of(
     Ok(marks)
 }
 
-// The numbers of the posts that come to this actor of this node and are not marked, rising. It looks only at the lists in which such
-// posts stand. Err is want of memory for the numbers.
+// The numbers of the posts that come to this actor of this node and are not marked, rising. It looks only at the lists in which
+// such posts stand. Err is want of memory for the numbers.
 pub(crate) fn lacking(
     alloc: Global,
     script: &Script,

@@ -22,13 +22,14 @@ use step_driver::Player;
 
 /// Delivers what is left of a run whose threads have all returned: to each actor that works, in turn and again and again, the posts
 /// that come to it and that it has not received, until none of them lacks one and nobody has seen more posts. Before each delivery
-/// the gate is entered. An actor that a stop leaves without power is restarted at once, and hears all posts that come to it again. One
-/// with another refusal ends, and so does one that finds no memory for the marks of what it has received, for the numbers of what it
-/// lacks, or to hear a post; the others go on. The answer is the number of posts, and bounds what any actor or seat has seen. Err is want
-/// of memory to read or to list the posts. Some may have been delivered then, and all that is said of actors and seats holds.
+/// the gate is entered. An actor that a stop leaves without power is restarted at once, and hears all posts that come to it again.
+/// One with another refusal ends, and so does one that finds no memory for the marks of what it has received, for the numbers of
+/// what it lacks, or to hear a post; the others go on. The answer is the number of posts, and bounds what any actor or seat has
+/// seen. Err is want of memory to read or to list the posts. Some may have been delivered then, and all that is said of actors and
+/// seats holds.
 ///
-/// Each post is read and listed once for all rounds, and again only where the actor that reads has ended by a full book. A round costs the reading
-/// of the posts that are new in it, and for each actor what `catch_up` does. It may wait.
+/// Each post is read and listed once for all rounds, and again only where the actor that reads has ended by a full book. A round
+/// costs the reading of the posts that are new in it, and for each actor what `catch_up` does. It may wait.
 pub fn settle<B: NamedBook, A: Actor<B>, R: Wait, G: Gate>(
     rt: &R,
     alloc: Global,
