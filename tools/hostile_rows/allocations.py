@@ -8,15 +8,14 @@ A library that is loaded before the C library counts them and lets one fail. The
 import dataclasses
 import functools
 import os
-import subprocess
 
 from hostile_rows.calls import ENDS
 from hostile_rows.processes import FIRST_USER, for_all, probe, with_workers
 from hostile_rows.program import Bench, Limits, tell
+from hostile_rows.shims import build
 from hostile_rows.texts import Scene, Wrong, read_run
 
 SCENARIO = "torn_stops.json"
-TARGET = "x86_64-unknown-linux-gnu"
 NO_END, NO_RUN, AN_END = "no actor ended by it", "nothing printed", "an actor ended by it"
 
 
@@ -96,26 +95,6 @@ def kind_of(given, answer):
     return AN_END if answer.status == 9 else NO_END
 
 
-def build_shim(bench):
-    """The library by which allocations fail, where every user may load it."""
-    shim, source = f"{bench.scratch}/fail.so", f"{bench.top}/bench/memory/fail.c"
-    compile_it = ["clang", f"--target={TARGET}", "--no-default-config", "-O1", "-fPIC", "-ffreestanding", "-c", source]
-    try:
-        # `rt doc` tells the path of a file at the top of the kit.
-        tools = os.path.dirname(call("rt", "doc").strip()) + "/toolchain/bin"
-        for name, *words in ([*compile_it, "-o", f"{shim}.o"], ["ld.lld", "-shared", f"{shim}.o", "-o", shim]):
-            call(f"{tools}/{name}", *words)
-    except (OSError, subprocess.CalledProcessError) as fault:
-        raise Wrong(f"the library by which allocations fail does not build ({fault})") from fault
-    os.chmod(shim, 0o755)
-    return shim
-
-
-def call(*words):
-    """What a program prints that has to succeed."""
-    return subprocess.run(words, check=True, capture_output=True, text=True, stdin=subprocess.DEVNULL).stdout
-
-
 def limits_of(part):
     """One thread of a user who may not do everything is all that the limit leaves: a probe shows it."""
     if not part.is_alone:
@@ -129,7 +108,8 @@ def limits_of(part):
 def runs_of(bench, parts=PARTS, given=None):
     """The runs of each part, of this scenario or the one that ships."""
     bench = for_all(bench)
-    shim, given = build_shim(bench), given or bench.scenario(SCENARIO)
+    shim = build(f"{bench.top}/bench/memory/fail.c", f"{bench.scratch}/fail.so")
+    given = given or bench.scenario(SCENARIO)
     return [Runs(bench, shim, part, with_workers(given, part.workers), limits_of(part)) for part in parts]
 
 
