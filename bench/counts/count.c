@@ -1,9 +1,9 @@
 /* Counts what a program does, over all its threads: what it asks memory for, what it copies, which threads it starts, and how
    often it comes to places of its own code. Loaded before the C library (LD_PRELOAD). At the end the counts are written into the
    file that COUNT_INTO names. Only the program whose path COUNT_PROGRAM names is counted. With COUNT_ALONE no thread can be
-   started. COUNT_PLACES has words of hexadecimal digits: the entry point of the program's file, and then for each place where it
-   lies there, and how many bytes its first operations have. A jump takes the place of these, so they have at least as many bytes
-   as it, and mean the same wherever they stand. */
+   started. COUNT_PLACES has words of hexadecimal digits. The first is the entry point of the program's file. For each place there
+   are two: where it lies in the file, and how many bytes its first operations have. A jump takes the place of these, so they have
+   at least as many bytes as it, and mean the same wherever they stand. At a place the flags may change. */
 
 #include "../preload.h"
 
