@@ -22,8 +22,6 @@ FUNCTIONS = {
     POSTS: ("hb_rules::posts::Posts::add_vote", "hb_rules::posts::Posts::add_lie"),
     BLOCKS: ("sha2::block256::compress",),
 }
-# The function with a lock that a seat takes once for each turn at a book that threads share.
-LOCKS = {TURNS: "post_book::book::PostBook::begin"}
 # What the library counts besides, in its order: calls of malloc and realloc, and what they ask for; of memcpy and memmove, and
 # what they copy; and the threads that are started. A copy that the compiler makes without a call is not seen.
 CALLS = (ALLOCATIONS, ALLOCATED, COPIES, COPIED, "threads")
@@ -67,8 +65,9 @@ def counter_of(path, scratch):
     """A counter of the program. Raises Wrong where a function is not in it that is counted."""
     program = Program(path)
     at_functions = [(what, program.place(program.function(name)[0])) for what, names in FUNCTIONS.items() for name in names]
-    at_locks = [(what, place) for what, name in LOCKS.items() for place in program.locks(name)]
-    return counter_at(program, path, scratch, at_functions + at_locks)
+    # Each turn that a seat has at a book ends at one of these.
+    at_turns = [(TURNS, place) for place in program.freed_locks()]
+    return counter_at(program, path, scratch, at_functions + at_turns)
 
 
 def counter_at(program, path, scratch, places):

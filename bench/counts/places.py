@@ -1,4 +1,5 @@
 """Finds the places of a program at which something is counted. The tools of the kit read the program."""
+import itertools
 import re
 import struct
 import subprocess
@@ -10,10 +11,10 @@ from hostile_rows.texts import Wrong
 JUMP = 5
 # How an operation begins that means something else at another place.
 TIED = re.compile(r"j|call|ret|loop|xbegin|.*rip")
-# A swap that tries to take a lock: if the word at the address in a register is 0, it becomes the 1 in another register.
-SWAP = re.compile(r"lock cmpxchgq\s+%(\w+), \(%(\w+)\)")
-# Among how many operations before a swap its registers are set.
-BEFORE = 9
+# A swap of a register with the word at an address.
+SWAP = re.compile(r"xchgq\s+%(\w+), \(%\w+\)")
+# What the lock of a turn book is while a thread may sleep on it: `AWAITED` of turn_book.
+AWAITED = 2
 
 
 def kit_tool(name, *words):
@@ -33,8 +34,7 @@ class Program:
         except (OSError, struct.error, subprocess.CalledProcessError) as fault:
             raise Wrong(f"{path} is no program that can be read ({fault})") from fault
         self.functions = [(line[3], int(line[0], 16), int(line[1], 16)) for line in symbols if len(line) == 4 and line[2] in "tT"]
-        # A prefix stands in a line of its own.
-        rows = re.findall(r"^ *([0-9a-f]+):\s+(.*)$", re.sub(r"\tlock\n.*?\t", "\tlock ", told), re.MULTILINE)
+        rows = re.findall(r"^ *([0-9a-f]+):\s+(.*)$", told, re.MULTILINE)
         self.operations = [(int(place, 16), text) for place, text in rows]
         self.numbers = {at: number for number, (at, _) in enumerate(self.operations)}
         self.targets = {int(found[1], 16) for _, text in self.operations if (found := re.match(r"j\w+\s+0x([0-9a-f]+)", text))}
@@ -58,23 +58,14 @@ class Program:
             raise Wrong(f"the operations at {at:x} cannot be moved, so nothing can be counted there")
         return at, end - at
 
-    def locks(self, name):
-        """The places where the lock of a function is first tried, in it and in each copy of it within a caller. Where these look
-        otherwise than those of the proved program, it is the function alone."""
-        start, end = self.function(name)
-        swaps = {at: self.place_of_word(number) for number, (at, text) in enumerate(self.operations) if SWAP.match(text)}
-        own = {word for at, word in swaps.items() if start <= at < end and word}
-        places = [at for at, word in swaps.items() if word in own] or [start]
-        return [self.place(at) for at in places]
-
-    def place_of_word(self, number):
-        """Where the address of the word stands that a swap makes 1 if it is 0, from the start of what has it. None where the swap
-        is another one."""
-        one, address = SWAP.match(self.operations[number][1]).groups()
-        before = [text for _, text in self.operations[max(0, number - BEFORE):number]]
-        low = f"{one}d" if one[1:].isdigit() else f"e{one[1:]}"
-        found = [re.fullmatch(rf"movq\s+(0x\w+)\(%\w+\), %{address}", text) for text in before]
-        words = {match[1] for match in found if match}
-        is_one = any(re.fullmatch(rf"movl\s+\$0x1, %{low}", text) for text in before)
-        is_zero = any(re.fullmatch(r"xorl\s+%eax, %eax", text) for text in before)
-        return words.pop() if len(words) == 1 and is_one and is_zero else None
+    def freed_locks(self):
+        """The places where a turn book's lock is freed. What it was is compared at once, since a thread may have to be woken. The
+        compiler copies this into callers, so it is found by its shape, and not by a name."""
+        places = []
+        for (at, text), (_, after) in itertools.pairwise(self.operations):
+            swap = SWAP.fullmatch(text)
+            if swap and re.fullmatch(rf"cmpq\s+\$0x{AWAITED:x}, %{swap[1]}", after):
+                places.append(self.place(at))
+        if not places:
+            raise Wrong("the program has no place where a turn book's lock is freed; places.py has what it looks like")
+        return places
