@@ -64,7 +64,7 @@ class Counter:
 def counter_of(path, scratch):
     """A counter of the program. Raises Wrong where a function is not in it that is counted."""
     program = Program(path)
-    at_functions = [(what, program.place(program.function(name)[0])) for what, names in FUNCTIONS.items() for name in names]
+    at_functions = [(what, program.function(name)) for what, names in FUNCTIONS.items() for name in names]
     # Each turn that a seat has at a book ends at one of these.
     at_turns = [(TURNS, place) for place in program.freed_locks()]
     return counter_at(program, path, scratch, at_functions + at_turns)

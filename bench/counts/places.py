@@ -23,29 +23,29 @@ def kit_tool(name, *words):
 
 
 class Program:
-    """A program: its functions by name, with address and size, its operations in order, and where its jumps go."""
+    """A program: its entry point, its functions, its operations in their order, and where its jumps go."""
 
     def __init__(self, path):
         try:
             with open(path, "rb") as file:
                 self.entry = struct.unpack_from("<Q", file.read(64), 24)[0]
-            symbols = [line.split(" ", 3) for line in kit_tool("llvm-nm", "--print-size", "--defined-only", path).splitlines()]
+            symbols = [line.split(" ", 2) for line in kit_tool("llvm-nm", "--defined-only", path).splitlines()]
             told = kit_tool("llvm-objdump", "--disassemble", "--no-show-raw-insn", path)
         except (OSError, struct.error, subprocess.CalledProcessError) as fault:
             raise Wrong(f"{path} is no program that can be read ({fault})") from fault
-        self.functions = [(line[3], int(line[0], 16), int(line[1], 16)) for line in symbols if len(line) == 4 and line[2] in "tT"]
+        self.functions = [(name, int(at, 16)) for at, kind, name in symbols if kind in "tT"]
         rows = re.findall(r"^ *([0-9a-f]+):\s+(.*)$", told, re.MULTILINE)
         self.operations = [(int(place, 16), text) for place, text in rows]
         self.numbers = {at: number for number, (at, _) in enumerate(self.operations)}
         self.targets = {int(found[1], 16) for _, text in self.operations if (found := re.match(r"j\w+\s+0x([0-9a-f]+)", text))}
 
     def function(self, name):
-        """Where the only function of this name is, and where it ends."""
+        """The place of the only function of this name."""
         named = re.compile(f"{re.escape(name)}(::<.*>)?")
-        found = [(at, at + size) for symbol, at, size in self.functions if named.fullmatch(symbol)]
+        found = [at for symbol, at in self.functions if named.fullmatch(symbol)]
         if len(found) != 1:
             raise Wrong(f"the program has {len(found)} functions {name}, and not one; counter.py names those that are counted")
-        return found[0]
+        return self.place(found[0])
 
     def place(self, at):
         """A place with the number of bytes of its first operations, of which a jump takes the place."""

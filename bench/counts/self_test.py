@@ -25,8 +25,7 @@ def known_counts(scratch):
     folder = kit()
     call(f"{folder}/bin/rattle-link", "--target", TARGET, "--toolchain", f"{folder}/toolchain", "-o", sample, f"{sample}.o")
     program = Program(sample)
-    place = program.place(program.function("passed")[0])
-    counted = counter.counter_at(program, sample, scratch, [("passes", place)])
+    counted = counter.counter_at(program, sample, scratch, [("passes", program.function("passed"))])
     for is_alone, wanted in ((False, ON_THREADS), (True, ALONE)):
         found = counted.counts(is_alone=is_alone)
         if found != wanted:
