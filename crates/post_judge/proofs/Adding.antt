@@ -1,6 +1,7 @@
 -- A post that was put into a table.
-use Rattle.std.proofs.Common.{◌≡◌, ◌⊎◌, Bool, true, false, cond, inl, inr, List, [], ◌∷◌, ◌++◌, Contains, Option, None, Some, if◌then◌else◌, refl, sym, ap, ◌∙◌, subst, arith}
+use Rattle.std.proofs.Common.{◌≡◌, ◌⊎◌, Bool, true, false, ◌||◌, cond, map, inl, inr, List, [], ◌∷◌, ◌++◌, Contains, Option, None, Some, if◌then◌else◌, refl, sym, ap, ◌∙◌, subst, arith}
 use Rattle.std.specs.BTreeMap.{BTreeMap, get}
+use Rattle.std.specs.List.{list_any}
 use Rattle.std.proofs.lemmas.List.Elements.{Contains-append_left, Contains-push, Contains-push_cases}
 use Rattle.hb_base.specs.Numbers.{Numbers}
 use Rattle.hb_wire.specs.declared.post.Post.{Post}
@@ -16,7 +17,7 @@ use Rattle.post_judge.proofs.Same.{place_is, place_self}
 
 -- a bucket that was put where there was none
 pub put_new : (old between new : BTreeMap Place Bucket) (place : Place) (b : Bucket) (t : Told) → between ≡ old → get places.cmp old place ≡ None
-    → b.told.items ≡ t ∷ []
+    → b ≡ t ∷ []
     → ((q : Place) → get places.cmp new q ≡ cond (same_place place q) (Some b) (get places.cmp between q))
     → (other : Place) → told_at new other ≡ (if same_place place other then told_at old place ++ t ∷ [] else told_at old other)
 put_new old between new place b t same none items updates other =
@@ -133,11 +134,17 @@ AreTold-unread c seen post table are none = record {
   ];
 }
 
+any_posts : (post : Post) (told : List Told) → has_post post (map (λ (t : Told). t.post) told) ≡ list_any (λ (t : Told). same_post t.post post) told
+any_posts post [] = refl
+any_posts post (t ∷ told) = ap (λ (b : Bool). same_post t.post post || b) (any_posts post told)
+
 -- a post that is among those at some place was judged before
 pub judged_before : (c : Numbers) (seen : List Post) (table : BTreeMap Place Bucket) (p : Place) (post : Post)
-    → ((a b : Post) → same_post a b ≡ true → a ≡ b) → AreTold c seen table → has_post post (told_at table p) ≡ true → Contains seen post
+    → ((a b : Post) → same_post a b ≡ true → a ≡ b) → AreTold c seen table → has_post post (map (λ (t : Told). t.post) (told_at table p)) ≡ true
+    → Contains seen post
 judged_before c seen table p post same are has =
-    let found = any_stands (λ (t : Told). same_post t.post post) (told_at table p) has in
+    let found = any_stands (λ (t : Told). same_post t.post post) (told_at table p)
+    (sym (any_posts post (told_at table p)) ∙ has) in
     subst (λ (q : Post). Contains seen q) (same found.0.post post found.2) (are.right p found.0 found.1).stands
 
 -- a post that was judged before

@@ -1,5 +1,5 @@
 -- Whether a post may follow a history. The letters: actor x of node i.
-use Rattle.std.proofs.Common.{◌≡◌, ℕ, ◌<◌, ◌≤◌, nat_lt, Bool, true, false, ◌||◌, map, inl, inr, List, [], ◌∷◌, ◌++◌, Contains, None, Some, refl, sym, ap, ◌∙◌, subst, arith}
+use Rattle.std.proofs.Common.{◌≡◌, ℕ, ◌<◌, ◌≤◌, nat_lt, Bool, true, false, inl, inr, List, [], ◌∷◌, ◌++◌, Contains, None, Some, refl, sym, ap, ◌∙◌, subst, arith}
 use Rattle.std.specs.BTreeMap.{BTreeMap}
 use Rattle.std.specs.List.{list_any}
 use Rattle.std.proofs.lemmas.Bool.{and_from, eq-eqb, lt-ltb, both_ways}
@@ -30,7 +30,6 @@ use Rattle.history_verdict.specs.Verdicts.{Judges}
 use Rattle.post_judge.specs.declared.told.Bucket.{Bucket}
 use Rattle.post_judge.specs.declared.place.Place.{Place}
 use Rattle.post_judge.specs.Places.{casts, is_cast_ever, looked_at}
-use Rattle.post_judge.specs.declared.told.Told.{Told}
 use Rattle.post_judge.specs.Tables.{own_votes, told_from, AreTold}
 use Rattle.post_judge.proofs.Epochs.{next_in_run}
 use Rattle.post_judge.proofs.Heard.{own_right, own_all, own_lane, own_desk, heard_among, heard_kept}
@@ -127,11 +126,6 @@ module _ (c : Numbers) (seen : List Post) (table : BTreeMap Place Bucket) (are :
     lane = lane;
     among = heard_among c seen table are i x (looked_at c i x vote) (looked_at-listens c i x vote such);
   }
-
--- votes of posts, asked in place of the posts
-pub any_votes : (vote : Vote) (told : List Told) → list_any (same_vote vote) (map (λ (t : Told). t.vote) told) ≡ list_any (λ (t : Told). same_vote vote t.vote) told
-any_votes vote [] = refl
-any_votes vote (t ∷ told) = ap (λ (b : Bool). same_vote vote t.vote || b) (any_votes vote told)
 
 -- a vote that the actor has cast before
 pub cast_before : (c : Numbers) (seen : List Post) (table : BTreeMap Place Bucket) (i x : ℕ) (vote : Vote) → AreTold c seen table

@@ -5,6 +5,7 @@ mod Judging
 mod Kept
 mod Next
 mod OwnEpoch
+mod Pairs
 mod Places
 mod Rounds
 mod Same

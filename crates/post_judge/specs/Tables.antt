@@ -20,8 +20,8 @@ abbrev pub same_post : Post → Post → Bool
 same_post p q = posts.eq p q
 
 -- whether a post is among these
-abbrev pub has_post : Post → List Told → Bool
-has_post post told = list_any (λ t. same_post t.post post) told
+abbrev pub has_post : Post → List Post → Bool
+has_post post posts = list_any (λ p. same_post p post) posts
 
 -- whether two places are the same
 abbrev pub same_place : Place → Place → Bool
@@ -30,7 +30,7 @@ same_place a b = is_at (places.cmp a) b
 -- the posts of a bucket, if there is one
 abbrev pub told_in : Option Bucket → List Told
 told_in None = []
-told_in (Some bucket) = bucket.told.items
+told_in (Some bucket) = bucket
 
 -- the posts at a place
 abbrev pub told_at : BTreeMap Place Bucket → Place → List Told

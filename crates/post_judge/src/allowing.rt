@@ -16,10 +16,9 @@ ghost use Rattle.post_judge.specs.Places.{casts, is_cast_ever, looked_at};
 ghost use Rattle.post_judge.specs.Tables.{own_votes, told_from, AreTold};
 
 use crate::casting::{Caster, casts, may_cast};
-use crate::gathering::{told_from, votes_of};
+use crate::gathering::told_from;
 use crate::placing::{looked_at, own_place};
 use crate::table::Table;
-use crate::told::Told;
 use broadcast_judge::Known;
 use hb_rules::Heard;
 use hb_wire::{Post, Vote, equality_laws};
@@ -102,19 +101,18 @@ fn is_allowed(
         → IsAllowed table.now.config node actor table.now.posts.items vote.now → may ≡ true) }
 {
     let place = own_place(table.config.n(), node, actor, vote);
-    let cast = table.buckets.at(place);
-    if is_among(vote, cast) {
+    let (_, own) = table.buckets.at(place);
+    if is_among(vote, own) {
         return Ok(true);
     }
-    let own = votes_of(table.alloc, cast)?;
-    may_cast_now(table, known, node, actor, &own, vote)
+    may_cast_now(table, known, node, actor, own, vote)
 }
 
-// Whether one of these posts spells a vote.
-fn is_among(vote: &Vote, cast: &[Told]) -> bool
-    ensures { result ≡ list_any (λ t. same_vote vote.now t.vote) cast.now }
+// Whether a vote is among these.
+fn is_among(vote: &Vote, own: &[Vote]) -> bool
+    ensures { result ≡ list_any (same_vote vote.now) own.now }
 {
-    cast.iter().any(|one| *vote == one.vote)
+    own.iter().any(|one| *vote == *one)
 }
 
 // Whether a post goes where its vote goes.

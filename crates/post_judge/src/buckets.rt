@@ -1,5 +1,5 @@
 //! Posts by their places.
-ghost use Rattle.std.specs.Prelude.{◌≡◌, [], ◌∷◌, ◌++◌, OnOk, if◌then◌else◌};
+ghost use Rattle.std.specs.Prelude.{◌≡◌, [], ◌∷◌, ◌++◌, map, OnOk, if◌then◌else◌};
 ghost use Rattle.post_judge.specs.declared.place.Place.{Place};
 ghost use Rattle.post_judge.specs.Tables.{same_place, told_at, Adds};
 
@@ -25,13 +25,14 @@ impl Buckets {
         }
     }
 
-    // The posts at a place, lent.
-    pub(crate) fn at(&self, place: Place) -> &[Told]
-        ensures { result.now ≡ told_at self.now.by_place place }
+    // The posts at a place and their votes, lent.
+    pub(crate) fn at(&self, place: Place) -> (&[Post], &[Vote])
+        ensures posts { result.0.now ≡ map (λ t. t.post) (told_at self.now.by_place place) }
+        ensures votes { result.1.now ≡ map (λ t. t.vote) (told_at self.now.by_place place) }
     {
         match self.by_place.get(&place) {
-            Some(bucket) => bucket.told.as_slice(),
-            None => &[],
+            Some(bucket) => (bucket.posts(), bucket.votes()),
+            None => (&[], &[]),
         }
     }
 
@@ -42,14 +43,12 @@ impl Buckets {
     {
         match self.by_place.get_mut(&place) {
             Some(bucket) => {
-                bucket.told.push(told)?;
+                bucket.push(told)?;
                 Ok(())
             }
             None => {
-                let mut bucket = Bucket {
-                    told: Vec::new(alloc),
-                };
-                bucket.told.push(told)?;
+                let mut bucket = Bucket::new(alloc)?;
+                bucket.push(told)?;
                 self.by_place.insert(place, bucket)?;
                 Ok(())
             }

@@ -1,41 +1,32 @@
-//! What an actor has cast, and what it hears, by the places of posts.
-ghost use Rattle.std.specs.Prelude.{◌≡◌, ◌++◌, map, filter_map, IfOk, OnOk};
+//! What an actor hears, by the places of posts.
+ghost use Rattle.std.specs.Prelude.{◌≡◌, ◌++◌, length, filter_map, IfOk, OnOk};
 ghost use Rattle.std.specs.Option.{option_to_list};
-ghost use Rattle.post_judge.specs.Tables.{told_at, told_to, told_from};
+ghost use Rattle.post_judge.specs.Pairs.{pairs};
+ghost use Rattle.post_judge.specs.Tables.{told_to, told_from};
 
 use crate::buckets::Buckets;
 use crate::place::Place;
-use crate::told::Told;
 use hb_base::Config;
 use hb_rules::Heard;
-use hb_wire::{Vote, reaches};
+use hb_wire::{Post, Vote, reaches};
 use std::alloc::{AllocError, Global};
 
-// The votes of posts. They share their bytes.
-pub(crate) fn votes_of(alloc: Global, told: &[Told]) -> Result<Vec<Vote>, AllocError>
-    ensures { IfOk result (λ votes. votes.items ≡ map (λ t. t.vote) told.now) }
-{
-    let mut votes = Vec::new(alloc);
-    for one in told {
-        votes.push(one.vote.clone()?)?;
-    }
-    Ok(votes)
-}
-
 // What an actor of a node hears of a post at a place where it listens, if the post reaches it.
-fn told_to(config: &Config, node: u8, actor: u8, told: &Told) -> Result<Option<Heard>, AllocError>
-    ensures { IfOk result (λ heard. heard ≡ told_to config.now node actor told.now) }
+fn told_to(
+    config: &Config,
+    node: u8,
+    actor: u8,
+    post: &Post,
+    vote: &Vote,
+) -> Result<Option<Heard>, AllocError>
+    ensures { IfOk result (λ heard. heard ≡ told_to config.now node actor (record { post = post.now; vote = vote.now })) }
 {
     let n = config.n();
-    if !reaches(n, &told.post, node, actor) {
+    if !reaches(n, post, node, actor) {
         return Ok(None);
     }
-    let from = if actor == n {
-        told.post.actor
-    } else {
-        told.post.from
-    };
-    let vote = told.vote.clone()?;
+    let from = if actor == n { post.actor } else { post.from };
+    let vote = vote.clone()?;
     Ok(Some(Heard { from, vote }))
 }
 
@@ -57,13 +48,15 @@ fn hear_told(
     config: &Config,
     node: u8,
     actor: u8,
-    told: &[Told],
+    posts: &[Post],
+    votes: &[Vote],
     heard: &mut Vec<Heard>,
 ) -> Result<(), AllocError>
-    ensures { OnOk result (heard.new.items ≡ heard.old.items ++ filter_map (told_to config.now node actor) told.now) }
+    requires { length posts.now ≡ length votes.now }
+    ensures { OnOk result (heard.new.items ≡ heard.old.items ++ filter_map (told_to config.now node actor) (pairs posts.now votes.now)) }
 {
-    for one in told {
-        let said = told_to(config, node, actor, one)?;
+    for k in 0..posts.len() {
+        let said = told_to(config, node, actor, &posts[k], &votes[k])?;
         push_some(heard, said)?;
     }
     Ok(())
@@ -82,7 +75,8 @@ pub(crate) fn told_from(
 {
     let mut heard = Vec::new(alloc);
     for place in places {
-        hear_told(config, node, actor, buckets.at(*place), &mut heard)?;
+        let (posts, votes) = buckets.at(*place);
+        hear_told(config, node, actor, posts, votes, &mut heard)?;
     }
     Ok(heard)
 }

@@ -6,7 +6,6 @@ ghost use Rattle.post_judge.specs.Tables.{has_post, AreTold};
 
 use crate::buckets::Buckets;
 use crate::placing::{cast_place, own_place, told_place};
-use crate::told::Told;
 use coin_deal::{Deal, deal};
 use hb_base::Config;
 use hb_wire::{Post, Vote, WireFault, equality_laws, read_shared};
@@ -40,10 +39,10 @@ pub(crate) fn vote_of(
 }
 
 // Whether a post is among these.
-fn has_post(told: &[Told], post: &Post) -> bool
-    ensures { result ≡ has_post post.now told.now }
+fn has_post(posts: &[Post], post: &Post) -> bool
+    ensures { result ≡ has_post post.now posts.now }
 {
-    told.iter().any(|one| one.post == *post)
+    posts.iter().any(|one| *one == *post)
 }
 
 impl Table {
@@ -72,7 +71,8 @@ impl Table {
         equality_laws();
         let n = self.config.n();
         let place = own_place(n, post.from, post.actor, vote);
-        has_post(self.buckets.at(place), post)
+        let (posts, _) = self.buckets.at(place);
+        has_post(posts, post)
     }
 
     // Puts a post that spells a vote at its places. One that was judged before is there: an actor that is started again says again
@@ -90,7 +90,7 @@ impl Table {
             return Ok(());
         }
         let cast = cast_place(&self.config, post, vote);
-        let told = told_place(&self.config, &self.deal, post, vote);
+        let told = told_place(self.alloc, &self.config, &self.deal, post, vote)?;
         self.buckets.add_at(self.alloc, cast, post, vote)?;
         self.buckets.add_at(self.alloc, told, post, vote)?;
         Ok(())

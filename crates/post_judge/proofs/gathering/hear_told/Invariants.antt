@@ -1,7 +1,8 @@
 use Rattle.std.proofs.Common.{◌≡◌, ◌++◌, filter_map, take}
+use Rattle.post_judge.specs.Pairs.{pairs}
 use Rattle.post_judge.specs.Tables.{told_to}
 use Rattle.post_judge.proofs.gathering.hear_told.Given as goal
 
 -- what is heard of the posts before this one
-abbrev pub invariant-loop-one : goal.invariant-loop-one
-invariant-loop-one l = l.heard.items ≡ l.fn.heard.items ++ filter_map (told_to l.config l.fn.node l.fn.actor) (take l.one-index l.told)
+abbrev pub invariant-loop-k : goal.invariant-loop-k
+invariant-loop-k l = l.heard.items ≡ l.fn.heard.items ++ filter_map (told_to l.config l.fn.node l.fn.actor) (take l.k (pairs l.posts l.votes))

@@ -5,7 +5,7 @@ use Rattle.post_judge.proofs.buckets.Buckets.add.Goals as goal
 
 pub returns-in_ok-insert-in-None : goal.returns-in_ok-insert-in-None
 returns-in_ok-insert-in-None c =
-    put_new c.args.self.now.by_place _ c.insert.new.self c.args.place (record { told = c.push-in-None.new.self }) c.args.told
+    put_new c.args.self.now.by_place _ c.insert.new.self c.args.place c.push-in-None.new.self c.args.told
     c.get_mut.follows.holds-at-none (sym c.in-None.ensures.value)
-    (c.in_ok-push-in-None.ensures.items ∙ ap (λ (ts : List Told). ts ++ c.args.told ∷ []) c.new.ensures.items)
+    (c.in_ok-push-in-None.ensures ∙ ap (λ (ts : List Told). ts ++ c.args.told ∷ []) c.in_ok-bucket-in-None.ensures)
     c.in_ok-insert-in-None.ensures.updates.0
