@@ -53,7 +53,8 @@ fn hear_told(
     heard: &mut Vec<Heard>,
 ) -> Result<(), AllocError>
     requires { length posts.now ≡ length votes.now }
-    ensures { OnOk result (heard.new.items ≡ heard.old.items ++ filter_map (told_to config.now node actor) (pairs posts.now votes.now)) }
+    ensures { OnOk result (heard.new.items
+        ≡ heard.old.items ++ filter_map (told_to config.now node actor) (pairs posts.now votes.now)) }
 {
     for k in 0..posts.len() {
         let said = told_to(config, node, actor, &posts[k], &votes[k])?;
