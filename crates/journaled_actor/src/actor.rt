@@ -12,7 +12,7 @@ use crate::cores::Core;
 use crate::stepping::advance;
 use disk_model::{Note, Power};
 use hb_base::limits::MOST_STOPS;
-use hb_rules::{Actor, ActorFault, Book, Outbox};
+use hb_rules::{Actor, ActorFault, Book, Due, Outbox};
 use hb_wire::Post;
 use std::alloc::{AllocError, Global};
 use std::marker::Model;
@@ -29,6 +29,8 @@ pub struct JournaledActor<B: Book, D: Power + Drop, C: Core> {
     live: bool,
     got: Vec<u32>,
     restarts: u8,
+    // The votes that became due last. Each delivery uses their room again.
+    due: Due,
 }
 
 impl<B: Book, D: Power + Drop, C: Core> Model for JournaledActor<B, D, C> {
@@ -78,6 +80,7 @@ impl<B: Book, D: Power + Drop, C: Core> JournaledActor<B, D, C> {
             live: false,
             got: Vec::new(alloc),
             restarts: 0,
+            due: Due::new(alloc),
         }
     }
 
@@ -146,6 +149,7 @@ impl<B: Book, D: Power + Drop, C: Core> Actor<B> for JournaledActor<B, D, C> {
             &mut self.journal,
             &mut self.seat,
             book,
+            &mut self.due,
             out,
         );
         self.live = begun.is_ok();
@@ -168,6 +172,7 @@ impl<B: Book, D: Power + Drop, C: Core> Actor<B> for JournaledActor<B, D, C> {
             &mut self.seat,
             book,
             &mut self.got,
+            &mut self.due,
             out,
         );
         self.live = heard.is_ok();
@@ -186,6 +191,7 @@ impl<B: Book, D: Power + Drop, C: Core> Actor<B> for JournaledActor<B, D, C> {
             &mut self.journal,
             &mut self.seat,
             book,
+            &mut self.due,
             out,
         );
         self.live = begun.is_ok();
@@ -205,6 +211,7 @@ impl<B: Book, D: Power + Drop, C: Core> Actor<B> for JournaledActor<B, D, C> {
             live: _,
             got: _,
             restarts: _,
+            due: _,
         } = self;
         seat
     }

@@ -20,7 +20,8 @@ use hb_wire::Vote;
 use std::alloc::Global;
 use vote_journal::Journal;
 
-// Rebuilds the core from the votes of the journal, which are all cast, and casts what is owed then.
+// Rebuilds the core from the votes of the journal, which are all cast, and casts what is owed then. Of `due` the room alone
+// is used.
 fn begin<B: Book, D: Disk, C: Core>(
     alloc: Global,
     votes: &[Vote],
@@ -28,6 +29,7 @@ fn begin<B: Book, D: Disk, C: Core>(
     journal: &mut Journal<D>,
     seat: &mut B::Seat,
     book: &mut B,
+    due: &mut Due,
     out: &mut Outbox,
 ) -> Result<(), ActorFault>
     requires seat { B.knows book.old seat.old }
@@ -47,18 +49,20 @@ fn begin<B: Book, D: Disk, C: Core>(
     ensures nothing { votes.now ≡ [] → (C.terms core.old).owed [] [] ≡ [] → CastsNothing (C.terms core.old) (B.seen seat.old) (B.seen seat.new) result }
     ensures disk { DiskGoes D.supply D.faults D.explains (disk_of journal.old) (disk_of journal.new) result }
 {
-    let mut due = Due::new(alloc);
-    core.rebuild(alloc, votes, &mut due)?;
+    due.clear();
+    core.rebuild(alloc, votes, due)?;
     cast(alloc, due.votes(), core, journal, seat, book, out)
 }
 
-/// Recovers the journal, posts each of its votes, though it was posted before, and then casts what is owed.
+/// Recovers the journal, posts each of its votes, though it was posted before, and then casts what is owed. Of `due` the
+/// room alone is used.
 pub(crate) fn take_up<B: Book, D: Disk, C: Core>(
     alloc: Global,
     core: &mut C,
     journal: &mut Journal<D>,
     seat: &mut B::Seat,
     book: &mut B,
+    due: &mut Due,
     out: &mut Outbox,
 ) -> Result<(), ActorFault>
     requires seat { B.knows book.old seat.old }
@@ -81,5 +85,5 @@ pub(crate) fn take_up<B: Book, D: Disk, C: Core>(
 {
     let votes = read_back(alloc, core, journal)?;
     post_all(&votes, core, seat, book, out)?;
-    begin(alloc, &votes, core, journal, seat, book, out)
+    begin(alloc, &votes, core, journal, seat, book, due, out)
 }

@@ -75,7 +75,8 @@ fn receive<B: Book, C: Core>(
     Ok(())
 }
 
-/// Receives post k, and casts what is owed then.
+/// Receives post k, and casts what is owed then. Of `due` the room alone is used, so that no delivery asks for room that one
+/// before has had.
 pub(crate) fn advance<B: Book, D: Disk, C: Core>(
     alloc: Global,
     k: u32,
@@ -84,6 +85,7 @@ pub(crate) fn advance<B: Book, D: Disk, C: Core>(
     seat: &mut B::Seat,
     book: &mut B,
     got: &mut Vec<u32>,
+    due: &mut Due,
     out: &mut Outbox,
 ) -> Result<(), ActorFault>
     requires seat { B.knows book.old seat.old }
@@ -111,7 +113,7 @@ pub(crate) fn advance<B: Book, D: Disk, C: Core>(
     ensures few { (most : ℕ) → 1 ≤ most → IsFew (C.terms core.old) (B.seen seat.old) most → IsFew (C.terms core.old) (B.seen seat.new) most }
     ensures disk { DiskGoes D.supply D.faults D.explains (disk_of journal.old) (disk_of journal.new) result }
 {
-    let mut due = Due::new(alloc);
-    receive(alloc, k, core, seat, book, got, &mut due)?;
+    due.clear();
+    receive(alloc, k, core, seat, book, got, due)?;
     cast(alloc, due.votes(), core, journal, seat, book, out)
 }

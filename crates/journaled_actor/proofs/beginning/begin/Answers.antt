@@ -38,7 +38,7 @@ cast-requires g c =
     let u = g.C.Core.terms c.rebuild.new.self in
     let made = c.in_ok-rebuild.ensures in
     let may = begins t u (b.seen c.args.seat.now) (text_of (g.D.Disk.seen (disk_of c.args.journal.now))) c.args.votes.now c.votes.result.now made.terms
-    c.requires.lawful c.requires.all (c.votes.ensures ∙ made.owed ∙ ap (λ (xs : List Vote). xs ++ t.owed c.args.votes.now []) c.new-due.ensures) in
+    c.requires.lawful c.requires.all (c.votes.ensures ∙ made.owed ∙ ap (λ (xs : List Vote). xs ++ t.owed c.args.votes.now []) c.clear.ensures.votes) in
     record {
       seat = c.requires.seat;
       is = subst (λ (v : Terms). IsOf v (b.config c.args.seat.now) (b.node c.args.seat.now) (b.actor c.args.seat.now)) (sym made.terms) c.requires.is;
@@ -59,7 +59,7 @@ returns g c =
     let votes = c.args.votes.now in
     let due = c.votes.result.now in
     let text = text_of (d.seen (disk_of c.args.journal.now)) in
-    let due_is : due ≡ t.owed votes [] = c.votes.ensures ∙ made.owed ∙ ap (λ (xs : List Vote). xs ++ t.owed votes []) c.new-due.ensures in
+    let due_is : due ≡ t.owed votes [] = c.votes.ensures ∙ made.owed ∙ ap (λ (xs : List Vote). xs ++ t.owed votes []) c.clear.ensures.votes in
     let may = begins t u old text votes due made.terms c.requires.lawful c.requires.all due_is in
     record {
       terms = made.terms;

@@ -73,7 +73,7 @@ cast-requires g c =
     let heard = heard_with t (heard_got t old got) did.owed.0 in
     let heard_is = heard_now t old mid got c.args.k did.owed.0 prefix c.requires.got did.owed.1 in
     let due_is : due ≡ t.owed votes heard =
-    c.votes.ensures ∙ hears.due ∙ ap (λ (xs : List Vote). xs ++ t.owed votes heard) c.new-due.ensures in
+    c.votes.ensures ∙ hears.due ∙ ap (λ (xs : List Vote). xs ++ t.owed votes heard) c.clear.ensures.votes in
     let may = steps t u mid text (got ++ c.args.k ∷ []) votes due heard did.terms c.requires.lawful heard_is all due_is in
     record {
       seat = did.seat;
@@ -105,7 +105,7 @@ returns g c =
     let heard = heard_with t (heard_got t old got) did.owed.0 in
     let heard_is = heard_now t old mid got c.args.k did.owed.0 prefix c.requires.got did.owed.1 in
     let due_is : due ≡ t.owed votes heard =
-    c.votes.ensures ∙ hears.due ∙ ap (λ (xs : List Vote). xs ++ t.owed votes heard) c.new-due.ensures in
+    c.votes.ensures ∙ hears.due ∙ ap (λ (xs : List Vote). xs ++ t.owed votes heard) c.clear.ensures.votes in
     let may = steps t u mid text (got ++ c.args.k ∷ []) votes due heard did.terms c.requires.lawful heard_is all due_is in
     let new = b.seen c.cast.new.seat in
     let now = text_of (g.D.Disk.seen (disk_of c.cast.new.journal)) in
