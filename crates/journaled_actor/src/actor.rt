@@ -84,8 +84,8 @@ impl<B: Book, D: Power + Drop, C: Core> JournaledActor<B, D, C> {
         }
     }
 
-    /// Whatever a crash leaves of its disk now, in any state of the actor, a recovery of it reads each vote that the actor
-    /// has cast. The call does nothing.
+    /// Whatever a crash leaves of its disk now, in any state of the actor: it is sound, and the entries that a recovery gives of
+    /// it have each vote that the actor has cast. The call does nothing.
     pub fn kept_in_images(&self)
         ensures { (image : Image) (vote : Vote) → D.may_leave self.now.disk image
             → Contains (cast_in (C.terms self.now.core) (B.seen self.now.seat)) vote → HasVote (C.terms self.now.core).config image vote }
