@@ -18,24 +18,24 @@ use disk_model::Disk;
 use hb_rules::{ActorFault, Book, Due, Outbox};
 use hb_wire::Vote;
 use std::alloc::Global;
-use vote_journal::Journal;
+use vote_journal::{Entry, Journal};
 
-// Keeps votes as one entry. Bytes that no entry can hold are refused as memory that is wanting.
-fn keep<D: Disk>(text: &[u8], journal: &mut Journal<D>) -> Result<(), ActorFault>
+// Keeps the entry of votes. One that the journal can't hold is refused as memory that is wanting.
+fn keep<D: Disk>(entry: Entry, journal: &mut Journal<D>) -> Result<(), ActorFault>
     requires ready { IsReady D.seen D.may_leave journal.old }
     ensures ready { OnOk result (IsReady D.seen D.may_leave journal.new) }
     ensures entries { OnOk result (entries_in_journal D.seen journal.new
-        ≡ folded_if_full (entries_in_journal D.seen journal.old) ++ text.now ∷ []) }
-    ensures text { OnOk result (text_of (D.seen (disk_of journal.new)) ≡ text_of (D.seen (disk_of journal.old)) ++ text.now) }
+        ≡ folded_if_full (entries_in_journal D.seen journal.old) ++ entry ∷ []) }
+    ensures text { OnOk result (text_of (D.seen (disk_of journal.new)) ≡ text_of (D.seen (disk_of journal.old)) ++ entry) }
     ensures images { (image : Image) → D.may_leave (disk_of journal.new) image
-        → SaysMaybe (text_of (D.seen (disk_of journal.old))) text.now (most_while (live_entries (D.seen (disk_of journal.old)))) image }
+        → SaysMaybe (text_of (D.seen (disk_of journal.old))) entry (most_while (live_entries (D.seen (disk_of journal.old)))) image }
     ensures disk { DiskGoes D.supply D.faults D.explains (disk_of journal.old) (disk_of journal.new) result }
     ensures other { IsErrOf result ActorFault.Full → ⊥ }
 {
-    if text.len() > u32::MAX as usize {
+    if entry.len() > u32::MAX as usize {
         return Err(ActorFault::Memory);
     }
-    match record(journal, text) {
+    match record(journal, entry) {
         Ok(()) => Ok(()),
         Err(fault) => Err(fault_of(fault)),
     }
@@ -73,7 +73,7 @@ pub(crate) fn cast<B: Book, D: Disk, C: Core>(
     if due.is_empty() {
         return Ok(());
     }
-    let text = write_votes(alloc, &core.config(), due)?;
-    keep(&text, journal)?;
+    let entry = write_votes(alloc, &core.config(), due)?;
+    keep(entry, journal)?;
     post_all(due, core, seat, book, out)
 }

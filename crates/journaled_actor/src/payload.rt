@@ -11,17 +11,22 @@ use hb_base::Config;
 use hb_rules::spell;
 use hb_wire::{Vote, WireFault, read};
 use std::alloc::{AllocError, Global};
+use vote_journal::Entry;
 
 // No spelling is longer.
 const LONGEST_SPELLING: usize = 1 << 21;
 
+// Most entries are of votes that show no shard, and take no more.
+const USUAL_ROOM: usize = 160;
+
 // A length of four bytes, and that many bytes.
-fn put_sized(bytes: &[u8], text: &mut Vec<u8>) -> Result<(), AllocError>
+fn put_sized(bytes: &[u8], entry: &mut Entry) -> Result<(), AllocError>
     requires { length bytes.now < 2 ^ 32 }
-    ensures { OnOk result (text.new.items ≡ text.old.items ++ sized_bytes bytes.now) }
+    ensures { OnOk result (entry.new ≡ entry.old ++ sized_bytes bytes.now) }
 {
-    text.extend_from_slice(&(bytes.len() as u32).to_be_bytes())?;
-    text.extend_from_slice(bytes)
+    entry.reserve(4 + bytes.len())?;
+    entry.extend_from_slice(&(bytes.len() as u32).to_be_bytes())?;
+    entry.extend_from_slice(bytes)
 }
 
 // A vote behind the others.
@@ -29,33 +34,33 @@ fn put_vote(
     alloc: Global,
     config: &Config,
     vote: &Vote,
-    text: &mut Vec<u8>,
+    entry: &mut Entry,
 ) -> Result<(), AllocError>
     requires { HasSpelling config.now vote.now }
-    ensures text { OnOk result (text.new.items ≡ text.old.items ++ vote_bytes vote.now) }
+    ensures text { OnOk result (entry.new ≡ entry.old ++ vote_bytes vote.now) }
     ensures written { OnOk result (Spells config.now.n config.now.version (spelling vote.now) vote.now) }
 {
     let n = config.n();
     prove!(n <= 16);
     let bytes = spell(alloc, config, vote)?;
-    put_sized(bytes.as_slice(), text)
+    put_sized(bytes.as_slice(), entry)
 }
 
-/// The bytes of these votes.
+/// The entry of these votes.
 pub(crate) fn write_votes(
     alloc: Global,
     config: &Config,
     votes: &[Vote],
-) -> Result<Vec<u8>, AllocError>
+) -> Result<Entry, AllocError>
     requires { AreSpelled config.now votes.now }
-    ensures text { IfOk result (λ text. text.items ≡ payload votes.now) }
+    ensures text { IfOk result (λ entry. entry ≡ payload votes.now) }
     ensures written { OnOk result (AreWritten config.now votes.now) }
 {
-    let mut text = Vec::new(alloc);
+    let mut entry = Entry::with_room(alloc, USUAL_ROOM)?;
     for vote in votes {
-        put_vote(alloc, config, vote, &mut text)?;
+        put_vote(alloc, config, vote, &mut entry)?;
     }
-    Ok(text)
+    Ok(entry)
 }
 
 // A length of four bytes, as many bytes, and what stands behind them. No vote is longer than 2^21 bytes.

@@ -6,7 +6,7 @@ ghost use Rattle.vote_journal.specs.Usable.{IsUsable, disk_of, entries_in_journa
 ghost use Rattle.journaled_actor.specs.Folding.{is_full, folded_if_full, most_while};
 
 use disk_model::Disk;
-use vote_journal::{Journal, JournalFault};
+use vote_journal::{Entry, Journal, JournalFault};
 
 // So many entries a journal has before they are folded.
 const MOST_ENTRIES: u32 = 64;
@@ -36,16 +36,16 @@ fn fold_if_full<D: Disk>(journal: &mut Journal<D>) -> Result<(), JournalFault>
 }
 
 /// Adds an entry behind the others, which it folds first where there are 64 of them, of fewer than 2^32 bytes together.
-pub(crate) fn record<D: Disk>(journal: &mut Journal<D>, entry: &[u8]) -> Result<(), JournalFault>
+pub(crate) fn record<D: Disk>(journal: &mut Journal<D>, entry: Entry) -> Result<(), JournalFault>
     requires usable { IsUsable D.seen D.may_leave journal.old }
-    requires short { length entry.now < 2 ^ 32 }
+    requires short { length entry < 2 ^ 32 }
     ensures usable { OnOk result (IsUsable D.seen D.may_leave journal.new) }
     ensures entries { OnOk result (entries_in_journal D.seen journal.new
-        ≡ folded_if_full (entries_in_journal D.seen journal.old) ++ entry.now ∷ []) }
-    ensures text { OnOk result (text_of (D.seen (disk_of journal.new)) ≡ text_of (D.seen (disk_of journal.old)) ++ entry.now) }
+        ≡ folded_if_full (entries_in_journal D.seen journal.old) ++ entry ∷ []) }
+    ensures text { OnOk result (text_of (D.seen (disk_of journal.new)) ≡ text_of (D.seen (disk_of journal.old)) ++ entry) }
     ensures step { IsStep D.seen D.may_leave D.moment D.left_since D.faults D.supply D.explains (disk_of journal.old) (disk_of journal.new)
-        (SaysMaybe (text_of (D.seen (disk_of journal.old))) entry.now (most_while (live_entries (D.seen (disk_of journal.old))))) result }
+        (SaysMaybe (text_of (D.seen (disk_of journal.old))) entry (most_while (live_entries (D.seen (disk_of journal.old))))) result }
 {
     fold_if_full(journal)?;
-    journal.append(entry)
+    journal.append_entry(entry)
 }

@@ -12,3 +12,4 @@ pub mod Folds
 pub mod Always
 pub mod Alone
 pub mod Foreign
+pub mod Framing

@@ -6,13 +6,14 @@ ghost use Rattle.disk_model.specs.Supply.{Draws};
 ghost use Rattle.disk_model.specs.Image.{other};
 ghost use Rattle.vote_journal.specs.Steps.{arranged};
 ghost use Rattle.vote_journal.specs.Runs.{Runs, HasReason, IsUnfailed, IsStep, IsUntouched, LeftOrSays};
-ghost use Rattle.vote_journal.specs.Text.{text_of, live_half, live_entries, both_have_entries, is_foreign, IsSound, SaysOnly, SaysMaybe};
+ghost use Rattle.vote_journal.specs.Text.{text_of, live_half, live_entries, both_have_entries, is_foreign, size_bytes, IsSound, SaysOnly, SaysMaybe};
 
 use crate::JournalFault;
+use crate::entry::{Entry, payload_in};
 use crate::fold::fold_disk;
 use crate::parse::Found;
 use crate::recover::{Opened, open, other};
-use crate::steps::{FIRST_GATE, add_entry, frame};
+use crate::steps::{FIRST_GATE, add_entry};
 use disk_model::{Disk, Half, Power};
 use hb_base::Bytes;
 use std::alloc::{AllocError, Global};
@@ -162,11 +163,42 @@ impl<D: Disk> Journal<D> {
         ensures step { IsStep D.seen D.may_leave D.moment D.left_since D.faults D.supply D.explains (disk_of self.old) (disk_of self.new)
             (SaysMaybe (text_of (D.seen (disk_of self.old))) entry.now (length (live_entries (D.seen (disk_of self.old))) + 1)) result }
     {
-        let framed = frame(self.alloc, entry)?;
-        add_entry(&mut self.disk, self.live, self.gate, entry, &framed)?;
+        let mut built = Entry::with_room(self.alloc, entry.len())?;
+        built.extend_from_slice(entry)?;
+        self.append_entry(built)
+    }
+
+    /// Adds an entry behind the others, as `append` does, from where it was built.
+    pub fn append_entry(&mut self, entry: Entry) -> Result<(), JournalFault>
+        requires usable { IsUsable D.seen D.may_leave self.old }
+        requires short { length entry < 2 ^ 32 }
+        ensures usable { OnOk result (IsUsable D.seen D.may_leave self.new) }
+        ensures added { OnOk result (entries_in_journal D.seen self.new ≡ entries_in_journal D.seen self.old ++ entry ∷ []) }
+        ensures spare { OnOk result (spare_bytes D.seen self.new ≡ spare_bytes D.seen self.old) }
+        ensures text { OnOk result (text_of (D.seen (disk_of self.new)) ≡ text_of (D.seen (disk_of self.old)) ++ entry) }
+        ensures step { IsStep D.seen D.may_leave D.moment D.left_since D.faults D.supply D.explains (disk_of self.old) (disk_of self.new)
+            (SaysMaybe (text_of (D.seen (disk_of self.old))) entry (length (live_entries (D.seen (disk_of self.old))) + 1)) result }
+    {
+        let framed = entry.into_framed()?;
+        self.add(payload_in(&framed), &framed)
+    }
+
+    // Adds an entry behind the others, which is framed.
+    fn add(&mut self, payload: &[u8], framed: &[u8]) -> Result<(), JournalFault>
+        requires usable { IsUsable D.seen D.may_leave self.old }
+        requires short { length payload.now < 2 ^ 32 }
+        requires framed { framed.now ≡ size_bytes (length payload.now) ++ (payload.now ++ 0 ∷ []) }
+        ensures usable { OnOk result (IsUsable D.seen D.may_leave self.new) }
+        ensures added { OnOk result (entries_in_journal D.seen self.new ≡ entries_in_journal D.seen self.old ++ payload.now ∷ []) }
+        ensures spare { OnOk result (spare_bytes D.seen self.new ≡ spare_bytes D.seen self.old) }
+        ensures text { OnOk result (text_of (D.seen (disk_of self.new)) ≡ text_of (D.seen (disk_of self.old)) ++ payload.now) }
+        ensures step { IsStep D.seen D.may_leave D.moment D.left_since D.faults D.supply D.explains (disk_of self.old) (disk_of self.new)
+            (SaysMaybe (text_of (D.seen (disk_of self.old))) payload.now (length (live_entries (D.seen (disk_of self.old))) + 1)) result }
+    {
+        add_entry(&mut self.disk, self.live, self.gate, payload, framed)?;
         self.gate += framed.len() as u64;
         self.entries = self.entries.saturating_add(1);
-        self.bytes = bytes_with(self.bytes, entry);
+        self.bytes = bytes_with(self.bytes, payload);
         Ok(())
     }
 

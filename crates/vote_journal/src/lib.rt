@@ -2,6 +2,7 @@
 #![tactic(auto)]
 
 mod device;
+mod entry;
 mod fault;
 mod fold;
 mod journal;
@@ -10,6 +11,7 @@ mod parse;
 mod recover;
 mod steps;
 
+pub use entry::Entry;
 pub use fault::JournalFault;
 pub use journal::Journal;
 pub use laws::{always_sound, crash_laws, usable_laws};

@@ -1,5 +1,5 @@
 //! The steps that a journal is made of: an entry behind a gate, and a half that is given up.
-ghost use Rattle.std.specs.Prelude.{◌≡◌, ◌≤◌, ◌<◌, ◌+◌, ◌^◌, [], ◌∷◌, ◌++◌, length, take, nat_le, IfOk, OnOk, IfErr};
+ghost use Rattle.std.specs.Prelude.{◌≡◌, ◌≤◌, ◌<◌, ◌+◌, ◌^◌, [], ◌∷◌, ◌++◌, length, take, nat_le, OnOk, IfErr};
 ghost use Rattle.disk_model.specs.Image.{half_of, other, with_half};
 ghost use Rattle.disk_model.specs.Disk.{Only, overwritten, TornWrite, OnHalf};
 ghost use Rattle.vote_journal.specs.Runs.{IsStep};
@@ -9,19 +9,19 @@ ghost use Rattle.vote_journal.specs.Steps.{MayGain, MayShut, BothTorn, MayBegin,
 use crate::JournalFault;
 use crate::device::{cut_through, make_durable, write_through};
 use disk_model::{Disk, Half};
-use std::alloc::{AllocError, Global};
+use std::alloc::AllocError;
 
 /// An open gate. Any other byte is a closed one.
 pub(crate) const OPEN: u8 = 0x5A;
 
-// The gate that is written where one is closed.
-const CLOSED: u8 = 0;
+/// The gate that is written where one is closed.
+pub(crate) const CLOSED: u8 = 0;
 
 /// Where the first gate of a half stands: behind the magic.
 pub(crate) const FIRST_GATE: u64 = 8;
 
-// The four bytes of a length.
-fn size_of(len: usize) -> [u8; 4]
+/// The four bytes of a length.
+pub(crate) fn size_of(len: usize) -> [u8; 4]
     requires { len < 2 ^ 32 }
     ensures { result ≡ size_bytes len }
 {
@@ -43,16 +43,6 @@ pub(crate) fn frame_into(payload: &[u8], framed: &mut Vec<u8>) -> Result<(), All
     framed.extend_from_slice(payload)?;
     framed.push(CLOSED)?;
     Ok(())
-}
-
-/// The same, in room of its own.
-pub(crate) fn frame(alloc: Global, payload: &[u8]) -> Result<Vec<u8>, AllocError>
-    requires { length payload.now < 2 ^ 32 }
-    ensures { IfOk result (λ framed. framed.items ≡ size_bytes (length payload.now) ++ (payload.now ++ 0 ∷ [])) }
-{
-    let mut framed = Vec::with_capacity(alloc, payload.len() + 5)?;
-    frame_into(payload, &mut framed)?;
-    Ok(framed)
 }
 
 /// Writes what stands behind a closed gate, and makes it durable. No image has the gate opened by it.

@@ -34,8 +34,8 @@ write_votes-requires g c =
     subst (λ (d : Numbers). AreSpelled d c.args.due.now) (sym c.config.ensures)
     (spelled_due t (g.B.Book.seen c.args.seat.now) c.requires.opened.0 c.args.due.now c.requires.opened.2)
 
-pub returns-in_err-text : goal.returns-in_err-text
-returns-in_err-text g c =
+pub returns-in_err-entry : goal.returns-in_err-entry
+returns-in_err-entry g c =
     let t = g.C.Core.terms c.args.core.now in
     let posts = g.B.Book.seen c.args.seat.now in
     let p = err_from_is_err_and c.from_residual.result c.from_residual.ensures.1 in
@@ -58,9 +58,9 @@ returns-in_err-keep g c =
     let did = c.in_err-keep.ensures in
     rw (p.1, p.2) (record {
       seat = seat_still g.met.B.Book.stays c.requires.seat did.other;
-      safe = safe_maybe t posts (g.D.Disk.may_leave (disk_of c.keep.new.journal)) (text_of (g.D.Disk.seen (disk_of c.args.journal.now))) c.deref.result.now
+      safe = safe_maybe t posts (g.D.Disk.may_leave (disk_of c.keep.new.journal)) (text_of (g.D.Disk.seen (disk_of c.args.journal.now))) c.in_ok-entry.entry
           _
-          c.requires.opened.0 c.args.due.now c.requires.opened.1 c.requires.opened.2 (c.deref.ensures.value ∙ c.in_ok-text.ensures.text) (ready_most c.requires.ready) did.images;
+          c.requires.opened.0 c.args.due.now c.requires.opened.1 c.requires.opened.2 c.in_ok-entry.ensures.text (ready_most c.requires.ready) did.images;
       ready = tt;
       all = tt;
       entries = tt;
@@ -75,7 +75,7 @@ post_all-requires g c =
     record {
       seat = c.requires.seat;
       is = c.requires.is;
-      written = subst (λ (d : Numbers). AreWritten d c.args.due.now) c.config.ensures c.in_ok-text.ensures.written;
+      written = subst (λ (d : Numbers). AreWritten d c.args.due.now) c.config.ensures c.in_ok-entry.ensures.written;
       turn = (
         c.requires.opened.0,
         turn_after t (g.B.Book.seen c.args.seat.now) c.requires.opened.0 c.args.due.now c.requires.opened.2 c.requires.opened.1.complete,
@@ -93,8 +93,8 @@ returns g c =
     let kept = c.in_ok-keep.ensures in
     let did = c.post_all.ensures in
     let says_of : (votes : List Vote) → text ≡ payload votes → now ≡ payload (votes ++ due) =
-    λ votes is. kept.text ∙ ap (λ (xs : List ℕ). xs ++ c.deref.result.now) is
-    ∙ ap (λ (xs : List ℕ). payload votes ++ xs) (c.deref.ensures.value ∙ c.in_ok-text.ensures.text) ∙ sym (payload_append votes due) in
+    λ votes is. kept.text ∙ ap (λ (xs : List ℕ). xs ++ c.in_ok-entry.entry) is
+    ∙ ap (λ (xs : List ℕ). payload votes ++ xs) c.in_ok-entry.ensures.text ∙ sym (payload_append votes due) in
     record {
       seat = did.seat;
       safe = safe_covered t new (c.requires.opened.0 ++ due) kept.ready (says_of c.requires.opened.0 c.requires.opened.1.says)
@@ -103,7 +103,7 @@ returns g c =
       all = on_ok_weaker c.post_all.result (λ complete votes all are.
           all_cast t old new text now votes due did.seat.longer all are (says_of votes all.says) complete) did.all;
       entries = always_ok c.post_all.result (kept.entries
-          ∙ ap (λ (xs : List ℕ). folded_if_full (entries_in_journal g.D.Disk.seen c.args.journal.now) ++ xs ∷ []) (c.deref.ensures.value ∙ c.in_ok-text.ensures.text)
+          ∙ ap (λ (xs : List ℕ). folded_if_full (entries_in_journal g.D.Disk.seen c.args.journal.now) ++ xs ∷ []) c.in_ok-entry.ensures.text
           ∙ sym (entries_more (entries_in_journal g.D.Disk.seen c.args.journal.now) due (sym c.if-is_empty.ensures)));
       nothing = λ none. absurd (something due (sym c.if-is_empty.ensures) none);
       cast = did.cast;

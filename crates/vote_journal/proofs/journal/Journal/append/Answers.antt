@@ -1,60 +1,20 @@
-use Rattle.std.proofs.Common.{◌≡◌, ◌∷◌, ◌++◌, [], ◌∙◌, ap, refl, sym, subst, List, ℕ, length, arith}
-use Rattle.disk_model.specs.Image.{half_of, other}
-use Rattle.vote_journal.specs.Text.{half_entries, HoldsEntries}
-use Rattle.vote_journal.proofs.Moments.{stood, unfed, unfailed_same, refused, weaker_step}
-use Rattle.vote_journal.proofs.Blocks.{holds_has}
-use Rattle.vote_journal.proofs.Says.{gain_says, seen_maybe, text_is, concat_more, gate_more, count_more, bytes_more}
+use Rattle.vote_journal.proofs.Moments.{stood, unfed, unfailed_same}
+use Rattle.vote_journal.proofs.Says.{seen_maybe}
 use Rattle.vote_journal.proofs.journal.Journal.append.Goals as goal
 
-pub returns-in_err-framed-clause-step : goal.returns-in_err-framed-clause-step
-returns-in_err-framed-clause-step g c =
+pub returns-in_err-built-clause-step : goal.returns-in_err-built-clause-step
+returns-in_err-built-clause-step g c =
     let j = c.args.self.now in
     let u = c.requires.usable in
     unfed c.from_residual.result c.from_residual.ensures.1 (stood g.D.Disk.moment g.D.Disk.left_since g.D.Disk.faults g.D.Disk.supply j.disk _
     (λ image since. seen_maybe j.live (g.D.Disk.seen j.disk) image _ c.args.entry.now u.live u.spare
     (u.durable image (g.met.D.Disk.only_now j.disk image since)))) (unfailed_same g.D.Disk.faults g.D.Disk.supply j.disk)
 
-pub returns-in_err-add_entry-clause-step : goal.returns-in_err-add_entry-clause-step
-returns-in_err-add_entry-clause-step g c =
+pub returns-in_err-extend_from_slice-clause-step : goal.returns-in_err-extend_from_slice-clause-step
+returns-in_err-extend_from_slice-clause-step g c =
     let j = c.args.self.now in
     let u = c.requires.usable in
-    refused c.from_residual-in_err-add_entry.result c.from_residual-in_err-add_entry.ensures.1 c.in_err-add_entry.ensures.step
-    (λ image may. gain_says j.live (g.D.Disk.seen j.disk) image _ c.args.entry.now u.live u.spare may)
-
-pub returns-clause-step : goal.returns-clause-step
-returns-clause-step g c =
-    let j = c.args.self.now in
-    let u = c.requires.usable in
-    weaker_step c.in_ok-add_entry.ensures.step (λ image may. gain_says j.live (g.D.Disk.seen j.disk) image _ c.args.entry.now u.live u.spare may)
-
-pub returns-clause-added : goal.returns-clause-added
-returns-clause-added g c = (holds_has _ _ c.in_ok-add_entry.ensures.added).has
-
-pub returns-clause-text : goal.returns-clause-text
-returns-clause-text g c =
-    let j = c.args.self.now in
-    let u = c.requires.usable in
-    let old = g.D.Disk.seen j.disk in
-    let new = g.D.Disk.seen c.add_entry.new.disk in
-    let es : List (List ℕ) = half_entries (half_of j.live old) in
-    let spare : HoldsEntries (half_of (other j.live) new) [] = subst (λ (bytes : List ℕ). HoldsEntries bytes [])
-    (sym c.in_ok-add_entry.ensures.there) u.spare in
-    text_is j.live new (es ++ c.args.entry.now ∷ []) c.in_ok-add_entry.ensures.added spare ∙ concat_more es c.args.entry.now
-    ∙ ap (λ (xs : List ℕ). xs ++ c.args.entry.now) (sym (text_is j.live old es u.live u.spare))
-
-pub returns-clause-usable : goal.returns-clause-usable
-returns-clause-usable g c =
-    let j = c.args.self.now in
-    let u = c.requires.usable in
-    let new = g.D.Disk.seen c.add_entry.new.disk in
-    let es : List (List ℕ) = half_entries (half_of j.live (g.D.Disk.seen j.disk)) in
-    let has : half_entries (half_of j.live new) ≡ es ++ c.args.entry.now ∷ [] = (holds_has _ _ c.in_ok-add_entry.ensures.added).has in
-    record {
-      live = subst (λ (xs : List (List ℕ)). HoldsEntries (half_of j.live new) xs) (sym has) c.in_ok-add_entry.ensures.added;
-      spare = subst (λ (bytes : List ℕ). HoldsEntries bytes []) (sym c.in_ok-add_entry.ensures.there) u.spare;
-      durable = c.in_ok-add_entry.ensures.step.durable;
-      gate = gate_more es _ es c.args.entry.now c.in_ok-framed.framed.items has refl j.gate _ 0 u.gate c.in_ok-framed.ensures (omega (arith, c.len.ensures));
-      small = omega (arith, c.in_ok-add_entry.ensures.small, c.len.ensures, ap length c.deref.ensures.value);
-      count = count_more es _ es c.args.entry.now c.in_ok-framed.framed.items has refl j.entries _ u.count c.saturating_add-self.ensures;
-      bytes = bytes_more es _ es c.args.entry.now c.in_ok-framed.framed.items has refl j.bytes _ u.bytes c.bytes_with-self.ensures;
-    }
+    unfed c.from_residual-in_err-extend_from_slice.result c.from_residual-in_err-extend_from_slice.ensures.1
+    (stood g.D.Disk.moment g.D.Disk.left_since g.D.Disk.faults g.D.Disk.supply j.disk _
+    (λ image since. seen_maybe j.live (g.D.Disk.seen j.disk) image _ c.args.entry.now u.live u.spare
+    (u.durable image (g.met.D.Disk.only_now j.disk image since)))) (unfailed_same g.D.Disk.faults g.D.Disk.supply j.disk)
