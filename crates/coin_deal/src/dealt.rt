@@ -75,12 +75,10 @@ impl Deal {
         eval(self.coefficients_of(e, j, r), 0) % 2 == 1
     }
 
-    /// The share of node m of the coin of an epoch, a lane and a round. The branch leads from it to the root. It
-    /// is read from the coin's tree, which the deal builds when it is first asked for, and keeps. An error says that no
-    /// memory is left for the tree.
+    /// The share that `dealt_to` gives. There is always one: no memory is wanting for it.
     pub fn share_of(
         &self,
-        alloc: Global,
+        _alloc: Global,
         e: u8,
         j: u8,
         r: u8,
@@ -96,26 +94,43 @@ impl Deal {
         ensures good { IfOk result (λ dealt. IsGoodShare self.now e j r m dealt.share dealt.salt dealt.branch) }
         ensures form { IfOk result (λ dealt. HasForm self.now.n (heard_share m dealt.share dealt.salt dealt.branch)) }
     {
-        let coefficients = self.coefficients_of(e, j, r);
-        let salts = self.salts_of(e, j, r);
-        Ok(DealtShare {
-            share: share_at(coefficients, m),
-            salt: salts[m as usize],
-            branch: self.branch_from(alloc, e, j, r, m)?,
-        })
+        Ok(self.dealt_to(e, j, r, m))
     }
 
-    // The branch of the leaf of node m, by a tree of its own where none is kept.
-    fn branch_from(&self, alloc: Global, e: u8, j: u8, r: u8, m: u8) -> Result<Branch, AllocError>
+    /// The share of node m of the coin of an epoch, a lane and a round. The branch leads from it to the root. It is read from
+    /// the coin's tree, which the deal builds when it is first asked for, and keeps; where no memory is left for a tree, it is
+    /// worked out without one.
+    pub fn dealt_to(&self, e: u8, j: u8, r: u8, m: u8) -> DealtShare
         requires epoch { e < self.now.epochs }
         requires lane { j < self.now.n }
         requires round { r < self.now.rounds }
         requires node { m < self.now.n }
-        ensures { IfOk result (λ branch. branch ≡ branch_of (leaf_digests (coin_leaves self.now e j r)) m) }
+        ensures share { result.share ≡ dealt_share self.now e j r m }
+        ensures salt { result.salt ≡ dealt_salt self.now e j r m }
+        ensures branch { result.branch ≡ branch_of (leaf_digests (coin_leaves self.now e j r)) m }
+        ensures good { IsGoodShare self.now e j r m result.share result.salt result.branch }
+        ensures form { HasForm self.now.n (heard_share m result.share result.salt result.branch) }
+    {
+        let coefficients = self.coefficients_of(e, j, r);
+        let salts = self.salts_of(e, j, r);
+        DealtShare {
+            share: share_at(coefficients, m),
+            salt: salts[m as usize],
+            branch: self.branch_from(e, j, r, m),
+        }
+    }
+
+    // The branch of the leaf of node m, over the leaves where no tree is kept.
+    fn branch_from(&self, e: u8, j: u8, r: u8, m: u8) -> Branch
+        requires epoch { e < self.now.epochs }
+        requires lane { j < self.now.n }
+        requires round { r < self.now.rounds }
+        requires node { m < self.now.n }
+        ensures { result ≡ branch_of (leaf_digests (coin_leaves self.now e j r)) m }
     {
         match self.kept_tree(e, j, r) {
-            Some(tree) => Ok(tree.branch(m)),
-            None => Ok(Tree::build(alloc, &self.leaves_of(e, j, r))?.branch(m)),
+            Some(tree) => tree.branch(m),
+            None => self.leaves_of(e, j, r).branch(m),
         }
     }
 

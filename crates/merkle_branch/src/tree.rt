@@ -77,6 +77,17 @@ impl Leaves {
         let nodes = all_nodes(&self.digests, width);
         nodes[2 * width - 2]
     }
+
+    /// The siblings on the way from leaf m to the top of that tree. No memory is asked for.
+    pub fn branch(&self, m: u8) -> Branch
+        requires { m < length self.now }
+        ensures { result ≡ branch_of self.now m }
+    {
+        let height = height(self.count);
+        let width = width_of(height);
+        let nodes = all_nodes(&self.digests, width);
+        branch_in(&nodes[..2 * width - 1], self.count, height, m)
+    }
 }
 
 /// A tree with all its digests. A contract sees the list of its leaves' digests.
@@ -137,6 +148,28 @@ fn all_nodes(digests: &[[u8; 32]; MAX_LEAVES], width: usize) -> [[u8; 32]; MAX_N
     nodes
 }
 
+// The branch of leaf m in the digests of a tree over so many leaves, level by level.
+fn branch_in(nodes: &[[u8; 32]], _count: u8, height: u8, m: u8) -> Branch
+    requires tree { HasAllLevels _count height nodes.now }
+    requires leaf { m < _count }
+    ensures { result ≡ branch_of (take _count nodes.now) m }
+{
+    let mut digests = [[0; 32]; MAX_HEIGHT];
+    let mut position = m as usize;
+    let mut width = width_of(height);
+    let mut start = 0;
+    for level in 0..height as usize {
+        digests[level] = nodes[start + sibling_of(position)];
+        start += width;
+        width /= 2;
+        position /= 2;
+    }
+    Branch {
+        len: height,
+        digests,
+    }
+}
+
 impl Tree {
     /// The tree over the leaves.
     pub fn build(alloc: Global, leaves: &Leaves) -> Result<Tree, AllocError>
@@ -170,19 +203,6 @@ impl Tree {
         ensures valid { (leaves : List (List ℕ)) → self.now ≡ leaf_digests leaves
             → IsBranch (tree_root leaves) (length leaves) m (slice_index_or leaves m []) result }
     {
-        let mut digests = [[0; 32]; MAX_HEIGHT];
-        let mut position = m as usize;
-        let mut width = width_of(self.height);
-        let mut start = 0;
-        for level in 0..self.height as usize {
-            digests[level] = self.nodes[start + sibling_of(position)];
-            start += width;
-            width /= 2;
-            position /= 2;
-        }
-        Branch {
-            len: self.height,
-            digests,
-        }
+        branch_in(&self.nodes, self.count, self.height, m)
     }
 }

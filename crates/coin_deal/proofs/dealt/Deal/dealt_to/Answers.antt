@@ -4,7 +4,7 @@ use Rattle.coin_deal.specs.Deal.{coin_root}
 use Rattle.coin_deal.specs.Heard.{IsGood, HasForm}
 use Rattle.coin_deal.proofs.Coins.{salt_at}
 use Rattle.coin_deal.proofs.Form.{share_form, share_good, same_heard}
-use Rattle.coin_deal.proofs.dealt.Deal.share_of.Goals as goal
+use Rattle.coin_deal.proofs.dealt.Deal.dealt_to.Goals as goal
 
 pub returns-clause-salt : goal.returns-clause-salt
 returns-clause-salt c = salt_at c.args.self.now c.args.e c.args.j c.args.r c.args.m _ c.salts_of-salts.ensures.exact c.requires.node
@@ -20,7 +20,7 @@ returns-clause-good c =
     subst (IsGood (coin_root n e j r) n.n)
     (same_heard m _ _ _ _ _ _ (sym (c.share_at.ensures ∙ ap (λ cs. polynomial_at cs (m + 1)) c.coefficients_of-coefficients.ensures))
     (sym (salt_at n e j r m _ c.salts_of-salts.ensures.exact c.requires.node))
-    (sym c.in_ok-branch_from.ensures))
+    (sym c.branch_from.ensures))
     (share_good n e j r m c.salts_of-salts.ensures.few c.requires.node)
 
 pub returns-clause-form : goal.returns-clause-form
@@ -33,5 +33,5 @@ returns-clause-form c =
     subst (HasForm n.n)
     (same_heard m _ _ _ _ _ _ (sym (c.share_at.ensures ∙ ap (λ cs. polynomial_at cs (m + 1)) c.coefficients_of-coefficients.ensures))
     (sym (salt_at n e j r m _ c.salts_of-salts.ensures.exact c.requires.node))
-    (sym c.in_ok-branch_from.ensures))
+    (sym c.branch_from.ensures))
     (share_form n e j r m c.salts_of-salts.ensures.few c.requires.node)
