@@ -1,15 +1,17 @@
 -- A state that is rebuilt from what its lane has cast.
-use Rattle.std.proofs.Common.{◌≡◌, ℕ, ◌+◌, ◌<◌, ◌≤◌, Bool, true, false, ◌&&◌, ◌||◌, ◌==◌, nat_lt, List, [], ◌∷◌, ◌++◌, length, slice_index_or, None, Some, is_some, if◌then◌else◌, inr, refl, sym, ap, ◌∙◌, subst, arith, below_more, ltb-true, ltb-false, le-ltb}
+use Rattle.std.proofs.Common.{◌≡◌, ℕ, zero, suc, ◌<◌, ◌≤◌, Bool, true, false, ◌&&◌, ◌||◌, ◌==◌, nat_lt, List, [], ◌∷◌, ◌++◌, replicate, slice_index_or, None, Some, is_some, if◌then◌else◌, inr, refl, sym, ap, ◌∙◌, subst, arith, ltb-true, ltb-false, le-ltb}
 use Rattle.std.specs.List.{filter}
+use Rattle.hb_base.specs.Limits.{most_nodes}
+use Rattle.hb_base.specs.NodeSet.{is_in}
 use Rattle.hb_base.specs.Numbers.{Numbers, AreSound}
 use Rattle.hb_wire.specs.declared.vote.Vals.TheVariants.{Zero, One, Both}
 use Rattle.hb_wire.specs.declared.vote.Vote.{Vote}
 use Rattle.hb_wire.specs.declared.vote.Vote.TheVariants.{Est, Bval, Aux, Conf, Pick, Coin, Decided}
 use Rattle.std.proofs.lemmas.Bool.{or_right}
-use Rattle.std.proofs.lemmas.List.{get_or_push, get_or_append_left, get_or_past}
+use Rattle.std.proofs.lemmas.List.{get_or_past}
 use Rattle.hb_rules.specs.Claims.{is_bit, is_any_delivery}
 use Rattle.hb_rules.specs.Coins.{coin_in}
-use Rattle.hb_rules.specs.Marks.{Mark, delivery, est, any_est, bval, any_aux, any_conf, pick, any_pick, any_coin, decision, any_decision, bears}
+use Rattle.hb_rules.specs.Marks.{Mark, delivery, est, any_est, bval, any_aux, any_conf, pick, any_pick, any_coin, decision, any_decision, bears, Claim, bvals, auxes, any_auxes, confs, any_confs, confs_with}
 use Rattle.hb_rules.specs.Parts.{in_agreement, read_in_agreement}
 use Rattle.hb_rules.specs.Slots.{IsIdle}
 use Rattle.hb_rules.specs.Owing.{Place}
@@ -19,23 +21,52 @@ use Rattle.aba_core.specs.declared.marks.Marks.{Marks}
 use Rattle.aba_core.specs.declared.round.Round.{Round}
 use Rattle.aba_core.specs.Bits.{no_bits}
 use Rattle.aba_core.specs.Marks.{no_marks, is_marked}
-use Rattle.aba_core.specs.Rounds.{IsNew, blank}
+use Rattle.aba_core.specs.Rounds.{IsNew, new_round, blank}
+use Rattle.aba_core.specs.Made.{all_rounds}
+use Rattle.aba_core.specs.Tables.{no_tables, voters_in}
 use Rattle.aba_core.specs.State.{AbaView, place_of, mark_round, claim_round, mark_at, IsAba, AreNew}
 use Rattle.aba_core.specs.Standing.{slots_at, Shows, Stands}
 use Rattle.aba_core.specs.Passing.{Casts}
+use Rattle.aba_core.proofs.Made.{length-all, all-new}
 use Rattle.aba_core.proofs.Names.{all_resting_idle}
 use Rattle.aba_core.proofs.Passes.{casts_shown}
 use Rattle.aba_core.proofs.Resting.{choice_shown}
 
 -- ---- nothing was cast or heard
 
-pub rounds-more : (c : Numbers) (i j e k : ℕ) (rounds : List Round) (x : Round) → length rounds ≡ k
-    → ((r : ℕ) → r < k → IsNew c i j e r (slice_index_or rounds r blank)) → IsNew c i j e k x
-    → (r : ℕ) → r < k + 1 → IsNew c i j e r (slice_index_or (rounds ++ x ∷ []) r blank)
-rounds-more c i j e k rounds x size each new =
-    below_more (λ r. IsNew c i j e r (slice_index_or (rounds ++ x ∷ []) r blank)) k
-    (λ r below. subst (IsNew c i j e r) (sym (get_or_append_left rounds (x ∷ []) blank r (omega (arith, below, size)))) (each r below))
-    (subst (IsNew c i j e k) (sym (get_or_push rounds x blank k size)) new)
+none_in : (n m : ℕ) → slice_index_or (replicate n false) m false ≡ false
+none_in zero zero = refl
+none_in zero (suc m) = refl
+none_in (suc n) zero = refl
+none_in (suc n) (suc m) = none_in n m
+
+none_claimed : (claim : Claim) (node : ℕ) → is_in (voters_in no_tables claim) node ≡ false
+none_claimed (bvals r true) node = none_in most_nodes node
+none_claimed (bvals r false) node = none_in most_nodes node
+none_claimed (auxes r true) node = none_in most_nodes node
+none_claimed (auxes r false) node = none_in most_nodes node
+none_claimed (any_auxes r) node = none_in most_nodes node
+none_claimed (confs r true) node = none_in most_nodes node
+none_claimed (confs r false) node = none_in most_nodes node
+none_claimed (any_confs r) node = none_in most_nodes node
+none_claimed (confs_with r true) node = none_in most_nodes node
+none_claimed (confs_with r false) node = none_in most_nodes node
+
+new_is : (c : Numbers) (j e r : ℕ) → IsNew c j e r (new_round c j e r)
+unfolding new_round
+new_is c j e r = record {
+  is_round = record { levels = refl; n = refl; f = refl; root = refl };
+  marks = refl;
+  none = none_claimed;
+  shares = refl;
+  coin = refl;
+}
+
+pub new_rounds : (c : Numbers) (j e : ℕ) → AreNew c j e (all_rounds c j e [])
+new_rounds c j e = record {
+  count = length-all c j e [] (omega arith);
+  each = λ r below. subst (IsNew c j e r) (sym (all-new c j e [] r (omega arith) below)) (new_is c j e r);
+}
 
 abbrev pub new_aba : Place → List Round → AbaView
 new_aba p rounds = record {
@@ -51,14 +82,14 @@ new_aba p rounds = record {
 }
 
 -- the run's rounds, and those that it does not have
-bare : (p : Place) (rounds : List Round) → AreNew p.config p.node p.lane p.epoch rounds → (r : ℕ) → (slice_index_or rounds r blank).marks ≡ no_marks
+bare : (p : Place) (rounds : List Round) → AreNew p.config p.lane p.epoch rounds → (r : ℕ) → (slice_index_or rounds r blank).marks ≡ no_marks
 bare p rounds new r = by (nat_lt r p.config.rounds) refl
   where
     by : (b : Bool) → nat_lt r p.config.rounds ≡ b → (slice_index_or rounds r blank).marks ≡ no_marks
     by true low = (new.each r (ltb-true r p.config.rounds low)).marks
     by false high = ap (λ (x : Round). x.marks) (get_or_past rounds r blank (omega (arith, ltb-false r p.config.rounds high, new.count)))
 
-pub new_sound : (p : Place) (rounds : List Round) → AreSound p.config → p.node < p.config.n → AreNew p.config p.node p.lane p.epoch rounds → IsAba (new_aba p rounds)
+pub new_sound : (p : Place) (rounds : List Round) → AreSound p.config → p.node < p.config.n → AreNew p.config p.lane p.epoch rounds → IsAba (new_aba p rounds)
 new_sound p rounds sound node new = record {
   sound = sound;
   node = node;
@@ -78,7 +109,7 @@ none_marked (pick r One) = refl
 none_marked (pick r Both) = refl
 none_marked mark = refl
 
-none_cast : (p : Place) (rounds : List Round) → AreNew p.config p.node p.lane p.epoch rounds → (mark : Mark) → mark_at (new_aba p rounds) mark ≡ false
+none_cast : (p : Place) (rounds : List Round) → AreNew p.config p.lane p.epoch rounds → (mark : Mark) → mark_at (new_aba p rounds) mark ≡ false
 none_cast p rounds new delivery = refl
 none_cast p rounds new (decision true) = refl
 none_cast p rounds new (decision false) = refl
@@ -88,7 +119,7 @@ none_cast p rounds new mark = ap (λ (m : Marks). is_marked m mark) (bare p roun
 no_coin : (c : Numbers) (j e r : ℕ) → coin_in c e j [] r ≡ None
 no_coin c j e r = let none : nat_lt c.f 0 ≡ false = le-ltb c.f 0 (omega arith) in rw none refl
 
-new_shows : (p : Place) (rounds : List Round) → AreSound p.config → AreNew p.config p.node p.lane p.epoch rounds → Shows (new_aba p rounds) [] []
+new_shows : (p : Place) (rounds : List Round) → AreSound p.config → AreNew p.config p.lane p.epoch rounds → Shows (new_aba p rounds) [] []
 new_shows p rounds sound new = record {
   cast = λ mark below. none_cast p rounds new mark;
   said = λ claim below m. (new.each (claim_round claim) below).none claim m;
@@ -106,7 +137,7 @@ pub record IsBuilt (a : AbaView) (p : Place) (own : List Vote) : Type 0 where
   pub place : place_of a ≡ p
   pub shows : Shows a own []
 
-pub IsBuilt-none : (p : Place) (rounds : List Round) → AreSound p.config → AreNew p.config p.node p.lane p.epoch rounds → IsBuilt (new_aba p rounds) p []
+pub IsBuilt-none : (p : Place) (rounds : List Round) → AreSound p.config → AreNew p.config p.lane p.epoch rounds → IsBuilt (new_aba p rounds) p []
 IsBuilt-none p rounds sound new = record { place = refl; shows = new_shows p rounds sound new }
 
 pub IsBuilt-more : (old new : AbaView) (p : Place) (own : List Vote) (vote : Vote) → IsBuilt old p own → Casts old new vote → IsBuilt new p (own ++ vote ∷ [])

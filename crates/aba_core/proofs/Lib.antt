@@ -13,3 +13,4 @@ pub mod Hears
 pub mod Building
 pub mod Ranges
 pub mod Noted
+pub mod Made

@@ -1,5 +1,5 @@
 -- Marking a vote.
-use Rattle.std.proofs.Common.{◌≡◌, ℕ, ◌<◌, ◌≤◌, Bool, true, false, ◌&&◌, ◌||◌, ◌==◌, inl, inr, List, length, slice_set, slice_index_or, Option, None, Some, is_some, if◌then◌else◌, refl, sym, ap, ◌∙◌, subst, arith}
+use Rattle.std.proofs.Common.{◌≡◌, ℕ, ◌<◌, ◌≤◌, Bool, true, false, ◌&&◌, ◌||◌, ◌==◌, inl, inr, List, length, slice_set, Option, None, Some, is_some, if◌then◌else◌, refl, sym, ap, ◌∙◌, subst, arith}
 use Rattle.std.proofs.lemmas.Bool.{eq-eqb, cases_eq, ne_eqb}
 use Rattle.hb_wire.specs.declared.vote.Vals.{Vals}
 use Rattle.hb_wire.specs.declared.vote.Vals.TheVariants.{Zero, One, Both}
@@ -17,8 +17,6 @@ use Rattle.aba_core.specs.Marks.{is_marked, with_vote}
 use Rattle.aba_core.specs.State.{AbaView, round_in, mark_round, mark_at}
 use Rattle.aba_core.specs.Noting.{IsOfRound, IsOf}
 use Rattle.aba_core.specs.Passing.{Casts}
-use Rattle.std.proofs.lemmas.List.{get_or_read}
-use Rattle.aba_core.specs.Rounds.{blank}
 use Rattle.aba_core.proofs.Replacing.{round-same, round-other}
 
 -- ---- one vote of a round
@@ -308,13 +306,3 @@ Casts-round a vote r top is kind inside count = record {
           (subst (λ (y : Round). y ≡ record (round_in a r) { marks = y.marks }) (sym here_is) refl)
       | inr apart ↦ subst (λ (y : Round). y ≡ record (round_in a s) { marks = y.marks }) (sym (round-other a.rounds r s x apart)) refl
     ]
-
--- the same of a round that was read
-pub Casts-marked : (a : AbaView) (vote : Vote) (r top : ℕ) (m : Marks) (y : Round) → y ≡ slice_index_or a.rounds r y → m ≡ with_vote y.marks vote → IsOf a.epoch r vote
-    → IsOfRound vote → r < a.config.rounds → length a.rounds ≡ a.config.rounds
-    → Casts a (record a { rounds = slice_set a.rounds r (record y { marks = m }); top = top }) vote
-Casts-marked a vote r top m y read marked_is is kind inside count =
-    let here : y ≡ round_in a r = get_or_read a.rounds r y (omega (arith, inside, count)) read blank in
-    subst (λ (z : Round). Casts a (record a { rounds = slice_set a.rounds r z; top = top }) vote)
-    (ap (λ (z : Round). record z { marks = with_vote z.marks vote }) (sym here) ∙ ap (λ (m : Marks). record y { marks = m }) (sym marked_is))
-    (Casts-round a vote r top is kind inside count)

@@ -198,7 +198,7 @@ Notes-claim_less a r from vote x inside epoch is has levels = record {
 -- what a round has after a share
 pub record HasShare (a : AbaView) (r : ℕ) (share : HeardShare) (x : Round) : Type 0 where
   pub heard : IsHeardRound a r x
-  pub is_round : IsRound a.config a.node a.lane a.epoch r (round_in a r)
+  pub is_round : IsRound a.config a.lane a.epoch r (round_in a r)
   pub after : x ≡ after_share (round_in a r) share
 
 after_tables : (x : Round) (share : HeardShare) → (after_share x share).tables ≡ x.tables
@@ -213,9 +213,9 @@ record ShowsCoin (c : Numbers) (e j r : ℕ) (heard : List Hearing) (x : Round) 
   shares : x.coin ≡ None → x.shares.added ≡ shares_in c e j r heard
   coin : x.coin ≡ coin_in c e j heard r
 
-after_coin : (c : Numbers) (i j e r : ℕ) (heard : List Hearing) (h : Hearing) (share : HeardShare) (x : Round) → IsRound c i j e r x
+after_coin : (c : Numbers) (j e r : ℕ) (heard : List Hearing) (h : Hearing) (share : HeardShare) (x : Round) → IsRound c j e r x
     → share_in e r h.from h.vote ≡ Some share → ShowsCoin c e j r heard x → ShowsCoin c e j r (heard ++ h ∷ []) (after_share x share)
-after_coin c i j e r heard h share x is shown shows = by x.coin refl
+after_coin c j e r heard h share x is shown shows = by x.coin refl
   where
     known : (b : Bool) → x.coin ≡ Some b → ShowsCoin c e j r (heard ++ h ∷ []) x
     known b was = record {
@@ -285,7 +285,7 @@ share_shown a r from share salt branch x inside has own heard shows = record {
       | inl same ↦
           subst (λ (k : ℕ). ShowsCoin a.config a.epoch a.lane k (heard ++ h ∷ []) (round_in (with_round a r x) k)) (sym same)
           (subst (ShowsCoin a.config a.epoch a.lane r (heard ++ h ∷ [])) (sym (at_round a r x has.heard ∙ has.after))
-          (after_coin a.config a.node a.lane a.epoch r heard h (heard_share from share salt branch) (round_in a r) has.is_round
+          (after_coin a.config a.lane a.epoch r heard h (heard_share from share salt branch) (round_in a r) has.is_round
           (share_here a.epoch a.epoch r r from share salt branch refl refl) (old_shown r has.heard.inside)))
       | inr apart ↦
           subst (ShowsCoin a.config a.epoch a.lane s (heard ++ h ∷ [])) (sym (at_other a r s x apart))

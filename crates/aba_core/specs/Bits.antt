@@ -1,5 +1,6 @@
 -- Sets of bits, and what is kept for either bit.
-use Rattle.std.specs.Prelude.{Bool, true, false, List}
+use Rattle.std.specs.Prelude.{Bool, true, false, List, replicate}
+use Rattle.hb_base.specs.Limits.{most_nodes}
 use Rattle.aba_core.specs.declared.bits.Bits.{Bits}
 use Rattle.aba_core.specs.declared.voters.BitVoters.{BitVoters}
 
@@ -21,3 +22,10 @@ with_bit bits true = record bits { one = true }
 abbrev pub voters_of : BitVoters → Bool → List Bool
 voters_of voters false = voters.zero
 voters_of voters true = voters.one
+
+-- none makes a claim, of either bit
+abbrev pub no_voters : List Bool
+no_voters = replicate most_nodes false
+
+abbrev pub no_bit_voters : BitVoters
+no_bit_voters = record { zero = no_voters; one = no_voters }

@@ -3,6 +3,7 @@ pub mod Marks
 pub mod Tables
 pub mod Levels
 pub mod Rounds
+pub mod Made
 pub mod State
 pub mod Standing
 pub mod Rows

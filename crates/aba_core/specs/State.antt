@@ -12,6 +12,7 @@ use Rattle.aba_core.specs.declared.round.Round.{Round}
 use Rattle.aba_core.specs.Bits.{holds}
 use Rattle.aba_core.specs.Marks.{no_marks, is_marked}
 use Rattle.aba_core.specs.Rounds.{IsRound, IsNew, blank}
+use Rattle.aba_core.specs.Made.{RoundsView}
 use Rattle.aba_core.specs.Tables.{voters_in, count_in}
 
 pub record AbaView : Type 0 where
@@ -83,14 +84,21 @@ pub record IsAba (a : AbaView) : Type 0 where
   pub sound : AreSound a.config
   pub node : a.node < a.config.n
   pub count : length a.rounds ≡ a.config.rounds
-  pub each : (r : ℕ) → r < a.config.rounds → IsRound a.config a.node a.lane a.epoch r (round_in a r)
+  pub each : (r : ℕ) → r < a.config.rounds → IsRound a.config a.lane a.epoch r (round_in a r)
   pub top : a.top ≤ a.config.rounds
   pub above : (r : ℕ) → a.top ≤ r → (round_in a r).marks ≡ no_marks
 
+-- what an agreement keeps: a sound state, whose rounds are those of its lane and epoch
+pub record HoldsRounds (a : AbaView) (s : RoundsView) : Type 0 where
+  pub aba : IsAba a
+  pub config : s.config ≡ a.config
+  pub lane : s.lane ≡ a.lane
+  pub epoch : s.epoch ≡ a.epoch
+
 -- all rounds of a run, in which nothing was cast or heard
-pub record AreNew (c : Numbers) (i j e : ℕ) (rounds : List Round) : Type 0 where
+pub record AreNew (c : Numbers) (j e : ℕ) (rounds : List Round) : Type 0 where
   pub count : length rounds ≡ c.rounds
-  pub each : (r : ℕ) → r < c.rounds → IsNew c i j e r (slice_index_or rounds r blank)
+  pub each : (r : ℕ) → r < c.rounds → IsNew c j e r (slice_index_or rounds r blank)
 
 -- the round that a slot is of
 abbrev pub slot_round : AgreementSlot → ℕ

@@ -9,7 +9,18 @@ use Rattle.hb_wire.specs.declared.vote.Vote.TheVariants.{Bval, Aux, Conf}
 use Rattle.hb_rules.specs.Claims.{same_bit}
 use Rattle.hb_rules.specs.Marks.{single, has_bit, same_vals, Claim, bvals, auxes, any_auxes, confs, any_confs, confs_with}
 use Rattle.aba_core.specs.declared.tables.Tables.{Tables}
-use Rattle.aba_core.specs.Bits.{voters_of}
+use Rattle.aba_core.specs.Bits.{voters_of, no_voters, no_bit_voters}
+
+-- none claims anything
+abbrev pub no_tables : Tables
+no_tables = record {
+  bvals = no_bit_voters;
+  auxes = no_bit_voters;
+  any_auxes = no_voters;
+  confs = no_bit_voters;
+  any_confs = no_voters;
+  confs_with = no_bit_voters;
+}
 
 -- the nodes that make a claim, of the tables' own round
 abbrev pub voters_in : Tables → Claim → List Bool

@@ -1,25 +1,28 @@
 ghost use Rattle.std.specs.Prelude.{◌≡◌, ◌+◌, ◌*◌, ◌<◌, ◌≤◌, Bool, true, false, List, [], ◌∷◌, ◌++◌, filter, Option, None, IfSome, IsOk, IfOk, IsTrue, OnOk, OnErr, ◌↔◌};
+ghost use Rattle.std.specs.Arc.{arc_value};
 ghost use Rattle.hb_wire.specs.declared.vote.Vote.{Vote};
 ghost use Rattle.hb_rules.specs.Hearing.{Hearing, hearing};
 ghost use Rattle.hb_rules.specs.Marks.{decision, any_decision, has};
 ghost use Rattle.hb_rules.specs.Parts.{read_in_agreement};
 ghost use Rattle.hb_rules.specs.Slots.{IsIdle};
 ghost use Rattle.aba_core.specs.Inputs.{with_input};
-ghost use Rattle.aba_core.specs.State.{place_of, AreNew, IsAba};
+ghost use Rattle.aba_core.specs.State.{place_of, IsAba};
 ghost use Rattle.aba_core.specs.Standing.{slots_at, Shows, Stands, Hears, Takes};
 
 use crate::bits::Bits;
-use crate::round::Round;
+use crate::rounds::Rounds;
 use coin_deal::Deal;
 use hb_base::Config;
 use hb_rules::Due;
 use hb_wire::Vote;
 use std::alloc::{AllocError, Global};
 use std::marker::Model;
+use std::sync::Arc;
 
 /// One node's state of the binary agreement of one lane in one epoch (after Mostéfaoui, Moumen and Raynal, PODC 2014):
-/// which votes its lane has cast, and round by round who has claimed what, and the coins that are known. The tables of all
-/// rounds are made at once, so that hearing takes no memory. Clauses see an `AbaView`.
+/// which votes its lane has cast, and round by round who has claimed what, and the coins that are known. Room for the tables
+/// of all rounds is reserved at once, so that hearing takes no memory; a round's are made when it is first heard of or cast
+/// in. Clauses see an `AbaView`.
 #[derive(Drop)]
 pub struct Aba {
     pub(crate) config: Config,
@@ -29,14 +32,14 @@ pub struct Aba {
     pub(crate) is_delivered: bool,
     pub(crate) no_more: bool,
     pub(crate) decisions: Bits,
-    pub(crate) rounds: Vec<Round>,
+    pub(crate) rounds: Rounds,
 
     // No vote of this round, or of a later one, is cast.
     pub(crate) top: u8,
 }
 
 impl Model for Aba {
-    ghost use Rattle.aba_core.specs.State.{AbaView, IsAba};
+    ghost use Rattle.aba_core.specs.State.{AbaView, HoldsRounds};
 
     ghost Value = { AbaView };
 
@@ -48,11 +51,11 @@ impl Model for Aba {
       is_delivered = a.is_delivered;
       no_more = a.no_more;
       decisions = a.decisions;
-      rounds = a.rounds.items;
+      rounds = a.rounds.all;
       top = a.top;
     } };
 
-    ghost invariant = { λ a. IsAba (record {
+    ghost invariant = { λ a. HoldsRounds (record {
       config = a.config;
       node = a.node;
       lane = a.lane;
@@ -60,25 +63,25 @@ impl Model for Aba {
       is_delivered = a.is_delivered;
       no_more = a.no_more;
       decisions = a.decisions;
-      rounds = a.rounds.items;
+      rounds = a.rounds.all;
       top = a.top;
-    }) };
+    }) a.rounds };
 }
 
 impl Aba {
-    /// The state of a lane that has cast these votes, of any epoch and part, and has heard nothing since. The node's own
-    /// shares of the coins are taken from the deal here. It stands for these votes where they leave nothing owed, as votes
+    /// The state of a lane that has cast these votes, of any epoch and part, and has heard nothing since. It shares the deal,
+    /// from which it takes the node's own shares of the coins. It stands for these votes where they leave nothing owed, as votes
     /// do that stood after a call; where none of them is of this agreement, it stands for none. It shows them in any case.
     pub fn rebuild(
         alloc: Global,
         config: &Config,
-        deal: &Deal,
+        deal: &Arc<Deal, Global>,
         node: u8,
         lane: u8,
         epoch: u8,
         own: &[Vote],
     ) -> Result<Aba, AllocError>
-        requires deal { deal.now ≡ config.now }
+        requires deal { arc_value deal.now ≡ config.now }
         requires node { node < config.now.n }
         requires lane { lane < config.now.n }
         requires epoch { epoch < config.now.epochs }
@@ -99,7 +102,7 @@ impl Aba {
             is_delivered: false,
             no_more: false,
             decisions: Bits::none(),
-            rounds: rounds_of(alloc, config, deal, node, lane, epoch)?,
+            rounds: Rounds::new(alloc, config, deal, lane, epoch)?,
             top: 0,
         };
         for vote in own {
@@ -191,26 +194,4 @@ impl Aba {
     {
         7 * self.config.rounds() as u32 + 1
     }
-}
-
-// Rounds in which nothing was cast or heard.
-fn rounds_of(
-    alloc: Global,
-    config: &Config,
-    deal: &Deal,
-    node: u8,
-    lane: u8,
-    epoch: u8,
-) -> Result<Vec<Round>, AllocError>
-    requires deal { deal.now ≡ config.now }
-    requires node { node < config.now.n }
-    requires lane { lane < config.now.n }
-    requires epoch { epoch < config.now.epochs }
-    ensures { IfOk result (λ rounds. AreNew config.now node lane epoch rounds.items) }
-{
-    let mut rounds = Vec::with_capacity(alloc, config.rounds() as usize)?;
-    for round in 0..config.rounds() {
-        rounds.push(Round::new(alloc, config, deal, node, lane, epoch, round)?)?;
-    }
-    Ok(rounds)
 }

@@ -1,23 +1,19 @@
 ghost use Rattle.std.specs.Prelude.{◌≡◌, ◌+◌, ◌<◌, ◌&&◌, nat_le, None, if◌then◌else◌};
 ghost use Rattle.hb_wire.specs.declared.vote.Vote.TheVariants.{Est, Aux, Conf, Pick, Decided};
 ghost use Rattle.hb_rules.specs.declared.agreement_slot.AgreementSlot.TheVariants.{Begin, Support, Accept, ConfirmOne, ConfirmBoth, PickOne, PickBoth, ShowShare, GoOn, Decide};
-ghost use Rattle.std.specs.List.{list_any};
 ghost use Rattle.std.specs.Option.{option_map};
 ghost use Rattle.hb_rules.specs.Agreement.{confirms};
 ghost use Rattle.hb_rules.specs.Slots.{when};
-ghost use Rattle.hb_rules.specs.AgreementRows.{limit_of, is_supported, has_quorum, is_gathered_one, is_gathered_both, is_confirmed_one, is_confirmed_both, was_settled, next_bit, stops};
+ghost use Rattle.hb_rules.specs.AgreementRows.{limit_of, is_supported, has_quorum, is_gathered_one, is_gathered_both, is_confirmed_one, is_confirmed_both, was_settled, next_bit, stops, dealt};
 ghost use Rattle.hb_rules.specs.Marks.{single, pick, bvals, auxes, confs};
-ghost use Rattle.hb_rules.specs.Claims.{is_bit};
-ghost use Rattle.aba_core.specs.Bits.{holds};
 ghost use Rattle.aba_core.specs.Levels.{levels_of};
-ghost use Rattle.aba_core.specs.Rounds.{IsRound};
 ghost use Rattle.aba_core.specs.State.{round_in, mark_at, view_at, choice_at};
 ghost use Rattle.aba_core.specs.Rows.{IsKnown};
 
 use crate::aba::Aba;
 use crate::levels::Levels;
 use crate::marks::Marks;
-use crate::round::Round;
+use coin_deal::DealtShare;
 use hb_rules::AgreementSlot;
 use hb_wire::{Vals, Vote};
 
@@ -70,34 +66,26 @@ impl Aba {
         self.config.version() == 2
     }
 
-    // What is known of a round.
-    fn round(&self, round: u8) -> &Round
-        requires { round < self.now.config.rounds }
-        ensures value { result.now ≡ round_in self.now round }
-        ensures sound { IsRound self.now.config self.now.node self.now.lane self.now.epoch round (round_in self.now round) }
-    {
-        &self.rounds[round as usize]
-    }
-
-    fn marks(&self, round: u8) -> Marks
+    // What was cast in a round.
+    pub(crate) fn marks(&self, round: u8) -> Marks
         requires { round < self.now.config.rounds }
         ensures { result ≡ (round_in self.now round).marks }
     {
-        self.round(round).marks
+        self.rounds.marks(round)
     }
 
     fn levels(&self, round: u8) -> Levels
         requires { round < self.now.config.rounds }
         ensures { result ≡ levels_of self.now.config (view_at self.now).count round }
     {
-        self.round(round).levels
+        self.rounds.levels(&self.config, round)
     }
 
     fn coin(&self, round: u8) -> Option<bool>
         requires { round < self.now.config.rounds }
         ensures { result ≡ (round_in self.now round).coin }
     {
-        self.round(round).coin
+        self.rounds.coin(round)
     }
 
     // f + 1 nodes support the bit.
@@ -250,17 +238,29 @@ impl Aba {
         requires { round < self.now.config.rounds }
         ensures { result ≡ choice_at self.now (ShowShare round) }
     {
-        let known = self.round(round);
-        if known.marks.any_pick() {
-            Some(Vote::Coin {
-                epoch: self.epoch,
-                round,
-                share: known.dealt.share,
-                salt: known.dealt.salt,
-                branch: known.dealt.branch,
-            })
+        if self.marks(round).any_pick() {
+            Some(self.own_share(round))
         } else {
             None
+        }
+    }
+
+    // The node's own share of the coin of a round.
+    fn own_share(&self, round: u8) -> Vote
+        requires { round < self.now.config.rounds }
+        ensures { result ≡ dealt self.now.config self.now.node self.now.lane self.now.epoch round }
+    {
+        let DealtShare {
+            share,
+            salt,
+            branch,
+        } = self.rounds.dealt_to(round, self.node);
+        Vote::Coin {
+            epoch: self.epoch,
+            round,
+            share,
+            salt,
+            branch,
         }
     }
 
@@ -367,7 +367,7 @@ impl Aba {
         requires { round < self.now.config.rounds }
         ensures { result ≡ was_settled (view_at self.now) round bit }
     {
-        any_settled(&self.rounds[..round as usize], bit)
+        self.rounds.was_settled(round, bit)
     }
 
     fn is_gathered_one(&self, round: u8, bit: bool) -> bool
@@ -412,11 +412,4 @@ fn single(bit: bool) -> Vals
     ensures { result ≡ single bit }
 {
     if bit { Vals::One } else { Vals::Zero }
-}
-
-// Whether in one of these rounds the lane picked the bit alone, and the coin is the bit.
-fn any_settled(rounds: &[Round], bit: bool) -> bool
-    ensures { result ≡ list_any (λ x. holds x.marks.picks bit && is_bit bit x.coin) rounds.now }
-{
-    rounds.iter().any(|known| known.is_settled(bit))
 }

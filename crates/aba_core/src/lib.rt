@@ -10,6 +10,7 @@ mod marks;
 mod noting;
 mod passing;
 mod round;
+mod rounds;
 mod tables;
 mod voters;
 

@@ -50,7 +50,8 @@ impl Aba {
         if round >= self.config.rounds() {
             return;
         }
-        self.rounds[round as usize].marks.add(vote);
+        let config = self.config;
+        self.rounds.mark(&config, round, vote);
         self.top = self.top.max(round + 1);
     }
 
@@ -114,7 +115,7 @@ impl Aba {
             return None;
         }
         let config = self.config;
-        if !self.rounds[round as usize].hear(&config, from, vote) {
+        if !self.rounds.hear(&config, round, from, vote) {
             return None;
         }
         Some(round)
@@ -135,7 +136,11 @@ impl Aba {
         if round >= self.config.rounds() {
             return None;
         }
-        if !self.rounds[round as usize].hear_share(from, share, salt, branch) {
+        let config = self.config;
+        if !self
+            .rounds
+            .hear_share(&config, round, from, share, salt, branch)
+        {
             return None;
         }
         Some(round)
@@ -147,7 +152,7 @@ impl Aba {
     {
         let rounds = self.config.rounds();
         prove!(rounds >= 1);
-        self.rounds[0].marks.ests.any()
+        self.marks(0).ests.any()
     }
 }
 

@@ -1,4 +1,4 @@
-ghost use Rattle.std.specs.Prelude.{◌≡◌, ℕ, ◌<◌, ◌==◌, ◌&&◌, ◌||◌, false, IfOk};
+ghost use Rattle.std.specs.Prelude.{◌≡◌, ℕ, ◌<◌, ◌==◌, ◌&&◌, ◌||◌, false};
 ghost use Rattle.hb_base.specs.NodeSet.{is_in};
 ghost use Rattle.hb_base.specs.Limits.{most_nodes};
 ghost use Rattle.hb_rules.specs.Marks.{Claim};
@@ -7,19 +7,18 @@ ghost use Rattle.hb_rules.specs.Claims.{is_bit};
 ghost use Rattle.aba_core.specs.Bits.{holds};
 ghost use Rattle.aba_core.specs.Levels.{levels_of};
 ghost use Rattle.aba_core.specs.Tables.{voters_in, count_in, claims};
-ghost use Rattle.aba_core.specs.Rounds.{IsNew, after_share};
+ghost use Rattle.aba_core.specs.Rounds.{new_round, after_share};
 
 use crate::levels::Levels;
 use crate::marks::Marks;
 use crate::tables::Tables;
-use coin_deal::{Deal, DealtShare};
+use coin_deal::Deal;
 use coin_share::Shares;
 use hb_base::Config;
 use hb_wire::Vote;
 use merkle_branch::Branch;
-use std::alloc::{AllocError, Global};
 
-// What a node knows of one round: what its lane has cast there, what was heard, and its own share of the coin.
+// What a node knows of one round: what its lane has cast there, and what was heard.
 #[derive(Drop)]
 pub(crate) struct Round {
     pub(crate) marks: Marks,
@@ -29,38 +28,27 @@ pub(crate) struct Round {
     // The good shares that were heard, until they made the coin.
     pub(crate) shares: Shares,
     pub(crate) coin: Option<bool>,
-    pub(crate) dealt: DealtShare,
 }
 
 impl Round {
-    // A round of the agreement of a lane and an epoch at a node, in which nothing was cast or heard.
-    pub(crate) fn new(
-        alloc: Global,
-        config: &Config,
-        deal: &Deal,
-        node: u8,
-        lane: u8,
-        epoch: u8,
-        round: u8,
-    ) -> Result<Round, AllocError>
+    // A round of the agreement of a lane and an epoch, in which nothing was cast or heard.
+    #[tactic(auto, unfolding(crate::specs::Rounds::new_round))]
+    pub(crate) fn new(config: &Config, deal: &Deal, lane: u8, epoch: u8, round: u8) -> Round
         requires deal { deal.now ≡ config.now }
-        requires node { node < config.now.n }
         requires lane { lane < config.now.n }
         requires epoch { epoch < config.now.epochs }
         requires round { round < config.now.rounds }
-        ensures { IfOk result (λ x. IsNew config.now node lane epoch round x) }
+        ensures { result ≡ new_round config.now lane epoch round }
     {
-        let dealt = deal.share_of(alloc, epoch, lane, round, node)?;
         let tables = Tables::none();
         let levels = Levels::of(config, &tables);
-        Ok(Round {
+        Round {
             marks: Marks::none(),
             tables,
             levels,
             shares: Shares::new(config.n(), config.f(), deal.root_of(epoch, lane, round)),
             coin: None,
-            dealt,
-        })
+        }
     }
 
     // Hears a claim of a node: whether a count then is at another level.

@@ -1,9 +1,9 @@
-ghost use Rattle.std.specs.Prelude.{◌≡◌, ℕ, ◌<◌, ◌==◌, ◌&&◌, ◌||◌, false};
+ghost use Rattle.std.specs.Prelude.{◌≡◌, ℕ, ◌<◌, ◌==◌, ◌&&◌, ◌||◌};
 ghost use Rattle.hb_base.specs.NodeSet.{is_in};
 ghost use Rattle.hb_base.specs.Limits.{most_nodes};
 ghost use Rattle.hb_rules.specs.Marks.{Claim};
 ghost use Rattle.hb_wire.specs.declared.vote.Vals.{Vals};
-ghost use Rattle.aba_core.specs.Tables.{voters_in, claims, claims_set};
+ghost use Rattle.aba_core.specs.Tables.{no_tables, voters_in, claims, claims_set};
 
 use crate::voters::BitVoters;
 use hb_rules::Voters;
@@ -27,7 +27,7 @@ pub(crate) struct Tables {
 
 impl Tables {
     pub(crate) fn none() -> Tables
-        ensures { (claim : Claim) (node : ℕ) → is_in (voters_in result claim) node ≡ false }
+        ensures { result ≡ no_tables }
     {
         Tables {
             bvals: BitVoters::none(),

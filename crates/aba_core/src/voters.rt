@@ -1,8 +1,8 @@
-ghost use Rattle.std.specs.Prelude.{◌≡◌, ℕ, ◌<◌, ◌==◌, ◌&&◌, ◌||◌, Bool, false};
+ghost use Rattle.std.specs.Prelude.{◌≡◌, ℕ, ◌<◌, ◌==◌, ◌&&◌, ◌||◌, Bool};
 ghost use Rattle.hb_base.specs.NodeSet.{is_in};
 ghost use Rattle.hb_base.specs.Limits.{most_nodes};
 ghost use Rattle.hb_rules.specs.Claims.{same_bit};
-ghost use Rattle.aba_core.specs.Bits.{voters_of};
+ghost use Rattle.aba_core.specs.Bits.{voters_of, no_bit_voters};
 
 use hb_rules::Voters;
 
@@ -15,7 +15,7 @@ pub(crate) struct BitVoters {
 
 impl BitVoters {
     pub(crate) fn none() -> BitVoters
-        ensures { (bit : Bool) (node : ℕ) → is_in (voters_of result bit) node ≡ false }
+        ensures { result ≡ no_bit_voters }
     {
         BitVoters {
             zero: Voters::none(),

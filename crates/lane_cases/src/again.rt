@@ -2,6 +2,7 @@
 //! the same votes once all is heard again.
 
 ghost use Rattle.std.specs.Prelude.{◌≡◌};
+ghost use Rattle.std.specs.Arc.{arc_value};
 
 use crate::node::Node;
 use crate::text::text_of;
@@ -10,6 +11,7 @@ use coin_deal::{Deal, deal};
 use hb_base::Config;
 use hb_wire::{Vals, Vote};
 use std::alloc::{AllocError, Global};
+use std::sync::Arc;
 use std::test::Fail;
 
 // So many fronts of votes that stood after a call, the nodes' inputs first, are in the run of each split in an order that is
@@ -79,11 +81,11 @@ fn are_alike(alloc: Global, votes: &[Vote], wanted: &[Vote]) -> Result<bool, All
 fn comes_back(
     alloc: Global,
     config: &Config,
-    deal: &Deal,
+    deal: &Arc<Deal, Global>,
     past: Past<'_>,
     count: usize,
 ) -> Result<bool, Fail>
-    requires { deal.now ≡ config.now }
+    requires { arc_value deal.now ≡ config.now }
 {
     let own = past.votes.get(..count).ok_or("no such front")?;
     let rest = past.votes.get(count..).ok_or("no such rest")?;
@@ -97,10 +99,10 @@ fn comes_back(
 fn fronts_of(
     alloc: Global,
     config: &Config,
-    deal: &Deal,
+    deal: &Arc<Deal, Global>,
     past: Past<'_>,
 ) -> Result<Option<u32>, Fail>
-    requires { deal.now ≡ config.now }
+    requires { arc_value deal.now ≡ config.now }
 {
     let mut fronts: u32 = 0;
     let mut last = 0;
@@ -120,11 +122,11 @@ fn fronts_of(
 fn fronts_in(
     alloc: Global,
     config: &Config,
-    deal: &Deal,
+    deal: &Arc<Deal, Global>,
     split: u8,
     order: Order,
 ) -> Result<u32, Fail>
-    requires { deal.now ≡ config.now }
+    requires { arc_value deal.now ≡ config.now }
 {
     let world = run(alloc, config, deal, split, order)?;
     let mut fronts: u32 = 0;
@@ -141,7 +143,7 @@ fn rebuilt_nodes_come_back(rt: HostRuntime) -> Result<(), Fail> {
     let alloc = rt.alloc();
     for &(version, wants) in &FRONTS {
         let config = config_of(version)?;
-        let deal = deal(alloc, &config)?;
+        let deal = Arc::new(alloc, deal(alloc, &config)?)?;
         for split in 0..8 {
             let order = Order::Drawn(split as u64);
             let fronts = fronts_in(alloc, &config, &deal, split, order)?;

@@ -1,6 +1,7 @@
 //! Callers of an agreement, as a lane calls it. What they promise is proved by the contracts alone.
 
 ghost use Rattle.std.specs.Prelude.{◌≡◌, ◌+◌, ◌*◌, ◌<◌, ◌≤◌, true, List, [], ◌∷◌, ◌++◌, None, IfOk, OnOk};
+ghost use Rattle.std.specs.Arc.{arc_value};
 ghost use Rattle.hb_wire.specs.declared.vote.Vote.{Vote};
 ghost use Rattle.hb_rules.specs.Hearing.{Hearing, hearing};
 ghost use Rattle.hb_rules.specs.Slots.{IsOwed};
@@ -13,17 +14,18 @@ use hb_base::Config;
 use hb_rules::Due;
 use hb_wire::Vote;
 use std::alloc::{AllocError, Global};
+use std::sync::Arc;
 
 /// An agreement in which the node has cast and heard nothing.
 pub fn begin(
     alloc: Global,
     config: &Config,
-    deal: &Deal,
+    deal: &Arc<Deal, Global>,
     node: u8,
     lane: u8,
     epoch: u8,
 ) -> Result<Aba, AllocError>
-    requires deal { deal.now ≡ config.now }
+    requires deal { arc_value deal.now ≡ config.now }
     requires node { node < config.now.n }
     requires lane { lane < config.now.n }
     requires epoch { epoch < config.now.epochs }

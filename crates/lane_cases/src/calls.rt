@@ -5,6 +5,7 @@ use coin_deal::deal;
 use hb_base::{Config, NodeSet};
 use hb_rules::Due;
 use hb_wire::Vote;
+use std::sync::Arc;
 use std::test::Fail;
 
 // A node that is alone has heard two of its own votes too early, and owes nothing by them.
@@ -12,7 +13,7 @@ use std::test::Fail;
 fn calls(rt: HostRuntime) -> Result<(), Fail> {
     let alloc = rt.alloc();
     let config = Config::new(1, 0, 1, 1, 1, 0, 1, NodeSet::new()).ok_or("no config")?;
-    let deal = deal(alloc, &config)?;
+    let deal = Arc::new(alloc, deal(alloc, &config)?)?;
     let (epoch, round, bit) = (0, 0, true);
     let mut aba = begin(alloc, &config, &deal, 0, 0, 0)?;
     let is_undecided = first_decision(&aba).is_none();

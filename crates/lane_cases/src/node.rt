@@ -1,6 +1,7 @@
 //! A correct node in one agreement.
 
 ghost use Rattle.std.specs.Prelude.{◌≡◌, ◌<◌};
+ghost use Rattle.std.specs.Arc.{arc_value};
 ghost use Rattle.aba_core.specs.State.{place_of};
 
 use aba_core::Aba;
@@ -9,6 +10,7 @@ use hb_base::Config;
 use hb_rules::Due;
 use hb_wire::Vote;
 use std::alloc::{AllocError, Global};
+use std::sync::Arc;
 use std::test::Fail;
 
 // Which agreement: of a lane, in an epoch.
@@ -33,12 +35,12 @@ impl Node {
     pub(crate) fn new(
         alloc: Global,
         config: &Config,
-        deal: &Deal,
+        deal: &Arc<Deal, Global>,
         agreement: Agreement,
         number: u8,
         own: &[Vote],
     ) -> Result<Node, Fail>
-        requires { deal.now ≡ config.now }
+        requires { arc_value deal.now ≡ config.now }
     {
         let n = config.n();
         let Agreement { lane, epoch } = agreement;

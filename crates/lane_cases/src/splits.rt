@@ -2,6 +2,7 @@
 //! in first out, last in first out, and in orders that are drawn.
 
 ghost use Rattle.std.specs.Prelude.{◌≡◌};
+ghost use Rattle.std.specs.Arc.{arc_value};
 
 use crate::node::Node;
 use crate::text::{mixed, text_of};
@@ -10,6 +11,7 @@ use coin_deal::{Deal, deal};
 use hb_base::Config;
 use hb_wire::Vote;
 use std::alloc::{AllocError, Global};
+use std::sync::Arc;
 use std::test::Fail;
 
 // So many orders are drawn for each split, of which the sums of the first are known.
@@ -119,11 +121,11 @@ fn is_last_pick(vote: &Vote) -> bool {
 fn sound_run(
     alloc: Global,
     config: &Config,
-    deal: &Deal,
+    deal: &Arc<Deal, Global>,
     split: u8,
     order: Order,
 ) -> Result<World, Fail>
-    requires { deal.now ≡ config.now }
+    requires { arc_value deal.now ≡ config.now }
 {
     let world = run(alloc, config, deal, split, order)?;
     if !is_sound(&world, split) {
@@ -136,12 +138,12 @@ fn sound_run(
 fn comes_to(
     alloc: Global,
     config: &Config,
-    deal: &Deal,
+    deal: &Arc<Deal, Global>,
     split: u8,
     order: Order,
     wanted: &str,
 ) -> Result<bool, Fail>
-    requires { deal.now ≡ config.now }
+    requires { arc_value deal.now ≡ config.now }
 {
     let world = sound_run(alloc, config, deal, split, order)?;
     let found = letters_of(alloc, &world)?;
@@ -149,8 +151,8 @@ fn comes_to(
 }
 
 // What comes of the drawn orders, if all is sound.
-fn drawn(alloc: Global, config: &Config, deal: &Deal, split: u8) -> Result<Sums, Fail>
-    requires { deal.now ≡ config.now }
+fn drawn(alloc: Global, config: &Config, deal: &Arc<Deal, Global>, split: u8) -> Result<Sums, Fail>
+    requires { arc_value deal.now ≡ config.now }
 {
     let mut sums = Sums::new();
     for k in 0..DRAWN {
@@ -162,8 +164,13 @@ fn drawn(alloc: Global, config: &Config, deal: &Deal, split: u8) -> Result<Sums,
 }
 
 // Whether all is sound in the drawn orders behind the first.
-fn check_others(alloc: Global, config: &Config, deal: &Deal, split: u8) -> Result<(), Fail>
-    requires { deal.now ≡ config.now }
+fn check_others(
+    alloc: Global,
+    config: &Config,
+    deal: &Arc<Deal, Global>,
+    split: u8,
+) -> Result<(), Fail>
+    requires { arc_value deal.now ≡ config.now }
 {
     for k in DRAWN..ORDERS {
         let order = Order::Drawn(8 * k + split as u64);
@@ -177,7 +184,7 @@ fn splits(rt: HostRuntime) -> Result<(), Fail> {
     let alloc = rt.alloc();
     for &(version, split, want_first, want_last, decided, votes) in &ROWS {
         let config = config_of(version)?;
-        let deal = deal(alloc, &config)?;
+        let deal = Arc::new(alloc, deal(alloc, &config)?)?;
         let by_first = comes_to(alloc, &config, &deal, split, Order::First, want_first)?;
         let by_last = comes_to(alloc, &config, &deal, split, Order::Last, want_last)?;
         let sums = drawn(alloc, &config, &deal, split)?;

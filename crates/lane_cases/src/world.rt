@@ -1,6 +1,7 @@
 //! One agreement among four nodes of which node 3 lies, as a driver of one thread delivers the votes in some order.
 
 ghost use Rattle.std.specs.Prelude.{◌≡◌, ◌<◌};
+ghost use Rattle.std.specs.Arc.{arc_value};
 
 use crate::node::{Agreement, Node};
 use coin_deal::Deal;
@@ -8,6 +9,7 @@ use hb_base::{Config, NodeSet};
 use hb_wire::{Vals, Vote};
 use merkle_branch::{Branch, MAX_HEIGHT};
 use std::alloc::{AllocError, Global};
+use std::sync::Arc;
 use std::test::Fail;
 
 pub(crate) const CORRECT: u8 = 3;
@@ -93,8 +95,8 @@ pub(crate) struct World {
 }
 
 impl World {
-    fn new(alloc: Global, config: Config, deal: &Deal) -> Result<World, Fail>
-        requires { deal.now ≡ config }
+    fn new(alloc: Global, config: Config, deal: &Arc<Deal, Global>) -> Result<World, Fail>
+        requires { arc_value deal.now ≡ config }
     {
         let mut world = World {
             config,
@@ -266,11 +268,11 @@ pub(crate) fn input_of(split: u8, number: u8) -> bool {
 pub(crate) fn run(
     alloc: Global,
     config: &Config,
-    deal: &Deal,
+    deal: &Arc<Deal, Global>,
     split: u8,
     order: Order,
 ) -> Result<World, Fail>
-    requires { deal.now ≡ config.now }
+    requires { arc_value deal.now ≡ config.now }
 {
     let mut world = World::new(alloc, *config, deal)?;
     world.go(split, order)?;

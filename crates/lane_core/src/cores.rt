@@ -1,4 +1,5 @@
 ghost use Rattle.std.specs.Prelude.{◌≡◌, ◌<◌, ◌≤◌, true, false, [], filter, drop, length, IsOk, IfOk, OnOk, OnErr};
+ghost use Rattle.std.specs.Arc.{arc_value};
 ghost use Rattle.std.specs.List.{list_any};
 ghost use Rattle.hb_wire.specs.Votes.{epoch_of};
 ghost use Rattle.hb_rules.specs.Claims.{is_any_delivery};
@@ -17,6 +18,7 @@ use hb_rules::Due;
 use hb_wire::Vote;
 use rbc_core::Rbc;
 use std::alloc::{AllocError, Global};
+use std::sync::Arc;
 
 // What a lane has of an epoch, from the first vote on that it casts or hears of it: the states of its broadcast and of its
 // agreement.
@@ -32,13 +34,13 @@ impl Cores {
     pub(crate) fn rebuild(
         alloc: Global,
         config: &Config,
-        deal: &Deal,
+        deal: &Arc<Deal, Global>,
         node: u8,
         lane: u8,
         epoch: u8,
         own: &[Vote],
     ) -> Result<Cores, AllocError>
-        requires deal { deal.now ≡ config.now }
+        requires deal { arc_value deal.now ≡ config.now }
         requires node { node < config.now.n }
         requires lane { lane < config.now.n }
         requires epoch { epoch < config.now.epochs }

@@ -1,4 +1,5 @@
 ghost use Rattle.std.specs.Prelude.{◌≡◌, ◌<◌, ◌↔◌, IsTrue, IfOk};
+ghost use Rattle.std.specs.Arc.{arc_value};
 ghost use Rattle.hb_rules.specs.Owing.{lane_slots};
 ghost use Rattle.hb_rules.specs.Slots.{IsIdle};
 ghost use Rattle.hb_rules.specs.Terms.{AreSpelled, AreHeardSpelled};
@@ -12,19 +13,20 @@ use hb_base::Config;
 use hb_rules::Heard;
 use hb_wire::Vote;
 use std::alloc::{AllocError, Global};
+use std::sync::Arc;
 
 // Whether lane `lane` of node `node` owes nothing, by the votes that it has cast and those that it has heard, of all epochs.
 // An epoch's states take in the votes of that epoch, and pass over all others at a look.
 pub(crate) fn is_lane_idle(
     alloc: Global,
     config: &Config,
-    deal: &Deal,
+    deal: &Arc<Deal, Global>,
     node: u8,
     lane: u8,
     own: &[Vote],
     heard: &[Heard],
 ) -> Result<bool, AllocError>
-    requires deal { deal.now ≡ config.now }
+    requires deal { arc_value deal.now ≡ config.now }
     requires node { node < config.now.n }
     requires lane { lane < config.now.n }
     requires own { AreSpelled config.now own.now }
@@ -49,12 +51,12 @@ pub(crate) fn is_lane_idle(
 // Whether a lane owes nothing in an epoch.
 fn is_epoch_idle(
     alloc: Global,
-    deal: &Deal,
+    deal: &Arc<Deal, Global>,
     place: &Place,
     own: &[Vote],
     heard: &[Heard],
 ) -> Result<bool, AllocError>
-    requires deal { deal.now ≡ place.now.config }
+    requires deal { arc_value deal.now ≡ place.now.config }
     requires node { place.now.node < place.now.config.n }
     requires lane { place.now.lane < place.now.config.n }
     requires epoch { place.now.epoch < place.now.config.epochs }

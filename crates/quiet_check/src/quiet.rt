@@ -1,4 +1,5 @@
 ghost use Rattle.std.specs.Prelude.{◌≡◌, ◌<◌, ◌≤◌, ◌↔◌, true, map, IsTrue, IfOk};
+ghost use Rattle.std.specs.Arc.{arc_value};
 ghost use Rattle.hb_rules.specs.Hearing.{heard_of};
 ghost use Rattle.hb_rules.specs.Owing.{slots_of};
 ghost use Rattle.hb_rules.specs.Report.{submitted_at, cast_by, IsSettled, IsQuiet};
@@ -16,6 +17,7 @@ use crate::votes::{hearings_of, votes_of};
 use coin_deal::{Deal, deal};
 use hb_rules::{End, Fate, Report};
 use std::alloc::{AllocError, Global};
+use std::sync::Arc;
 
 /// Whether a report is quiet: whether nothing is left to do in its run. Each actor of each correct node has its end, has
 /// received only what comes to it, and if it works has received all that it has to and owes nothing. It answers exactly for
@@ -35,7 +37,7 @@ pub fn is_quiet(alloc: Global, report: &Report) -> Result<bool, AllocError>
     if !all {
         return Ok(false);
     }
-    let dealt = deal(alloc, &report.config)?;
+    let dealt = Arc::new(alloc, deal(alloc, &report.config)?)?;
     let sent = sent_posts(alloc, report)?;
     for end in &report.ends {
         let is_quiet = is_end_quiet(alloc, report, &dealt, sent.as_slice(), end)?;
@@ -50,11 +52,11 @@ pub fn is_quiet(alloc: Global, report: &Report) -> Result<bool, AllocError>
 fn is_end_quiet(
     alloc: Global,
     report: &Report,
-    dealt: &Deal,
+    dealt: &Arc<Deal, Global>,
     sent: &[bool],
     end: &End,
 ) -> Result<bool, AllocError>
-    requires dealt { dealt.now ≡ report.now.config }
+    requires dealt { arc_value dealt.now ≡ report.now.config }
     requires sent { sent.now ≡ map (is_sent report.now) report.now.history.items }
     requires node { end.now.node < report.now.config.n }
     requires actor { end.now.actor ≤ report.now.config.n }
@@ -75,11 +77,11 @@ fn is_end_quiet(
 fn is_settled(
     alloc: Global,
     report: &Report,
-    dealt: &Deal,
+    dealt: &Arc<Deal, Global>,
     sent: &[bool],
     end: &End,
 ) -> Result<bool, AllocError>
-    requires dealt { dealt.now ≡ report.now.config }
+    requires dealt { arc_value dealt.now ≡ report.now.config }
     requires sent { sent.now ≡ map (is_sent report.now) report.now.history.items }
     requires received { AreReceived report.now end.now }
     requires node { end.now.node < report.now.config.n }
@@ -94,8 +96,13 @@ fn is_settled(
 }
 
 // Whether an actor owes nothing, by all that it has cast and all that it heard.
-fn owes_nothing(alloc: Global, report: &Report, dealt: &Deal, end: &End) -> Result<bool, AllocError>
-    requires dealt { dealt.now ≡ report.now.config }
+fn owes_nothing(
+    alloc: Global,
+    report: &Report,
+    dealt: &Arc<Deal, Global>,
+    end: &End,
+) -> Result<bool, AllocError>
+    requires dealt { arc_value dealt.now ≡ report.now.config }
     requires received { AreReceived report.now end.now }
     requires node { end.now.node < report.now.config.n }
     requires actor { end.now.actor ≤ report.now.config.n }

@@ -151,6 +151,10 @@ fn branches(rt: HostRuntime) -> Result<(), Fail> {
             has_siblings(rt.alloc(), &branch, siblings)?,
             "leaf {m} of {n}"
         );
+        assert!(rt;
+            has_siblings(rt.alloc(), &leaves.branch(m), siblings)?,
+            "leaf {m} of {n}"
+        );
         let leaf = &TEXT[..m as usize + 1];
         let lower = Branch {
             len: branch.len.saturating_sub(1),

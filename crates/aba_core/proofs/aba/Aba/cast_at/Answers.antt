@@ -1,6 +1,6 @@
-use Rattle.std.proofs.Common.{arith}
-use Rattle.aba_core.proofs.Marking.{Casts-past, Casts-marked}
-use Rattle.aba_core.proofs.Replacing.{sound_marked}
+use Rattle.std.proofs.Common.{refl, arith}
+use Rattle.aba_core.proofs.Marking.{Casts-past, Casts-round}
+use Rattle.aba_core.proofs.Replacing.{sound_marked, holds_replaced}
 use Rattle.aba_core.proofs.aba.Aba.cast_at.Goals as goal
 
 pub returns-then-round-rounds : goal.returns-then-round-rounds
@@ -9,13 +9,14 @@ returns-then-round-rounds c =
 
 pub invariant_of-self : goal.invariant_of-self
 invariant_of-self c =
-    sound_marked _ c.args.round c.max-self-inside.result c.add.new.self c.index_mut.result.now c.index_mut.ensures.value c.self.invariant
+    holds_replaced _ _ _ c.args.round c.max-self-inside.result _ c.self.invariant refl c.mark.ensures
+    (sound_marked _ c.args.round c.max-self-inside.result _ c.self.invariant.aba
     (omega (arith, c.if-round-rounds.false, c.rounds.ensures.value))
     (omega (arith, c.max-self-inside.ensures)) (omega (arith, c.max-self-inside.ensures))
-    (omega (arith, c.max-self-inside.ensures, c.self.invariant.top, c.if-round-rounds.false, c.rounds.ensures.value))
+    (omega (arith, c.max-self-inside.ensures, c.self.invariant.aba.top, c.if-round-rounds.false, c.rounds.ensures.value)))
 
 pub returns : goal.returns
 returns c =
-    rw (← c.self.view_is) (Casts-marked _ c.args.vote.now c.args.round c.max-self-inside.result c.add.new.self c.index_mut.result.now c.index_mut.ensures.value
-    c.add.ensures (rw (← c.self.view_is) at c.requires.round) c.requires.kind
-    (omega (arith, c.if-round-rounds.false, c.rounds.ensures.value)) c.self.invariant.count)
+    rw (c.mark.ensures, ← c.self.view_is) (Casts-round _ c.args.vote.now c.args.round c.max-self-inside.result
+    (rw (← c.self.view_is) at c.requires.round) c.requires.kind
+    (omega (arith, c.if-round-rounds.false, c.rounds.ensures.value)) c.self.invariant.aba.count)

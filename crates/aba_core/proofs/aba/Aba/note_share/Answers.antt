@@ -1,7 +1,8 @@
-use Rattle.std.proofs.Common.{arith}
+use Rattle.std.proofs.Common.{refl, arith}
 use Rattle.coin_deal.specs.Heard.{heard_share}
 use Rattle.aba_core.proofs.Notes.{Notes-share_past}
 use Rattle.aba_core.proofs.Noted.{share_sound, share_noted, share_noted_less}
+use Rattle.aba_core.proofs.Replacing.{holds_replaced}
 use Rattle.aba_core.proofs.aba.Aba.note_share.Goals as goal
 
 pub returns-then-round-rounds : goal.returns-then-round-rounds
@@ -11,24 +12,24 @@ returns-then-round-rounds c =
 
 pub invariant_of-self : goal.invariant_of-self
 invariant_of-self c =
-    share_sound _ c.args.round (heard_share c.args.from c.args.share c.args.salt.now c.args.branch.now) c.index_mut.result.now c.hear_share.new.self
-    (record { sound = c.self.invariant; inside = omega (arith, c.if-round-rounds.false, c.rounds.ensures.value); read = c.index_mut.ensures.value })
-    c.hear_share.ensures.exact
+    holds_replaced _ _ _ c.args.round _ _ c.self.invariant refl c.hear_share.ensures.exact
+    (share_sound _ c.args.round (heard_share c.args.from c.args.share c.args.salt.now c.args.branch.now) _ _
+    (record { sound = c.self.invariant.aba; inside = omega (arith, c.if-round-rounds.false, c.rounds.ensures.value); read = refl }) refl)
 
 pub invariant_of-self-2 : goal.invariant_of-self-2
 invariant_of-self-2 c =
-    share_sound _ c.args.round (heard_share c.args.from c.args.share c.args.salt.now c.args.branch.now) c.index_mut.result.now c.hear_share.new.self
-    (record { sound = c.self.invariant; inside = omega (arith, c.if-round-rounds.false, c.rounds.ensures.value); read = c.index_mut.ensures.value })
-    c.hear_share.ensures.exact
-
-pub returns-then-not-hear_share : goal.returns-then-not-hear_share
-returns-then-not-hear_share c =
-    rw (← c.self.view_is) (share_noted_less _ c.args.round c.args.from c.args.share c.args.salt.now c.args.branch.now c.index_mut.result.now c.hear_share.new.self
-    (record { sound = c.self.invariant; inside = omega (arith, c.if-round-rounds.false, c.rounds.ensures.value); read = c.index_mut.ensures.value })
-    c.hear_share.ensures.exact (rw (← c.self.view_is) at c.requires) (c.hear_share.ensures.same c.if-not-hear_share.true))
+    holds_replaced _ _ _ c.args.round _ _ c.self.invariant refl c.hear_share.ensures.exact
+    (share_sound _ c.args.round (heard_share c.args.from c.args.share c.args.salt.now c.args.branch.now) _ _
+    (record { sound = c.self.invariant.aba; inside = omega (arith, c.if-round-rounds.false, c.rounds.ensures.value); read = refl }) refl)
 
 pub returns : goal.returns
 returns c =
-    rw (← c.self.view_is) (share_noted _ c.args.round c.args.from c.args.share c.args.salt.now c.args.branch.now c.index_mut.result.now c.hear_share.new.self
-    (record { sound = c.self.invariant; inside = omega (arith, c.if-round-rounds.false, c.rounds.ensures.value); read = c.index_mut.ensures.value })
-    c.hear_share.ensures.exact (rw (← c.self.view_is) at c.requires))
+    rw (c.hear_share.ensures.exact, ← c.self.view_is) (share_noted _ c.args.round c.args.from c.args.share c.args.salt.now c.args.branch.now _ _
+    (record { sound = c.self.invariant.aba; inside = omega (arith, c.if-round-rounds.false, c.rounds.ensures.value); read = refl }) refl
+    (rw (← c.self.view_is) at c.requires))
+
+pub returns-then-not-hear_share : goal.returns-then-not-hear_share
+returns-then-not-hear_share c =
+    rw (c.hear_share.ensures.exact, ← c.self.view_is) (share_noted_less _ c.args.round c.args.from c.args.share c.args.salt.now c.args.branch.now _ _
+    (record { sound = c.self.invariant.aba; inside = omega (arith, c.if-round-rounds.false, c.rounds.ensures.value); read = refl }) refl
+    (rw (← c.self.view_is) at c.requires) (c.hear_share.ensures.same c.if-not-hear_share.true))

@@ -1,20 +1,26 @@
-use Rattle.std.proofs.Common.{List, ◌∷◌, [], ◌++◌, take, sym, ap, ◌∙◌, subst, arith}
+use Rattle.std.proofs.Common.{List, ◌∷◌, [], ◌++◌, take, refl, sym, ap, ◌∙◌, subst, arith}
 use Rattle.std.proofs.lemmas.List.{take_all, take_more}
 use Rattle.hb_wire.specs.declared.vote.Vote.{Vote}
 use Rattle.hb_rules.specs.Owing.{Place}
+use Rattle.aba_core.specs.Made.{all_rounds}
 use Rattle.aba_core.specs.Standing.{Shows}
-use Rattle.aba_core.proofs.Building.{IsBuilt, IsBuilt-none, IsBuilt-more, new_sound, part_shown, Stands-idle, Stands-none}
+use Rattle.aba_core.proofs.Building.{IsBuilt, IsBuilt-none, IsBuilt-more, new_rounds, new_sound, part_shown, Stands-idle, Stands-none}
 use Rattle.aba_core.proofs.aba.Aba.rebuild.Goals as goal
 
 pub invariant_of-aba : goal.invariant_of-aba
 invariant_of-aba c =
     let p : Place = record { config = c.args.config.now; node = c.args.node; lane = c.args.lane; epoch = c.args.epoch } in
-    rw c.none.ensures (new_sound p c.in_ok-rounds_of.field-0.items c.liars-sound.ensures.sound c.requires.node c.in_ok-rounds_of.ensures)
+    rw (c.none.ensures, c.in_ok-new.ensures) (record {
+      aba = new_sound p (all_rounds p.config p.lane p.epoch []) c.liars-sound.ensures.sound c.requires.node (new_rounds p.config p.lane p.epoch);
+      config = refl;
+      lane = refl;
+      epoch = refl;
+    })
 
 pub loop-vote-init : goal.loop-vote-init
 loop-vote-init c =
     let p : Place = record { config = c.args.config.now; node = c.args.node; lane = c.args.lane; epoch = c.args.epoch } in
-    rw c.none.ensures (IsBuilt-none p c.in_ok-rounds_of.field-0.items c.liars-sound.ensures.sound c.in_ok-rounds_of.ensures)
+    rw (c.none.ensures, c.in_ok-new.ensures) (IsBuilt-none p (all_rounds p.config p.lane p.epoch []) c.liars-sound.ensures.sound (new_rounds p.config p.lane p.epoch))
 
 pub loop-vote-preserved : goal.loop-vote-preserved
 loop-vote-preserved c =

@@ -24,12 +24,12 @@ loop-round-preserved c =
       config = c.row_at.ensures.config ∙ c.loop-round.invariant.config;
       room = c.row_at.ensures.room;
       later = omega (arith, c.loop-round.invariant.later);
-      inside = omega (arith, c.loop-round-test.true, c.self.invariant.top, ap (λ (a : AbaView). a.config.rounds) c.self.view_is, rounds);
+      inside = omega (arith, c.loop-round-test.true, c.self.invariant.aba.top, ap (λ (a : AbaView). a.config.rounds) c.self.view_is, rounds);
     }
 
 pub returns-clause-passed : goal.returns-clause-passed
 returns-clause-passed c =
     Passed-above c.args.from c.args.self.now c.loop-round.self c.args.row c.args.due.now c.loop-round.due
-    (λ h. ap confirms c.loop-round.invariant.config ∙ c.requires.in_use h) (rw c.self.view_is at c.self.invariant) c.loop-round.invariant.passed.adds.place
+    (λ h. ap confirms c.loop-round.invariant.config ∙ c.requires.in_use h) (rw c.self.view_is at c.self.invariant.aba) c.loop-round.invariant.passed.adds.place
     c.loop-round.round (omega (arith, c.loop-round-test.false, ap (λ (a : AbaView). a.top) c.self.view_is))
     (omega (arith, c.loop-round.invariant.inside, ap (λ (n : Numbers). n.rounds) c.loop-round.invariant.config)) c.loop-round.invariant.passed
