@@ -1,8 +1,11 @@
 //! What `audit` answers to texts of histories, and to what is none.
 
 use crate::accusing::ALONE;
-use crate::calls::{Answer, Host, Request, Written, call, check_no_run, check_written};
+use crate::callers::trace_and_audit;
+use crate::calls::{Answer, Host, Request, Written, call, cast_of, check_no_run, check_written};
 use crate::texts::{check_one_coins, four, liar_at, stop_at};
+use hb_base::{Bytes, MemorySink, MemorySource};
+use hb_rules::Report;
 use std::alloc::{AllocError, Global};
 use std::test::Fail;
 
@@ -192,6 +195,63 @@ fn stops_of_a_lane(rt: HostRuntime) -> Result<(), Fail> {
             let keys = stop_at(alloc, 1, 1, call, leave)?;
             check_legal(&rt, alloc, keys.as_str())?;
         }
+    }
+    Ok(())
+}
+
+// Scenarios, the statuses of `trace` and of `audit` behind it, and the line of the verdict.
+const CALLERS: [(&str, (u8, u8), &str); 4] = [
+    // scenarios/mixed_small.json, and the last line of scenarios/mixed_small.trace.out has the number of its posts
+    (
+        r#"{"nodes":4,"faulty":1,"epochs":1,"order":"mixed"}"#,
+        (0, 0),
+        "legal 352\n",
+    ),
+    // One node: it proposes, has four posts in the broadcast, and five in each of three rounds. Then it decides, wants no more
+    // lanes, and closes.
+    (ALONE, (0, 0), "legal 23\n"),
+    // the same node with two rounds, whose coins are 0: it spends them, and decides nothing
+    (
+        r#"{"nodes":1,"faulty":0,"epochs":1,"rounds":2,"seed":0,"submit":[{"node":0,"tx":"6869"}]}"#,
+        (5, 0),
+        "legal 15\n",
+    ),
+    // no scenario, so that nothing is printed
+    ("{}", (3, 3), ""),
+];
+
+// Checks what the caller answers to a scenario.
+fn check_caller(
+    rt: &impl Host,
+    alloc: Global,
+    scenario: &str,
+    statuses: (u8, u8),
+    line: &str,
+) -> Result<(), AllocError> {
+    let bytes = Bytes::copy(alloc, scenario.as_bytes())?;
+    let mut source = MemorySource::new(bytes, 4_096, Vec::new(alloc));
+    let mut err = MemorySink::new(alloc, Vec::new(alloc));
+    let mut report = Report::empty(alloc);
+    let (ran, judged, verdict) = trace_and_audit(
+        rt,
+        alloc,
+        &mut source,
+        &mut err,
+        cast_of(alloc)?,
+        &mut report,
+    )?;
+    assert!(rt;
+        (ran, judged) == statuses && verdict.held() == line.as_bytes(),
+        "{scenario}"
+    );
+    Ok(())
+}
+
+#[test]
+fn traces_that_are_audited(rt: HostRuntime) -> Result<(), Fail> {
+    check_one_coins(&rt, rt.alloc())?;
+    for &(scenario, statuses, line) in &CALLERS {
+        check_caller(&rt, rt.alloc(), scenario, statuses, line)?;
     }
     Ok(())
 }
