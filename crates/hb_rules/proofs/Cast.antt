@@ -2,7 +2,7 @@
 use Rattle.std.proofs.Common.{◌≡◌, ◌≢◌, ℕ, ◌<◌, ◌⊎◌, nat_lt, Bool, true, false, ◌&&◌, ◌==◌, inl, inr, List, [], ◌∷◌, ◌++◌, Contains, Option, None, Some, if◌then◌else◌, refl, sym, ap, ◌∙◌, subst, arith, append_assoc}
 use Rattle.std.proofs.lemmas.Bool.{eqb-true, eq-eqb, and_parts, false_from_ne_true}
 use Rattle.std.proofs.lemmas.Option.{cond_some}
-use Rattle.std.proofs.lemmas.List.Elements.{Contains-append_left, Contains-append_cases, filter_map-append}
+use Rattle.std.proofs.lemmas.List.Elements.{Contains-append_cases, filter_map-append}
 use Rattle.hb_base.specs.Numbers.{Numbers}
 use Rattle.hb_base.specs.NodeSet.{is_in}
 use Rattle.hb_wire.specs.declared.vote.To.{To}
@@ -16,7 +16,7 @@ use Rattle.hb_wire.proofs.VoteLemmas.{vote_again}
 use Rattle.hb_rules.specs.Hearing.{Hearing, hearing, heeds, is_within, spelled, name_at, hearing_at, hearing_of, heard_in, is_by, vote_by, own_in}
 use Rattle.hb_rules.specs.Rules.{MayCast}
 use Rattle.hb_rules.specs.History.{IsCorrectPost, MayFollow, IsAllowed, IsLegal}
-use Rattle.hb_rules.proofs.Lists.{source_of, Contains-filter_map, Contains-cases}
+use Rattle.hb_rules.proofs.Lists.{source_of, Contains-filter_map, Contains-cases, kept_stays}
 use Rattle.hb_rules.proofs.Addressed.{AreAddressed, addressed_induction, IsLegal-front}
 
 -- ---- what a post casts
@@ -53,9 +53,7 @@ cast_stands c i x history post vote stands cast =
 -- what was cast stays cast
 pub cast_stays : (c : Numbers) (i x : ℕ) (history more : List Post) (vote : Vote) → Contains (own_in c i x history) vote
     → Contains (own_in c i x (history ++ more)) vote
-cast_stays c i x history more vote stands =
-    subst (λ (own : List Vote). Contains own vote) (sym (filter_map-append (vote_by c i x) history more))
-    (Contains-append_left (own_in c i x history) (own_in c i x more) vote stands)
+cast_stays c i x history more vote stands = kept_stays (vote_by c i x) history more vote stands
 
 -- a vote that actor x of node i may cast after a history, and that the post spells
 pub record IsNew (c : Numbers) (i x : ℕ) (history : List Post) (post : Post) (vote : Vote) : Type 0 where
@@ -141,9 +139,7 @@ heard_from c i x history h stands =
 -- what was heard stays heard
 pub heard_stays : (c : Numbers) (i x : ℕ) (history more : List Post) (h : Hearing) → Contains (heard_in c i x history) h
     → Contains (heard_in c i x (history ++ more)) h
-heard_stays c i x history more h stands =
-    subst (λ (heard : List Hearing). Contains heard h) (sym (filter_map-append (hearing_of c i x) history more))
-    (Contains-append_left (heard_in c i x history) (heard_in c i x more) h stands)
+heard_stays c i x history more h stands = kept_stays (hearing_of c i x) history more h stands
 
 -- an actor has its own number's posts from other nodes
 goes_same : (n : ℕ) (to : To) (from poster i x : ℕ) → goes_to n to from poster i x ≡ true → (to ≡ Home → i ≢ from) → poster ≡ x

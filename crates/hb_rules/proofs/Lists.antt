@@ -4,7 +4,7 @@ use Rattle.std.specs.List.{list_any, list_all, filter, filter_map, cons_option, 
 use Rattle.std.specs.Option.{option_or, is_some}
 use Rattle.std.proofs.lemmas.Bool.{both_ways, and_parts, false_from_ne_true}
 use Rattle.std.proofs.lemmas.Option.{slice_get-get_or}
-use Rattle.std.proofs.lemmas.List.Elements.{Contains-append_left, Contains-append_right, Contains-append_cases, Contains-push, Contains-push_cases, All-from_recursion, All-contains}
+use Rattle.std.proofs.lemmas.List.Elements.{Contains-append_left, Contains-append_right, Contains-append_cases, Contains-push, Contains-push_cases, filter_map-append, All-from_recursion, All-contains}
 use Rattle.std.proofs.lemmas.List.Folds.{list_any-from_Any}
 use Rattle.hb_rules.specs.Slots.{each, first_of}
 
@@ -190,6 +190,13 @@ Contains-filter_map {A} {B} f (z ∷ zs) x y stands gives = by (f z) refl (Conta
         Contains-cases z zs x stands (Contains (w ∷ filter_map f zs) y)
         (λ is. let same : w ≡ y = cc (some, ap f is, gives) in rw same (Contains-first y (filter_map f zs)))
         (λ rest. Contains-later w (filter_map f zs) y (later rest gives))
+
+-- more elements take no result away
+pub kept_stays : {A B : Type 0} (f : A → Option B) (xs more : List A) (y : B) → Contains (filter_map f xs) y
+    → Contains (filter_map f (xs ++ more)) y
+kept_stays {A} {B} f xs more y stands =
+    subst (λ (kept : List B). Contains kept y) (sym (filter_map-append f xs more))
+    (Contains-append_left (filter_map f xs) (filter_map f more) y stands)
 
 pub some_if : {A : Type 0} (b : Bool) (x y : A) → (if b then Some x else None) ≡ Some y → (b ≡ true) × (x ≡ y)
 some_if true x y h = (refl, cc)
