@@ -1,5 +1,5 @@
--- The log of all puts: as it grows, and as a sender gets its place among the passes that were taken in.
-use Rattle.std.proofs.Common.{◌≡◌, ◌≢◌, length, arith, ℕ, ◌==◌, cond, Bool, true, false, List, [], ◌∷◌, ◌++◌, map, sym, refl, ap, ◌∙◌}
+-- The log of all puts: as it grows, as a sender gets its place among the passes that were taken in, and one list in it.
+use Rattle.std.proofs.Common.{◌≡◌, ◌≢◌, length, arith, ℕ, zero, suc, ◌<◌, ◌==◌, cond, Bool, true, false, List, [], ◌∷◌, ◌++◌, map, sym, refl, ap, ◌∙◌}
 use Rattle.std.proofs.Common.{append-nil, eq-eqb, ne_eqb}
 use mathlib.Core.Logic.{dite}
 use native.Mathlib.Decide.{ℕ_discrete}
@@ -146,3 +146,64 @@ has_all log lists whole all known = (
   numbers-placed (length lists) log ∙ all,
   λ k below. numbers_at-apart (length lists) k log (λ e. omega (arith, e, below)) ∙ known k,
 )
+
+-- ---- one list among all
+
+first : (own : List ℕ) (places : List (ℕ × ℕ)) → numbers_at 0 places ≡ own → (k : ℕ) → k < length (own ∷ [])
+    → numbers_at k places ≡ slice_index_or (own ∷ []) k []
+first own places mine zero below = mine
+first own places mine (suc k) below = absurd (omega (arith, below))
+
+has_one : (own whole : List ℕ) (places : List (ℕ × ℕ)) → numbers places ≡ whole → numbers_at 0 places ≡ own → HasAll (own ∷ []) whole
+has_one own whole places all mine = (places, all, first own places mine)
+
+-- each number beside the place 1, which is not that of the one list
+abbrev beside : List ℕ → List (ℕ × ℕ)
+beside [] = []
+beside (x ∷ xs) = (1, x) ∷ beside xs
+
+numbers-beside : (xs : List ℕ) → numbers (beside xs) ≡ xs
+numbers-beside [] = refl
+numbers-beside (x ∷ xs) = ap (λ l. x ∷ l) (numbers-beside xs)
+
+numbers_at-beside : (xs : List ℕ) → numbers_at 0 (beside xs) ≡ []
+numbers_at-beside [] = refl
+numbers_at-beside (x ∷ xs) = numbers_at-beside xs
+
+pub has_nothing : (whole : List ℕ) → HasAll ([] ∷ []) whole
+has_nothing whole = has_one [] whole (beside whole) (numbers-beside whole) (numbers_at-beside whole)
+
+numbers-snoc : (places : List (ℕ × ℕ)) (x : ℕ) → numbers (places ++ (1, x) ∷ []) ≡ numbers places ++ x ∷ []
+numbers-snoc [] x = refl
+numbers-snoc (p ∷ ps) x = ap (λ l. p.1 ∷ l) (numbers-snoc ps x)
+
+numbers_at-snoc : (places : List (ℕ × ℕ)) (x : ℕ) → numbers_at 0 (places ++ (1, x) ∷ []) ≡ numbers_at 0 places
+numbers_at-snoc [] x = refl
+numbers_at-snoc (p ∷ ps) x = both_ways (p.0 == 0) (p.0 == 0) p.1 _ _ refl (numbers_at-snoc ps x)
+
+pub has_more : (own whole : List ℕ) (x : ℕ) → HasAll (own ∷ []) whole → HasAll (own ∷ []) (whole ++ x ∷ [])
+has_more own whole x has =
+    has_one own (whole ++ x ∷ []) (has.0 ++ (1, x) ∷ []) (numbers-snoc has.0 x ∙ ap (λ l. l ++ x ∷ []) has.1)
+    (numbers_at-snoc has.0 x ∙ has.2 0 (omega arith))
+
+-- the numbers of one sender have the place 0
+abbrev chosen : Sender → List Put → List (ℕ × ℕ)
+chosen s [] = []
+chosen s (p ∷ ps) = (cond (is_same p.sender s) 0 1, p.number) ∷ chosen s ps
+
+picked : (b : Bool) → (cond b 0 1 == 0) ≡ b
+picked true = refl
+picked false = refl
+
+numbers-chosen : (s : Sender) (log : List Put) → numbers (chosen s log) ≡ all_of log
+numbers-chosen s [] = refl
+numbers-chosen s (p ∷ ps) = ap (λ l. p.number ∷ l) (numbers-chosen s ps)
+
+numbers_at-chosen : (s : Sender) (log : List Put) → numbers_at 0 (chosen s log) ≡ sent_by s log
+numbers_at-chosen s [] = refl
+numbers_at-chosen s (p ∷ ps) =
+    both_ways (cond (is_same p.sender s) 0 1 == 0) (is_same p.sender s) p.number _ _ (picked (is_same p.sender s)) (numbers_at-chosen s ps)
+
+-- the log has all that one sender put
+pub has_sent : (s : Sender) (log : List Put) → HasAll (sent_by s log ∷ []) (all_of log)
+has_sent s log = has_one (sent_by s log) (all_of log) (chosen s log) (numbers-chosen s log) (numbers_at-chosen s log)

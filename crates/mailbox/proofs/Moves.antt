@@ -1,6 +1,6 @@
 -- Each call keeps the rule of a mailbox.
 use Rattle.std.proofs.Common.{◌≡◌, ◌≢◌, ℕ, suc, cond, ◌+◌, ◌^◌, ◌≤◌, true, false, true≢false, List, [], ◌∷◌, ◌++◌, map, length, set, get_or}
-use Rattle.std.proofs.Common.{sym, refl, ap, ◌∙◌, subst, append_assoc, append-nil, eq-eqb, ne_eqb, arith}
+use Rattle.std.proofs.Common.{Option, None, Some, MatchOption, IfNone, sym, refl, ap, ◌∙◌, subst, append_assoc, append-nil, eq-eqb, ne_eqb, arith}
 use mathlib.Core.Option.{some, some-injective, some-ne-none}
 use mathlib.Core.Logic.{dite}
 use native.Mathlib.Decide.{dec_le, ℕ_discrete}
@@ -11,13 +11,14 @@ use Rattle.crossbeam_queue.proofs.Lists.{set_else}
 use Rattle.mailbox.specs.declared.rule.View.{View}
 use Rattle.mailbox.specs.Interleaving.{IsInterleaving, HasAll}
 use Rattle.mailbox.specs.Shares.{AreAtMost, parts_of, AreWhole}
-use Rattle.mailbox.specs.Ordered.{putter, opener, spent, halved, other_half, put_side, take_side, after_put, after_take, asked_once, joined_with}
-use Rattle.mailbox.specs.Ordered.{pass_number, joined_place, Put, sent_by, total, FitsPass, IsInOrder}
+use Rattle.mailbox.specs.Ordered.{view_of, putter, opener, spent, halved, other_half, put_side, take_side, after_put, after_take, asked_once, joined_with}
+use Rattle.mailbox.specs.Ordered.{receipt_of, told_by}
+use Rattle.mailbox.specs.Ordered.{pass_number, joined_place, Put, all_of, sent_by, total, FitsPass, IsInOrder}
 use Rattle.mailbox.proofs.Places.{within, stands, get_or-length, get_or-snoc_here, get_or-snoc_else, EachView, EachView-set, EachView-snoc}
 use Rattle.mailbox.proofs.Places.{total-set, total-snoc, others_none}
 use Rattle.mailbox.proofs.Parts.{AreAtMost-finer, AreAtMost-halved, AreAtMost-append, parts_of-append, parts_of-finer, parts_of-halved}
 use Rattle.mailbox.proofs.Parts.{whole-finer, no_shares, whole_parts}
-use Rattle.mailbox.proofs.Logs.{all_of-snoc, sent_by-same, sent_by-other, renamed, all_of-renamed, sent_by-renamed, interleaved, has_all}
+use Rattle.mailbox.proofs.Logs.{all_of-snoc, sent_by-same, sent_by-other, renamed, all_of-renamed, sent_by-renamed, interleaved, has_all, has_nothing, has_more, has_sent}
 
 pub begins : IsInOrder [] (opener ∷ [])
 begins = record {
@@ -33,9 +34,14 @@ begins = record {
         sent_is = refl;
         coarse = (omega arith, tt);
         idle = λ _. refl;
+        own = has_nothing [];
         takes = λ _. record { one = refl; taken_is = refl; silent = refl; known = λ _. refl };
       };
 }
+
+-- what is known to be among all puts stays so
+own_more : (own : List ℕ) (log : List Put) (put : Put) → HasAll (own ∷ []) (all_of log) → HasAll (own ∷ []) (all_of (log ++ put ∷ []))
+own_more own log put has = subst (HasAll (own ∷ [])) (sym (all_of-snoc log put)) (has_more own (all_of log) put.number has)
 
 -- what a put pass leaves to the others
 other_put : (taker_number : ℕ) (taken : List ℕ) (log : List Put) (finest by x : ℕ) (number : ℕ) (v : View) → number ≢ by
@@ -45,6 +51,7 @@ other_put taker_number taken log finest by x number v apart old = let put : Put 
   sent_is = sent_by-other (pass_number number) log put (ne_eqb by number (λ e. apart (sym e))) ∙ old.sent_is;
   coarse = old.coarse;
   idle = old.idle;
+  own = own_more v.own log put old.own;
   takes = λ t. let o = old.takes t in record {
     one = o.one;
     taken_is = o.taken_is;
@@ -75,6 +82,7 @@ puts n port v x splits is items views _ b at =
               sent_is = sent_by-same (pass_number port) b.log put (eq-eqb port port refl) ∙ ap (λ l. l ++ x ∷ []) old.sent_is;
               coarse = old.coarse;
               idle = λ e. let f : splits ∷ [] ≡ [] = sym (ap (λ (u : View). u.splits) is) ∙ e in absurd cc;
+              own = own_more v.own b.log put old.own;
               takes = λ t. absurd (true≢false (sym t ∙ ap (λ (u : View). u.takes) is));
             }
             (λ j u apart e. other_put b.taker_number b.taken b.log b.finest port x j u apart (b.fits j u e));
@@ -102,10 +110,11 @@ takes port v may x items views b at =
               sent_is = old.sent_is;
               coarse = old.coarse;
               idle = old.idle;
+              own = old.own;
               takes = λ _. record { one = mine.one; taken_is = ap (λ l. l ++ x ∷ []) mine.taken_is; silent = mine.silent; known = mine.known };
             }
             (λ j u apart e. let o = b.fits j u e in
-            record { sent_is = o.sent_is; coarse = o.coarse; idle = o.idle; takes = λ t. absurd (apart ((o.takes t).one ∙ sym mine.one)) });
+            record { sent_is = o.sent_is; coarse = o.coarse; idle = o.idle; own = o.own; takes = λ t. absurd (apart ((o.takes t).one ∙ sym mine.one)) });
       },
       refl,
     )
@@ -125,15 +134,25 @@ others_silent items views b port v at silent full j = dite (dec_le (length views
     (others_none (λ y. parts_of b.finest y.splits) views port v spent at refl (b.whole ∙ sym full) j u apart there))))
 
 pub learns : (port : ℕ) (v : View) → Learns IsInOrder port v (λ items. v.takes ≡ true → HasAll v.joined (v.taken ++ items)
-    × (AreWhole v.splits → IsInterleaving v.joined (v.taken ++ items)))
+    × HasAll (v.own ∷ []) (v.taken ++ items) × (AreWhole v.splits → IsInterleaving v.joined (v.taken ++ items)))
 learns port v items views b at may =
     let old = b.fits port v at in
     let mine = old.takes may in
     let order = b.in_order ∙ ap (λ l. l ++ items) (sym mine.taken_is) in (
       has_all b.log v.joined (v.taken ++ items) order mine.known,
+      subst (HasAll (v.own ∷ [])) order old.own,
       λ whole. interleaved b.log v.joined (v.taken ++ items)
           (others_silent items views b port v at mine.silent (whole_parts b.finest v.splits old.coarse whole)) order mine.known,
     )
+
+-- a pass that was asked once more and found nothing knows that its own numbers were taken
+pub own_taken : (found : Option ℕ) (v m after : View) (Taken : ℕ → Type 0) → m ≡ asked_once v → v.takes ≡ true
+    → MatchOption found ((after ≡ m) × (m.takes ≡ true → HasAll m.joined (m.taken ++ []) × HasAll (m.own ∷ []) (m.taken ++ [])
+    × (AreWhole m.splits → IsInterleaving m.joined (m.taken ++ [])))) Taken
+    → IfNone found (HasAll (v.own ∷ []) (v.taken ++ []))
+own_taken None v m after Taken is may told =
+    subst (λ (u : View). HasAll (u.own ∷ []) (u.taken ++ [])) is (told.1 (ap (λ (u : View). u.takes) is ∙ may)).1
+own_taken (Some x) v m after Taken is may told = tt
 
 pub all_taken : (lists : List (List ℕ)) (taken : List ℕ) → HasAll lists (taken ++ []) → HasAll lists taken
 all_taken lists taken all = rw (append-nil taken) at all
@@ -160,21 +179,25 @@ forks_sides port v may items views b at =
       none_beyond = λ number far. b.none_beyond number (let l = length-snoc vs right in omega arith);
       fits = EachView-snoc (FitsPass (length vs) b.taken b.log b.finest) vs right
           (EachView-set (FitsPass (length vs) b.taken b.log b.finest) views port left
-          record { sent_is = old.sent_is; coarse = old.coarse; idle = old.idle; takes = λ t. absurd (true≢false (sym t)) }
+          record { sent_is = old.sent_is; coarse = old.coarse; idle = old.idle; own = has_nothing (all_of b.log); takes = λ t. absurd (true≢false (sym t)) }
           (λ j u apart e. let o = b.fits j u e in
-          record { sent_is = o.sent_is; coarse = o.coarse; idle = o.idle; takes = λ t. absurd (apart ((o.takes t).one ∙ sym mine.one)) }))
+          record { sent_is = o.sent_is; coarse = o.coarse; idle = o.idle; own = o.own; takes = λ t. absurd (apart ((o.takes t).one ∙ sym mine.one)) }))
           record {
             sent_is = b.none_beyond (length vs) (omega arith);
             coarse = tt;
             idle = λ _. refl;
+            own = old.own;
             takes = λ _. record { one = refl; taken_is = mine.taken_is; silent = refl; known = mine.known };
           };
     }
 
--- a call changes nothing but how often the pass was asked
-pub forks_asked : (port : ℕ) (v : View) → Forks IsInOrder port v (asked_once v) spent
-forks_asked port v items views b at =
-    let left : View = asked_once v in
+-- beside a pass comes one with no right, which has put nothing, and the first is changed in nothing but how often it was asked
+forks_beside : (port : ℕ) (v : View) (asked : ℕ) (own : List ℕ)
+    → ((items : List ℕ) (views : List View) (b : IsInOrder items views) → get_elem? views port ≡ some v → HasAll (own ∷ []) (all_of b.log))
+    → Forks IsInOrder port v (view_of v.takes v.splits v.sent v.taken v.joined asked v.own) (view_of false [] [] [] [] 0 own)
+forks_beside port v asked own among items views b at =
+    let left : View = view_of v.takes v.splits v.sent v.taken v.joined asked v.own in
+    let right : View = view_of false [] [] [] [] 0 own in
     let vs : List View = set views port left in
     let old = b.fits port v at in
     let f : View → ℕ = λ u. parts_of b.finest u.splits in
@@ -186,14 +209,15 @@ forks_asked port v items views b at =
       log = b.log;
       finest = b.finest;
       in_order = b.in_order;
-      whole = let s = total-set f views port v left at in let t = total-snoc f vs spent in let u = b.whole in omega arith;
-      none_beyond = λ number far. b.none_beyond number (let l = length-snoc vs spent in omega arith);
-      fits = EachView-snoc F vs spent
+      whole = let s = total-set f views port v left at in let t = total-snoc f vs right in let u = b.whole in omega arith;
+      none_beyond = λ number far. b.none_beyond number (let l = length-snoc vs right in omega arith);
+      fits = EachView-snoc F vs right
           (EachView-set F views port left
           record {
             sent_is = old.sent_is;
             coarse = old.coarse;
             idle = old.idle;
+            own = old.own;
             takes = λ t. let o = old.takes t in record { one = o.one; taken_is = o.taken_is; silent = o.silent; known = o.known };
           }
           (λ j u apart e. b.fits j u e))
@@ -201,9 +225,20 @@ forks_asked port v items views b at =
             sent_is = b.none_beyond (length vs) (omega arith);
             coarse = tt;
             idle = λ _. refl;
+            own = among items views b at;
             takes = λ t. absurd (true≢false (sym t));
           };
     }
+
+-- a call changes nothing but how often the pass was asked
+pub forks_asked : (port : ℕ) (v : View) → Forks IsInOrder port v (asked_once v) spent
+forks_asked port v = forks_beside port v (v.asked + 1) [] (λ items views b at. has_nothing (all_of b.log))
+
+-- a receipt tells what was put through the pass
+pub forks_receipt : (port : ℕ) (v : View) → Forks IsInOrder port v v (receipt_of v)
+forks_receipt port v =
+    forks_beside port v v.asked v.sent (λ items views b at.
+    subst (λ (sent : List ℕ). HasAll (sent ∷ []) (all_of b.log)) (b.fits port v at).sent_is (has_sent (pass_number port) b.log))
 
 total-finer : (finest : ℕ) (views : List View) → ((number : ℕ) (v : View) → get_elem? views number ≡ some v → AreAtMost finest v.splits)
     → total (λ v. parts_of (finest + 1) v.splits) views ≡ total (λ v. parts_of finest v.splits) views + total (λ v. parts_of finest v.splits) views
@@ -248,14 +283,16 @@ forks_halves port v puts_only items views b at =
             sent_is = old.sent_is;
             coarse = AreAtMost-halved b.finest v.splits old.coarse;
             idle = λ e. old.idle (map-nil v.splits e);
+            own = old.own;
             takes = λ t. absurd (true≢false (sym t ∙ puts_only));
           }
           (λ j u apart e. let o = b.fits j u e in
-          record { sent_is = o.sent_is; coarse = AreAtMost-finer b.finest u.splits o.coarse; idle = o.idle; takes = o.takes }))
+          record { sent_is = o.sent_is; coarse = AreAtMost-finer b.finest u.splits o.coarse; idle = o.idle; own = o.own; takes = o.takes }))
           record {
             sent_is = b.none_beyond (length vs) (omega arith);
             coarse = AreAtMost-halved b.finest v.splits old.coarse;
             idle = λ _. refl;
+            own = has_nothing (all_of b.log);
             takes = λ t. absurd (true≢false (sym t));
           };
     }
@@ -306,6 +343,7 @@ merges port v other w may puts_only items views b at two at' =
       sent_is = pass_apart b.log other place port apart ∙ old.sent_is;
       coarse = AreAtMost-append b.finest v.splits w.splits old.coarse theirs.coarse;
       idle = λ _. mine.silent;
+      own = subst (HasAll (v.own ∷ [])) (sym (all_of-renamed other place b.log)) old.own;
       takes = λ _. record {
         one = mine.one;
         taken_is = mine.taken_is;
@@ -317,6 +355,7 @@ merges port v other w may puts_only items views b at two at' =
       sent_is = pass_apart b.log other place j apart ∙ o.sent_is;
       coarse = o.coarse;
       idle = o.idle;
+      own = subst (HasAll (u.own ∷ [])) (sym (all_of-renamed other place b.log)) o.own;
       takes = λ t. absurd (not_port ((o.takes t).one ∙ sym mine.one));
     }) in
     record {
@@ -337,7 +376,53 @@ merges port v other w may puts_only items views b at two at' =
             sent_is = pass_here b.log other place ∙ mine.known place ∙ get_or-length v.joined [];
             coarse = tt;
             idle = λ _. refl;
+            own = has_nothing (all_of log);
             takes = λ t. absurd (true≢false (sym t));
           }
           (λ j u apart e. now j u e apart);
+    }
+
+-- the take pass takes in a receipt: of all that it knows no more changes than the own numbers that it was told of
+pub merges_receipt : (port : ℕ) (v : View) (other : ℕ) (w u : View) → w ≡ receipt_of u → Merges IsInOrder port v other w (told_by v w) spent
+merges_receipt port v other w u is items views b at two at' =
+    let both : View = told_by v w in
+    let vs : List View = set views port both in
+    let ws : List View = set vs other spent in
+    let old = b.fits port v at in
+    let theirs = b.fits other w (sym (set_else views port other both two) ∙ at') in
+    let f : View → ℕ = λ y. parts_of b.finest y.splits in
+    let F : ℕ → View → Type 0 = FitsPass b.taker_number b.taken b.log b.finest in
+    let l₁ : length vs ≡ length views = length-set views port both in
+    let l₂ : length ws ≡ length vs = length-set vs other spent in
+    let now : EachView F vs = EachView-set F views port both
+    record {
+      sent_is = old.sent_is;
+      coarse = old.coarse;
+      idle = old.idle;
+      own = theirs.own;
+      takes = λ t. let o = old.takes t in record { one = o.one; taken_is = o.taken_is; silent = o.silent; known = o.known };
+    }
+    (λ j y apart e. b.fits j y e) in
+    record {
+      taker_number = b.taker_number;
+      taken = b.taken;
+      log = b.log;
+      finest = b.finest;
+      in_order = b.in_order;
+      whole =
+          let s = total-set f views port v both at in
+          let t = total-set f vs other w spent at' in
+          let none : f w ≡ 0 = ap f is in
+          let k = b.whole in
+          omega arith;
+      none_beyond = λ number far. b.none_beyond number (omega arith);
+      fits = EachView-set F vs other spent
+          record {
+            sent_is = theirs.sent_is ∙ ap (λ (y : View). y.sent) is;
+            coarse = tt;
+            idle = λ _. refl;
+            own = has_nothing (all_of b.log);
+            takes = λ t. absurd (true≢false (sym t));
+          }
+          (λ j y apart e. now j y e);
     }

@@ -3,50 +3,61 @@ use Rattle.std.specs.Prelude.{◌≡◌, ℕ, ◌+◌, ◌^◌, ◌≤◌, Bool,
 use mathlib.Core.Option.{some}
 use lib.ListN.{get_elem?}
 use Rattle.mailbox.specs.declared.rule.View.{View}
+use Rattle.mailbox.specs.Interleaving.{HasAll}
 use Rattle.mailbox.specs.Shares.{AreAtMost, parts_of}
 
-abbrev pub view_of : Bool → List ℕ → List ℕ → List ℕ → List (List ℕ) → ℕ → View
-view_of takes splits sent taken joined asked = record { takes = takes; splits = splits; sent = sent; taken = taken; joined = joined; asked = asked }
+abbrev pub view_of : Bool → List ℕ → List ℕ → List ℕ → List (List ℕ) → ℕ → List ℕ → View
+view_of takes splits sent taken joined asked own =
+    record { takes = takes; splits = splits; sent = sent; taken = taken; joined = joined; asked = asked; own = own }
 
 -- a put pass that comes from so many splits
 abbrev pub putter : ℕ → List ℕ → View
-putter splits sent = view_of false (splits ∷ []) sent [] [] 0
+putter splits sent = view_of false (splits ∷ []) sent [] [] 0 []
 
--- the take pass, which has taken in put passes with these splits and these lists, and was asked so often for a number
-abbrev pub taker : List ℕ → List ℕ → List (List ℕ) → ℕ → View
-taker splits taken joined asked = view_of true splits [] taken joined asked
+-- the take pass, which has taken in put passes with these splits and these lists, was asked so often for a number, and was told
+-- of these own numbers
+abbrev pub taker : List ℕ → List ℕ → List (List ℕ) → ℕ → List ℕ → View
+taker splits taken joined asked own = view_of true splits [] taken joined asked own
 
 -- what is left of a put pass that was taken in
 abbrev pub spent : View
-spent = view_of false [] [] [] [] 0
+spent = view_of false [] [] [] [] 0 []
 
 -- the one pass that a mailbox begins with, both to put and to take
 abbrev pub opener : View
-opener = view_of true (0 ∷ []) [] [] [] 0
+opener = view_of true (0 ∷ []) [] [] [] 0 []
 
 abbrev pub halved : View → View
-halved v = view_of v.takes (map (λ n. n + 1) v.splits) v.sent v.taken v.joined v.asked
+halved v = view_of v.takes (map (λ n. n + 1) v.splits) v.sent v.taken v.joined v.asked v.own
 
 abbrev pub other_half : View → View
-other_half v = view_of false (map (λ n. n + 1) v.splits) [] [] [] 0
+other_half v = view_of false (map (λ n. n + 1) v.splits) [] [] [] 0 []
 
 abbrev pub put_side : View → View
-put_side v = view_of false v.splits v.sent [] [] 0
+put_side v = view_of false v.splits v.sent [] [] 0 []
 
 abbrev pub take_side : View → View
-take_side v = view_of true [] [] v.taken v.joined v.asked
+take_side v = view_of true [] [] v.taken v.joined v.asked v.own
 
 abbrev pub after_put : View → ℕ → View
-after_put v x = view_of v.takes v.splits (v.sent ++ x ∷ []) v.taken v.joined v.asked
+after_put v x = view_of v.takes v.splits (v.sent ++ x ∷ []) v.taken v.joined v.asked v.own
 
 abbrev pub after_take : View → ℕ → View
-after_take v x = view_of v.takes v.splits v.sent (v.taken ++ x ∷ []) v.joined v.asked
+after_take v x = view_of v.takes v.splits v.sent (v.taken ++ x ∷ []) v.joined v.asked v.own
 
 abbrev pub asked_once : View → View
-asked_once v = view_of v.takes v.splits v.sent v.taken v.joined (v.asked + 1)
+asked_once v = view_of v.takes v.splits v.sent v.taken v.joined (v.asked + 1) v.own
 
 abbrev pub joined_with : View → View → View
-joined_with v w = view_of v.takes (v.splits ++ w.splits) v.sent v.taken (v.joined ++ w.sent ∷ []) v.asked
+joined_with v w = view_of v.takes (v.splits ++ w.splits) v.sent v.taken (v.joined ++ w.sent ∷ []) v.asked v.own
+
+-- a pass with no right, which tells what was put through a put pass so far
+abbrev pub receipt_of : View → View
+receipt_of v = view_of false [] [] [] [] 0 v.sent
+
+-- what the take pass knows once it has taken in a receipt
+abbrev pub told_by : View → View → View
+told_by v w = view_of v.takes v.splits v.sent v.taken v.joined v.asked w.own
 
 -- who put a number: a pass of the queue, by its number there, or a pass that was taken in, by its place among those
 pub data Sender : Type 0 where
@@ -83,11 +94,12 @@ pub record FitsTaker (taker_number : ℕ) (taken : List ℕ) (log : List Put) (n
   pub silent : v.sent ≡ []
   pub known : (k : ℕ) → sent_by (joined_place k) log ≡ slice_index_or v.joined k []
 
--- each pass knows what it put; a pass with no share has put nothing
+-- each pass knows what it put, and of some numbers that they are among all puts; a pass with no share has put nothing
 pub record FitsPass (taker_number : ℕ) (taken : List ℕ) (log : List Put) (finest number : ℕ) (v : View) : Type 0 where
   pub sent_is : sent_by (pass_number number) log ≡ v.sent
   pub coarse : AreAtMost finest v.splits
   pub idle : v.splits ≡ [] → v.sent ≡ []
+  pub own : HasAll (v.own ∷ []) (all_of log)
   pub takes : v.takes ≡ true → FitsTaker taker_number taken log number v
 
 -- there is a log of all puts: what was taken, and then what the queue holds. All shares are the whole right

@@ -18,13 +18,15 @@ pub record PutPassView : Type 0 where
   pub needs_block : Bool
 
 -- the mailbox that it belongs to, what it took, in order, and of the put passes that it took in how many splits each comes
--- from and what each put, in order; and how often it was asked for a number
+-- from and what each put, in order; how often it was asked for a number; and what was put by `put_own` through the pass that it
+-- was told of last
 pub record TakePassView : Type 0 where
   pub at : WebId
   pub taken : List ℕ
   pub splits : List ℕ
   pub joined : List (List ℕ)
   pub asked : ℕ
+  pub own : List ℕ
 
 abbrev pub QueueSeat : Type 0
 QueueSeat = Seat (Option ℕ) (Going ℕ View) Global
@@ -62,10 +64,12 @@ take_pass_view seat = record {
   splits = (known_to seat).splits;
   joined = (known_to seat).joined;
   asked = (known_to seat).asked;
+  own = (known_to seat).own;
 }
 
 abbrev pub IsTakeSeat : QueueSeat → Type 0
-IsTakeSeat seat = IsFree seat × (known_to seat ≡ taker (known_to seat).splits (known_to seat).taken (known_to seat).joined (known_to seat).asked)
+IsTakeSeat seat =
+    IsFree seat × (known_to seat ≡ taker (known_to seat).splits (known_to seat).taken (known_to seat).joined (known_to seat).asked (known_to seat).own)
 
 -- the seat of the take pass of a mailbox, with what it knows
 abbrev pub IsTaker : WebId → View → QueueSeat → Type 0
@@ -73,4 +77,5 @@ IsTaker at v seat = (seat.web ≡ at) × IsFree seat × (known_to seat ≡ v)
 
 -- the same, whatever it knows as the take pass
 abbrev pub IsTakerAsKnown : WebId → QueueSeat → Type 0
-IsTakerAsKnown at seat = IsTaker at (taker (known_to seat).splits (known_to seat).taken (known_to seat).joined (known_to seat).asked) seat
+IsTakerAsKnown at seat =
+    IsTaker at (taker (known_to seat).splits (known_to seat).taken (known_to seat).joined (known_to seat).asked (known_to seat).own) seat

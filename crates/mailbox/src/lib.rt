@@ -8,7 +8,7 @@ ghost use Rattle.mailbox.specs.Shares.{AreWhole};
 ghost use Rattle.mailbox.specs.Ordered.{putter, taker, after_put, after_take, asked_once, joined_with};
 
 use crossbeam_queue::{RuledSegQueue, SegPass};
-use rule::{Asks, Halves, InOrder, Joins, Puts, Sides, Takes, View};
+use rule::{Asks, Halves, InOrder, Joins, Puts, Receipts, Sides, Takes, Tells, View};
 use std::alloc::{AllocError, Global};
 use std::marker::Model;
 use std::sync::Wait;
@@ -60,8 +60,8 @@ impl Model for PutPass {
 }
 
 /// The right of the one receiver to take numbers from one mailbox. It has no bytes. A contract sees the mailbox's
-/// name, the list of what was taken, of the put passes that were handed in the splits and the lists of what was put, and how
-/// often it was asked for a number.
+/// name, the list of what was taken, of the put passes that were handed in the splits and the lists of what was put, how
+/// often it was asked for a number, and the receiver's own numbers that it was told of (`put_own`).
 #[derive(Drop)]
 pub struct TakePass {
     seat: LinePass,
@@ -92,7 +92,7 @@ impl Mailbox {
     /// want of memory.
     pub fn new(alloc: Global) -> Result<(Mailbox, PutPass, TakePass), AllocError>
         ensures put { IfOk result (λ r. (r.1.at ≡ r.0) × (r.1.splits ≡ 0) × (r.1.put ≡ [])) }
-        ensures take { IfOk result (λ r. (r.2.at ≡ r.0) × (r.2.taken ≡ []) × (r.2.splits ≡ []) × (r.2.joined ≡ []) × (r.2.asked ≡ 0)) }
+        ensures take { IfOk result (λ r. (r.2.at ≡ r.0) × (r.2.taken ≡ []) × (r.2.splits ≡ []) × (r.2.joined ≡ []) × (r.2.asked ≡ 0) × (r.2.own ≡ [])) }
     {
         let (line, mut first) = Line::with_rule(alloc)?;
         let second = line.another::<Sides>(&mut first);
@@ -127,15 +127,38 @@ impl Mailbox {
         self.push(rt, &mut pass.seat, number)
     }
 
-    /// Takes the oldest number. After `None` what was taken has all that was put through the passes that were handed in. Of the
-    /// others no clause says anything, since they may put at once. The pass counts each call (`asked`), whatever comes of it: no
-    /// clause says that the call looked into the mailbox.
+    /// Puts `number` as `put` does, for the receiver: after Ok the take pass knows all that was put through its own put pass.
+    pub fn put_own<R: Wait>(
+        &self,
+        rt: &R,
+        take: &mut TakePass,
+        own: &mut PutPass,
+        number: u32,
+    ) -> Result<(), u32>
+        requires { (take.old.at ≡ self.now) × (own.old.at ≡ self.now) }
+        ensures same { (own.new.at ≡ own.old.at) × (own.new.splits ≡ own.old.splits) }
+        ensures put { OnOk result (own.new.put ≡ own.old.put ++ number ∷ []) }
+        ensures told { OnOk result (take.new ≡ record take.old { own = own.new.put }) }
+        ensures back { IfErr result (λ back. back ≡ number) }
+        ensures none { OnErr result ((own.new.put ≡ own.old.put) × (take.new ≡ take.old)) }
+        ensures no_room { OnErr result (own.new.needs_block ≡ true) }
+    {
+        self.put(rt, own, number)?;
+        self.tell(take, own);
+        Ok(())
+    }
+
+    /// Takes the oldest number. After `None` what was taken has all that was put through the passes that were handed in, and the
+    /// receiver's own numbers that the pass was told of. Of the others no clause says anything, since they may put at once. The
+    /// pass counts each call (`asked`), whatever comes of it: no clause says that the call looked into the mailbox.
     #[tactic(auto, using(crate::proofs::Moves::all_taken))]
     pub fn take<R: Wait>(&self, rt: &R, pass: &mut TakePass) -> Option<u32>
         requires { pass.old.at ≡ self.now }
-        ensures same { (pass.new.at ≡ pass.old.at) × (pass.new.splits ≡ pass.old.splits) × (pass.new.joined ≡ pass.old.joined) }
+        ensures same { (pass.new.at ≡ pass.old.at) × (pass.new.splits ≡ pass.old.splits) × (pass.new.joined ≡ pass.old.joined)
+            × (pass.new.own ≡ pass.old.own) }
         ensures asked { pass.new.asked ≡ pass.old.asked + 1 }
         ensures empty { IfNone result (HasAll pass.old.joined pass.old.taken) }
+        ensures own { IfNone result (HasAll (pass.old.own ∷ []) pass.old.taken) }
         ensures taken { MatchOption result (pass.new.taken ≡ pass.old.taken) (λ number. pass.new.taken ≡ pass.old.taken ++ number ∷ []) }
     {
         self.pop(rt, &mut pass.seat)
@@ -144,7 +167,8 @@ impl Mailbox {
     /// Hands in a put pass, through which nothing more is put. It takes no memory.
     pub fn join(&self, pass: &mut TakePass, put: PutPass)
         requires { (pass.old.at ≡ self.now) × (put.at ≡ self.now) }
-        ensures same { (pass.new.at ≡ pass.old.at) × (pass.new.taken ≡ pass.old.taken) × (pass.new.asked ≡ pass.old.asked) }
+        ensures same { (pass.new.at ≡ pass.old.at) × (pass.new.taken ≡ pass.old.taken) × (pass.new.asked ≡ pass.old.asked)
+            × (pass.new.own ≡ pass.old.own) }
         ensures joined { (pass.new.splits ≡ pass.old.splits ++ put.splits ∷ []) × (pass.new.joined ≡ pass.old.joined ++ put.put ∷ []) }
     {
         self.take_in(&mut pass.seat, put);
@@ -169,6 +193,16 @@ impl Mailbox {
         self.drain(rt, alloc, &mut seat)
     }
 
+    // The take pass learns what was put through a put pass.
+    fn tell(&self, take: &mut TakePass, own: &mut PutPass)
+        requires { (take.old.at ≡ self.now) × (own.old.at ≡ self.now) }
+        ensures same { (own.new.at ≡ own.old.at) × (own.new.splits ≡ own.old.splits) × (own.new.put ≡ own.old.put) }
+        ensures told { take.new ≡ record take.old { own = own.old.put } }
+    {
+        let receipt = self.line.another::<Receipts>(&mut own.seat);
+        self.line.absorb::<Tells>(&mut take.seat, receipt);
+    }
+
     // One step of a put pass: the number goes to the back of the queue.
     fn push<R: Wait>(&self, rt: &R, seat: &mut LinePass, number: u32) -> Result<(), u32>
         requires { (seat.old.web ≡ self.now) × IsPutSeat seat.old }
@@ -188,6 +222,7 @@ impl Mailbox {
         ensures seat { (seat.new.web ≡ self.now) × IsFree seat.new }
         ensures taken { MatchOption result (known_to seat.new ≡ asked_once (known_to seat.old)) (λ number. known_to seat.new ≡ after_take (asked_once (known_to seat.old)) number) }
         ensures empty { IfNone result (HasAll (known_to seat.old).joined ((known_to seat.old).taken ++ [])) }
+        ensures own { IfNone result (HasAll ((known_to seat.old).own ∷ []) ((known_to seat.old).taken ++ [])) }
         ensures all { IfNone result (AreWhole (known_to seat.old).splits → IsInterleaving (known_to seat.old).joined ((known_to seat.old).taken ++ [])) }
     {
         let _ = self.line.another::<Asks>(seat);
@@ -209,7 +244,7 @@ impl Mailbox {
         requires same { All (λ p. p.at ≡ self.now) puts.items }
         requires taker { IsTakerAsKnown self.now seat.old }
         ensures { let known = known_to seat.old in
-            IsTaker self.now (taker (known.splits ++ map (λ p. p.splits) puts.items) known.taken (known.joined ++ map (λ p. p.put) puts.items) known.asked) seat.new }
+            IsTaker self.now (taker (known.splits ++ map (λ p. p.splits) puts.items) known.taken (known.joined ++ map (λ p. p.put) puts.items) known.asked known.own) seat.new }
     {
         for put in puts {
             self.take_in(seat, put);

@@ -1,5 +1,5 @@
 //! What the passes of a mailbox know of its queue, and the rule that each call keeps.
-ghost use Rattle.std.specs.Prelude.{◌≡◌, ◌++◌, true};
+ghost use Rattle.std.specs.Prelude.{◌≡◌, ◌++◌, ◌∷◌, [], true};
 ghost use Rattle.mailbox.specs.Interleaving.{HasAll, IsInterleaving};
 ghost use Rattle.mailbox.specs.Shares.{AreWhole};
 
@@ -14,6 +14,7 @@ pub struct View {
     pub taken: LinkedList<u32>,
     pub joined: LinkedList<LinkedList<u32>>,
     pub asked: u64,
+    pub own: LinkedList<u32>,
 }
 
 pub struct InOrder;
@@ -75,10 +76,11 @@ impl Split<View> for Asks {
     ghost right = { λ v. spent };
 }
 
-// What was taken and then what is left has all that the passes which were taken in had put. Once these are the whole right
-// to put, it has nothing else.
+// What was taken and then what is left has all that the passes which were taken in had put, and the own numbers that the take
+// pass was told of. Once the passes taken in are the whole right to put, it has nothing else.
 impl Lesson<u32, View> for Takes {
-    ghost fact = { λ v items. v.takes ≡ true → HasAll v.joined (v.taken ++ items) × (AreWhole v.splits → IsInterleaving v.joined (v.taken ++ items)) };
+    ghost fact = { λ v items. v.takes ≡ true → HasAll v.joined (v.taken ++ items)
+        × HasAll (v.own ∷ []) (v.taken ++ items) × (AreWhole v.splits → IsInterleaving v.joined (v.taken ++ items)) };
 }
 
 // The take pass takes in a put pass.
@@ -88,6 +90,28 @@ impl Join<View> for Joins {
     ghost use Rattle.mailbox.specs.Ordered.{joined_with, spent};
 
     ghost both = { joined_with };
+
+    ghost spent = { spent };
+}
+
+// Beside a put pass comes a receipt, which tells what was put through it.
+pub struct Receipts;
+
+impl Split<View> for Receipts {
+    ghost use Rattle.mailbox.specs.Ordered.{receipt_of};
+
+    ghost left = { λ v. v };
+
+    ghost right = { receipt_of };
+}
+
+// The take pass takes in a receipt.
+pub struct Tells;
+
+impl Join<View> for Tells {
+    ghost use Rattle.mailbox.specs.Ordered.{told_by, spent};
+
+    ghost both = { told_by };
 
     ghost spent = { spent };
 }

@@ -258,3 +258,19 @@ fn many_threads(rt: HostRuntime) -> Result<(), Fail> {
     }
     Ok(())
 }
+
+#[test]
+fn own_numbers(rt: HostRuntime) -> Result<(), Fail> {
+    let (mailbox, mut first, mut take) = Mailbox::new(rt.alloc())?;
+    let mut own = mailbox.split(&mut first);
+    assert_eq!(rt; mailbox.put_own(&rt, &mut take, &mut own, 5), Ok(()));
+    assert_eq!(rt; mailbox.put(&rt, &mut first, 3), Ok(()));
+    assert_eq!(rt; mailbox.put_own(&rt, &mut take, &mut own, 7), Ok(()));
+    assert_eq!(rt; mailbox.take(&rt, &mut take), Some(5));
+    assert_eq!(rt; mailbox.take(&rt, &mut take), Some(3));
+    assert_eq!(rt; mailbox.take(&rt, &mut take), Some(7));
+    assert_eq!(rt; mailbox.take(&rt, &mut take), None);
+    let rest = close_two(&rt, rt.alloc(), mailbox, (first, own), take)?;
+    assert!(rt; rest.is_empty());
+    Ok(())
+}

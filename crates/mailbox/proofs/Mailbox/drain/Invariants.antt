@@ -6,4 +6,4 @@ use Rattle.mailbox.proofs.Mailbox.drain.Given as goal
 abbrev pub invariant-loop : goal.invariant-loop
 invariant-loop g l =
     let known = known_to l.initial.seat in
-    IsTaker l.self (taker known.splits (known.taken ++ l.rest.items) known.joined (known_to l.seat).asked) l.seat
+    IsTaker l.self (taker known.splits (known.taken ++ l.rest.items) known.joined (known_to l.seat).asked (known_to l.seat).own) l.seat
