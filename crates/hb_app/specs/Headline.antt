@@ -7,7 +7,7 @@ use Rattle.hb_rules.specs.History.{IsLegal}
 use Rattle.hb_rules.specs.Ledger.{AreComparable, BatchesAreEnough, AreUnaltered}
 use Rattle.hb_rules.specs.Report.{IsQuiet, StaysWithinPlan, FollowsPoolRule, status_of}
 use Rattle.hb_rules.specs.Strings.{NoCollision}
-use Rattle.quiet_lanes.specs.Calm.{IsCalm}
+use Rattle.lane_progress.specs.Calm.{IsCalm}
 use Rattle.quiet_world.specs.Completed.{HasEachCompleted}
 use Rattle.quiet_world.specs.Epochs.{EpochsEnd}
 use Rattle.quiet_world.specs.Spared.{IsSpared, IsSparedStatus}

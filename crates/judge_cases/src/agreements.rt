@@ -4,10 +4,10 @@ ghost use Rattle.std.specs.Prelude.{◌≡◌, ◌<◌, ◌≤◌, true, IfOk};
 ghost use Rattle.hb_wire.specs.Votes.{epoch_of};
 ghost use Rattle.hb_rules.specs.History.{HasSpelling};
 ghost use Rattle.hb_rules.specs.Terms.{AreHeardSpelled};
-ghost use Rattle.agreement_judge.specs.Checked.{is_share_checked, AreSharesChecked};
+ghost use Rattle.aba_judge.specs.Checked.{is_share_checked, AreSharesChecked};
 
 use crate::votes::vote_of;
-use agreement_judge::{Place, may_agree};
+use aba_judge::{Place, may_agree};
 use coin_deal::{Deal, deal, leaf_of};
 use hb_base::{Config, NodeSet};
 use hb_rules::Heard;

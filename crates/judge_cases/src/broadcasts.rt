@@ -4,10 +4,10 @@ ghost use Rattle.std.specs.Prelude.{◌≡◌, ◌<◌, ◌≤◌, true, length,
 ghost use Rattle.hb_base.specs.Limits.{most_nodes};
 ghost use Rattle.hb_rules.specs.History.{HasSpelling};
 ghost use Rattle.hb_rules.specs.Terms.{AreHeardSpelled};
-ghost use Rattle.broadcast_judge.specs.Checked.{is_checked, AreChecked};
+ghost use Rattle.rbc_judge.specs.Checked.{is_checked, AreChecked};
 
 use crate::votes::vote_of;
-use broadcast_judge::{Known, Lane, may_broadcast};
+use rbc_judge::{Known, Lane, may_broadcast};
 use hb_base::{Bytes, Config, NodeSet};
 use hb_rules::Heard;
 use hb_wire::Vote;

@@ -24,8 +24,8 @@ use Rattle.hb_rules.proofs.Addressed.{AreAddressed}
 use Rattle.hb_rules.proofs.Among.{any_stands}
 use Rattle.hb_rules.proofs.Cast.{IsCastBy, IsHeard, cast_from, cast_stands, heard_from}
 use Rattle.hb_rules.proofs.Lists.{list_any-from, source_of, Contains-filter_map, Contains-cases, Contains-first, Contains-later}
-use Rattle.broadcast_judge.specs.Checked.{is_checked, AreChecked}
-use Rattle.agreement_judge.specs.Checked.{is_share_checked, AreSharesChecked}
+use Rattle.rbc_judge.specs.Checked.{is_checked, AreChecked}
+use Rattle.aba_judge.specs.Checked.{is_share_checked, AreSharesChecked}
 use Rattle.post_judge.specs.declared.place.Place.{Place}
 use Rattle.post_judge.specs.declared.told.Told.{Told}
 use Rattle.post_judge.specs.declared.told.Bucket.{Bucket}

@@ -6,12 +6,12 @@ ghost use Rattle.hb_rules.specs.Parts.{is_broadcast, part_of};
 ghost use Rattle.hb_rules.specs.Rules.{MayCast};
 ghost use Rattle.hb_rules.specs.Terms.{AreHeardSpelled};
 ghost use Rattle.hb_rules.specs.Apart.{IsHeardApart};
-ghost use Rattle.broadcast_judge.specs.Checked.{AreChecked};
-ghost use Rattle.agreement_judge.specs.Checked.{AreSharesChecked};
+ghost use Rattle.rbc_judge.specs.Checked.{AreChecked};
+ghost use Rattle.aba_judge.specs.Checked.{AreSharesChecked};
 ghost use Rattle.post_judge.specs.Places.{casts};
 
-use agreement_judge::{Place as Agreement, may_agree};
-use broadcast_judge::{Known, Lane, may_broadcast};
+use aba_judge::{Place as Agreement, may_agree};
+use rbc_judge::{Known, Lane, may_broadcast};
 use coin_deal::Deal;
 use desk_judge::may_at_desk;
 use hb_base::Config;

@@ -3,7 +3,7 @@ ghost use Rattle.std.specs.Prelude.{◌≡◌, [], IfOk};
 
 use crate::allowing::judged;
 use crate::table::{Table, vote_of};
-use broadcast_judge::Known;
+use rbc_judge::Known;
 use hb_base::Config;
 use hb_wire::Post;
 use history_verdict::Judge;

@@ -1,8 +1,8 @@
 -- What calm runs come to.
 use Rattle.hb_rules.specs.declared.report.Report.{Report}
-use Rattle.quiet_lanes.specs.Calm.{IsCalm}
-use Rattle.quiet_broadcast.proofs.Theorems.{delivers_to_all, senders_are_delivered}
-use Rattle.quiet_agreement.proofs.Theorems.{all_end}
+use Rattle.lane_progress.specs.Calm.{IsCalm}
+use Rattle.rbc_progress.proofs.Theorems.{delivers_to_all, senders_are_delivered}
+use Rattle.aba_progress.proofs.Theorems.{all_end}
 use Rattle.quiet_world.proofs.Epochs.{epochs_end}
 use Rattle.quiet_check.specs.Finished.{IsFinished}
 

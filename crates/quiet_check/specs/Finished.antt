@@ -1,7 +1,7 @@
 -- What calm runs come to.
 use Rattle.hb_rules.specs.declared.report.Report.{Report}
-use Rattle.quiet_broadcast.specs.Delivered.{DeliversToAll, SendersAreDelivered}
-use Rattle.quiet_agreement.specs.RoundsEnd.{RoundsEnd}
+use Rattle.rbc_progress.specs.Delivered.{DeliversToAll, SendersAreDelivered}
+use Rattle.aba_progress.specs.RoundsEnd.{RoundsEnd}
 use Rattle.quiet_world.specs.Epochs.{EpochsEnd}
 
 -- All running nodes deliver what a correct node delivers, and what the desk of a running node proposes. Agreements that all of

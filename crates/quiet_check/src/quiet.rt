@@ -5,7 +5,7 @@ ghost use Rattle.hb_rules.specs.Owing.{slots_of};
 ghost use Rattle.hb_rules.specs.Report.{submitted_at, cast_by, IsSettled, IsQuiet};
 ghost use Rattle.hb_rules.specs.Slots.{IsIdle};
 ghost use Rattle.quiet_check.specs.Receipts.{AreReceived, is_sent};
-ghost use Rattle.quiet_lanes.specs.Calm.{IsLossless};
+ghost use Rattle.lane_progress.specs.Calm.{IsLossless};
 ghost use Rattle.quiet_check.specs.Ends.{IsEndQuiet};
 ghost use Rattle.quiet_check.specs.Finished.{IsFinished};
 

@@ -15,9 +15,9 @@ use Rattle.hb_rules.proofs.DeskVotes.{decision-is}
 use Rattle.hb_rules.proofs.Lists.{list_any-from}
 use Rattle.hb_rules.proofs.Reports.{running_correct}
 use Rattle.aba_world.proofs.Votes.{found_vote}
-use Rattle.quiet_lanes.specs.Calm.{IsCalm}
-use Rattle.quiet_agreement.specs.RoundsEnd.{EachHas}
-use Rattle.quiet_broadcast.proofs.Theorems.{senders_are_delivered}
+use Rattle.lane_progress.specs.Calm.{IsCalm}
+use Rattle.aba_progress.specs.RoundsEnd.{EachHas}
+use Rattle.rbc_progress.proofs.Theorems.{senders_are_delivered}
 use Rattle.quiet_world.specs.Epochs.{HasSpentSome, EpochsEnd}
 use Rattle.quiet_world.proofs.Closings.{closed_now}
 use Rattle.quiet_world.proofs.Knowing.{delivery-marked, knows}

@@ -26,12 +26,12 @@ use Rattle.hb_rules.proofs.Passing.{IsSettledAt, settled_parts, settled_idle}
 use Rattle.hb_rules.proofs.Reports.{IsAtWork, works_end, running_works}
 use Rattle.hb_rules.proofs.Rows.{idle-epoch}
 use Rattle.aba_world.proofs.Votes.{no_more-is, found_vote}
-use Rattle.quiet_lanes.specs.Calm.{IsCalm}
-use Rattle.quiet_lanes.specs.Lanes.{heard_at}
-use Rattle.quiet_lanes.proofs.Hearings.{cast_heard}
-use Rattle.quiet_lanes.proofs.Lanes.{lane_quiet, owed_at_end}
-use Rattle.quiet_agreement.proofs.Running.{QuietAgreement}
-use Rattle.quiet_agreement.proofs.Filled.{filled}
+use Rattle.lane_progress.specs.Calm.{IsCalm}
+use Rattle.lane_progress.specs.Lanes.{heard_at}
+use Rattle.lane_progress.proofs.Hearings.{cast_heard}
+use Rattle.lane_progress.proofs.Lanes.{lane_quiet, owed_at_end}
+use Rattle.aba_progress.proofs.Running.{QuietAgreement}
+use Rattle.aba_progress.proofs.Filled.{filled}
 
 -- ---- ends of running nodes
 

@@ -28,8 +28,8 @@ use Rattle.hb_rules.proofs.Counts.{count_nodes-mono, count_nodes-wider, count_no
 use Rattle.hb_rules.proofs.Lists.{list_any-from, Contains-first, Contains-later}
 use Rattle.hb_rules.proofs.Reports.{running_correct, running_works}
 use Rattle.acs_world.proofs.Exact.{all_pass}
-use Rattle.quiet_lanes.specs.Calm.{IsCalm}
-use Rattle.quiet_agreement.proofs.Marked.{any_pick-is}
+use Rattle.lane_progress.specs.Calm.{IsCalm}
+use Rattle.aba_progress.proofs.Marked.{any_pick-is}
 use Rattle.quiet_world.specs.Epochs.{HasEachClosed, HasSpentSome}
 use Rattle.quiet_world.specs.Spared.{IsOfLiar, IsSpared, IsSparedStatus}
 use Rattle.quiet_world.proofs.Actors.{in_range, end_correct, correct_runs}

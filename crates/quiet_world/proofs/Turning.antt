@@ -17,10 +17,10 @@ use Rattle.hb_rules.proofs.Lists.{list_any-from}
 use Rattle.hb_rules.proofs.Reports.{IsAtWork, running_correct}
 use Rattle.aba_world.proofs.Theorems.{decisions_agree, decisions_begun, beginnings_backed}
 use Rattle.acs_world.proofs.Backed.{was_enough}
-use Rattle.quiet_lanes.specs.Calm.{IsCalm}
-use Rattle.quiet_agreement.specs.RoundsEnd.{EachHas}
-use Rattle.quiet_agreement.proofs.Theorems.{all_end}
-use Rattle.quiet_broadcast.proofs.Theorems.{delivers_to_all}
+use Rattle.lane_progress.specs.Calm.{IsCalm}
+use Rattle.aba_progress.specs.RoundsEnd.{EachHas}
+use Rattle.aba_progress.proofs.Theorems.{all_end}
+use Rattle.rbc_progress.proofs.Theorems.{delivers_to_all}
 use Rattle.quiet_world.specs.Epochs.{HasSpentSome}
 use Rattle.quiet_world.proofs.Knowing.{decision_cast, delivery_cast, delivery-marked, known_cast, knows_decision}
 use Rattle.quiet_world.proofs.Rests.{heard_at_desk, desk_of, wants_no_more, begun_with_one}

@@ -4,7 +4,7 @@ use Rattle.std.specs.List.{list_any}
 use Rattle.hb_rules.specs.declared.report.Report.{Report}
 use Rattle.hb_rules.specs.Claims.{is_any_closing}
 use Rattle.hb_rules.specs.Report.{is_running, cast_by}
-use Rattle.quiet_agreement.specs.RoundsEnd.{HasSpent}
+use Rattle.aba_progress.specs.RoundsEnd.{HasSpent}
 
 -- the desk of each running node has closed each epoch of the run
 abbrev pub HasEachClosed : Report → Type 0

@@ -6,7 +6,7 @@ ghost use Rattle.hb_rules.specs.declared.report.Report.{Report};
 ghost use Rattle.hb_rules.specs.History.{IsLegal};
 ghost use Rattle.hb_rules.specs.Report.{IsQuiet, StaysWithinPlan, status_of};
 ghost use Rattle.hb_rules.specs.Strings.{NoCollision};
-ghost use Rattle.quiet_lanes.specs.Calm.{IsCalm};
+ghost use Rattle.lane_progress.specs.Calm.{IsCalm};
 ghost use Rattle.quiet_world.specs.Completed.{HasEachCompleted};
 ghost use Rattle.quiet_world.specs.Epochs.{EpochsEnd};
 ghost use Rattle.quiet_world.specs.Spared.{IsSpared, IsSparedStatus};

@@ -2,7 +2,7 @@ use Rattle.std.proofs.Common.{◌≡◌, true, [], ◌∷◌}
 use Rattle.std.proofs.lemmas.List.Elements.{All-push}
 use Rattle.hb_rules.specs.History.{HasSpelling}
 use Rattle.hb_rules.proofs.Lists.{AllByRecursion-append}
-use Rattle.agreement_judge.specs.Checked.{is_share_checked}
+use Rattle.aba_judge.specs.Checked.{is_share_checked}
 use Rattle.judge_cases.proofs.agreements.heard_of.Goals as goal
 
 pub loop-word-preserved : goal.loop-word-preserved

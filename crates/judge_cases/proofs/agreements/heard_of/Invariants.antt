@@ -1,5 +1,5 @@
 use Rattle.hb_rules.specs.Terms.{AreHeardSpelled}
-use Rattle.agreement_judge.specs.Checked.{AreSharesChecked}
+use Rattle.aba_judge.specs.Checked.{AreSharesChecked}
 use Rattle.judge_cases.proofs.agreements.heard_of.Given as goal
 
 -- what is heard so far is spelled, and its shares are checked

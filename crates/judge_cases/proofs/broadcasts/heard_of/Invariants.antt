@@ -1,5 +1,5 @@
 use Rattle.hb_rules.specs.Terms.{AreHeardSpelled}
-use Rattle.broadcast_judge.specs.Checked.{AreChecked}
+use Rattle.rbc_judge.specs.Checked.{AreChecked}
 use Rattle.judge_cases.proofs.broadcasts.heard_of.Given as goal
 
 -- what is heard so far is spelled, and the branches of its Echoes are checked

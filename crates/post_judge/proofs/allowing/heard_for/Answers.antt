@@ -1,7 +1,7 @@
 use Rattle.std.proofs.Common.{sym, ap, ◌∙◌, subst, List}
 use Rattle.hb_rules.specs.Terms.{AreHeardSpelled}
-use Rattle.broadcast_judge.specs.Checked.{AreChecked}
-use Rattle.agreement_judge.specs.Checked.{AreSharesChecked}
+use Rattle.rbc_judge.specs.Checked.{AreChecked}
+use Rattle.aba_judge.specs.Checked.{AreSharesChecked}
 use Rattle.post_judge.specs.declared.place.Place.{Place}
 use Rattle.post_judge.specs.Places.{looked_at}
 use Rattle.post_judge.specs.Tables.{told_from}
