@@ -6,8 +6,7 @@ ghost use Rattle.hb_rules.specs.Hearing.{heard_by};
 ghost use Rattle.hb_rules.specs.Marks.{makes, has_bit, single, support};
 ghost use Rattle.aba_judge.specs.Names.{claim_of};
 
-use claim_count::{Claim, count_claims};
-use hb_rules::Heard;
+use hb_rules::{Claim, Heard, count_claims};
 use hb_wire::{Vals, Vote};
 
 // What a node can claim in a round: that it supports a bit, that it has accepted it, or any bit, that it is left with this bit alone,

@@ -27,6 +27,7 @@ pub mod Firsts
 pub mod PoolRule
 pub mod SameRules
 pub mod Turns
+pub mod ClaimCounts
 pub mod Received
 pub mod Bytes
 pub mod Reports

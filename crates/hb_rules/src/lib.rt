@@ -5,6 +5,7 @@
 pub mod actor;
 pub mod agreement_slot;
 pub mod book;
+pub mod claims;
 pub mod desk;
 pub mod due;
 pub mod hearing;
@@ -20,6 +21,7 @@ pub mod voters;
 pub use actor::{Actor, ActorFault};
 pub use agreement_slot::AgreementSlot;
 pub use book::{Book, BookFault};
+pub use claims::{Claim, count_claims};
 pub use desk::{has_no_more, has_proposal, is_closed, is_open};
 pub use due::Due;
 pub use hearing::{Heard, hear};

@@ -7,12 +7,12 @@ ghost use Rattle.hb_rules.specs.Terms.{AreHeardSpelled};
 ghost use Rattle.rbc_judge.specs.Checked.{is_checked, AreChecked};
 
 use crate::votes::vote_of;
-use rbc_judge::{Known, Lane, may_broadcast};
 use hb_base::{Bytes, Config, NodeSet};
 use hb_rules::Heard;
 use hb_wire::Vote;
 use merkle_branch::is_branch;
 use rbc_core::tree_over;
+use rbc_judge::{Known, Lane, may_broadcast};
 use std::alloc::Global;
 use std::test::Fail;
 

@@ -19,10 +19,10 @@ use crate::casting::{Caster, casts, may_cast};
 use crate::gathering::told_from;
 use crate::placing::{looked_at, own_place};
 use crate::table::Table;
-use rbc_judge::Known;
 use hb_rules::Heard;
 use hb_wire::{Post, Vote, equality_laws};
 use history_verdict::verdict_laws;
+use rbc_judge::Known;
 use std::alloc::AllocError;
 
 // Whether the run has actors of this number that cast votes of this kind, and the epoch of the vote.

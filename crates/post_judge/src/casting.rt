@@ -11,12 +11,12 @@ ghost use Rattle.aba_judge.specs.Checked.{AreSharesChecked};
 ghost use Rattle.post_judge.specs.Places.{casts};
 
 use aba_judge::{Place as Agreement, may_agree};
-use rbc_judge::{Known, Lane, may_broadcast};
 use coin_deal::Deal;
 use desk_judge::may_at_desk;
 use hb_base::Config;
 use hb_rules::Heard;
 use hb_wire::Vote;
+use rbc_judge::{Known, Lane, may_broadcast};
 use std::alloc::{AllocError, Global};
 
 // An actor of a node, in a run with this config.

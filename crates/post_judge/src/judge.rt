@@ -3,10 +3,10 @@ ghost use Rattle.std.specs.Prelude.{◌≡◌, [], IfOk};
 
 use crate::allowing::judged;
 use crate::table::{Table, vote_of};
-use rbc_judge::Known;
 use hb_base::Config;
 use hb_wire::Post;
 use history_verdict::Judge;
+use rbc_judge::Known;
 use std::alloc::{AllocError, Global};
 use std::marker::Model;
 

@@ -8,8 +8,7 @@ ghost use Rattle.hb_rules.specs.Hearing.{heard_by};
 ghost use Rattle.rbc_judge.specs.Checked.{AreChecked};
 ghost use Rattle.rbc_judge.specs.Shown.{shows};
 
-use claim_count::{Claim, count_claims};
-use hb_rules::Heard;
+use hb_rules::{Claim, Heard, count_claims};
 use hb_wire::Vote;
 
 // That a node is ready for a root.

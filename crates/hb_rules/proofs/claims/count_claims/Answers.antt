@@ -1,6 +1,6 @@
 use Rattle.std.proofs.Common.{◌∙◌, arith}
-use Rattle.claim_count.proofs.Counted.{counted_all, counted_whole}
-use Rattle.claim_count.proofs.count.count_claims.Goals as goal
+use Rattle.hb_rules.proofs.ClaimCounts.{counted_all, counted_whole}
+use Rattle.hb_rules.proofs.claims.count_claims.Goals as goal
 
 pub returns : goal.returns
 returns g c =

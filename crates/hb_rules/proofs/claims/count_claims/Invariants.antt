@@ -1,6 +1,6 @@
 use Rattle.std.proofs.Common.{take}
-use Rattle.claim_count.proofs.Counted.{AreCounted}
-use Rattle.claim_count.proofs.count.count_claims.Given as goal
+use Rattle.hb_rules.proofs.ClaimCounts.{AreCounted}
+use Rattle.hb_rules.proofs.claims.count_claims.Given as goal
 
 -- the nodes of which the claim was heard before this hearing
 abbrev pub invariant-loop-said : goal.invariant-loop-said

@@ -1,11 +1,12 @@
-//! The count, over any claim.
+//! From how many nodes a claim was heard.
 ghost use Rattle.std.specs.Prelude.{◌≡◌, ℕ, ◌≤◌, Bool};
 ghost use Rattle.hb_base.specs.Counting.{count_nodes};
 ghost use Rattle.hb_base.specs.Limits.{most_nodes};
 ghost use Rattle.hb_wire.specs.declared.vote.Vote.{Vote};
 ghost use Rattle.hb_rules.specs.Hearing.{heard_by};
 
-use hb_rules::{Heard, Voters};
+use crate::hearing::Heard;
+use crate::voters::Voters;
 use hb_wire::Vote;
 
 /// Something that votes may claim, which may hang on the node that cast the vote.
