@@ -4,6 +4,7 @@ use Rattle.std.specs.List.{flat_map, range_with_len}
 use Rattle.std.proofs.lemmas.List.{append-nil}
 use Rattle.std.proofs.lemmas.Grind.{flat_map-append}
 use Rattle.hb_base.specs.Numbers.{Numbers}
+use Rattle.mailbox.specs.Passes.{TakePassView}
 use Rattle.actor_cell.specs.Boxes.{BoxesView}
 use Rattle.actor_cell.specs.Mail.{MailView, Delivery, Sent, sent_of, ArePut, IsSameTaker, AreSent}
 use Rattle.actor_cell.proofs.Places.{range_more}
@@ -16,7 +17,7 @@ pub AreSent-none : (c : Numbers) (mail : MailView) → AreSent c [] mail mail
 AreSent-none c mail = record { taker = record { boxes = refl; place = refl; take = refl }; put = refl }
 
 pub IsSameTaker-then : (old mid new : MailView) → IsSameTaker old mid → IsSameTaker mid new → IsSameTaker old new
-IsSameTaker-then old mid new one two = record { boxes = two.boxes ∙ one.boxes; place = two.place ∙ one.place; take = two.take ∙ one.take }
+IsSameTaker-then old mid new one two = record { boxes = two.boxes ∙ one.boxes; place = two.place ∙ one.place; take = two.take ∙ ap (λ (t : TakePassView). record t { own = new.passes.take.own }) one.take }
 
 pub AreSent-then : (c : Numbers) (ds es : List Delivery) (old mid new : MailView) → AreSent c ds old mid → AreSent c es mid new → AreSent c (ds ++ es) old new
 AreSent-then c ds es old mid new one two = record {

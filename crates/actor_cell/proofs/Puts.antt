@@ -1,11 +1,11 @@
 -- A row of put passes, of which one puts.
-use Rattle.std.proofs.Common.{◌≡◌, ℕ, ◌<◌, Bool, true, false, List, [], ◌∷◌, ◌++◌, length, map, sym, ap, ◌∙◌, subst, arith, get_or, length-append, All}
-use Rattle.std.proofs.lemmas.List.{map-set, get_or-map, get_or-set_same, length-map}
+use Rattle.std.proofs.Common.{◌≡◌, ◌≢◌, ℕ, ◌<◌, Bool, true, false, List, [], ◌∷◌, ◌++◌, length, map, sym, ap, ◌∙◌, subst, arith, get_or, length-append, All, Result, Ok, Err, OnOk, OnErr}
+use Rattle.std.proofs.lemmas.List.{map-set, get_or-map, get_or-set_same, get_or-set_other, length-map}
 use Rattle.std.proofs.Math.Seq.{map-set_same, get_or-append_seam}
 use Rattle.std.proofs.Math.ListN.{set}
 use Rattle.atomic_blocks.specs.Laid.{WebId}
 use Rattle.mailbox.specs.Passes.{PutPassView, TakePassView}
-use Rattle.actor_cell.specs.Passes.{with_put}
+use Rattle.actor_cell.specs.Passes.{PassesView, with_put, own_puts}
 
 -- what all passes have of one kind stays, where the one that puts keeps it
 pub same_after : {B : Type 0} (f : PutPassView → B) (puts : List PutPassView) (i : ℕ) (old new : PutPassView) → old ≡ get_or puts i old → f new ≡ f old
@@ -37,3 +37,49 @@ pub holds_among : (P : TakePassView → Type 0) (before after all : List TakePas
 holds_among P before after all take each is =
     subst P (ap (λ (takes : List TakePassView). get_or takes (length before) take) (sym is) ∙ get_or-append_seam before take after take)
     (each (length before) take (omega (arith, ap length is, length-append before (take ∷ after))))
+
+-- ---- the own mailbox
+
+-- what the take pass was told of, and what was put through the own pass
+pub told_own : {T E : Type 0} (r : Result T E) (take take' : TakePassView) (put put' : List ℕ) → OnOk r (take' ≡ record take { own = put' }) → OnErr r ((put' ≡ put) × (take' ≡ take))
+    → take.own ≡ put → take'.own ≡ put'
+told_own (Ok x) take take' put put' told none was = ap (λ (t : TakePassView). t.own) told
+told_own (Err x) take take' put put' told none was = ap (λ (t : TakePassView). t.own) none.1 ∙ was ∙ sym none.0
+
+-- nothing else of the take pass changes
+pub same_take : {T E : Type 0} (r : Result T E) (take take' : TakePassView) (put put' : List ℕ) → OnOk r (take' ≡ record take { own = put' }) → OnErr r ((put' ≡ put) × (take' ≡ take))
+    → take' ≡ record take { own = take'.own }
+same_take (Ok x) take take' put put' told none =
+    told ∙ ap (λ (own : List ℕ). record take { own = own }) (sym (ap (λ (t : TakePassView). t.own) told))
+same_take (Err x) take take' put put' told none =
+    none.1 ∙ ap (λ (own : List ℕ). record take { own = own }) (sym (ap (λ (t : TakePassView). t.own) none.1))
+
+-- what was put through the pass at a place, before and after
+pub put_before : (puts : List PutPassView) (i : ℕ) (old : PutPassView) → i < length puts → old ≡ get_or puts i old
+    → get_or (map (λ (p : PutPassView). p.put) puts) i [] ≡ old.put
+put_before puts i old within is = get_or-map (λ (p : PutPassView). p.put) puts i old [] within ∙ ap (λ (p : PutPassView). p.put) (sym is)
+
+pub put_here : (puts : List PutPassView) (i : ℕ) (new : PutPassView) → i < length puts → get_or (map (λ (p : PutPassView). p.put) (set puts i new)) i [] ≡ new.put
+put_here puts i new within =
+    ap (λ (lists : List (List ℕ)). get_or lists i []) (map-set (λ (p : PutPassView). p.put) puts i new)
+    ∙ get_or-set_same (map (λ (p : PutPassView). p.put) puts) i new.put [] (omega (arith, within, length-map puts (λ (p : PutPassView). p.put)))
+
+pub put_elsewhere : (puts : List PutPassView) (i j : ℕ) (new : PutPassView) → j ≢ i
+    → get_or (map (λ (p : PutPassView). p.put) (set puts i new)) j [] ≡ get_or (map (λ (p : PutPassView). p.put) puts) j []
+put_elsewhere puts i j new apart =
+    ap (λ (lists : List (List ℕ)). get_or lists j []) (map-set (λ (p : PutPassView). p.put) puts i new)
+    ∙ get_or-set_other (map (λ (p : PutPassView). p.put) puts) i j new.put [] apart
+
+-- the take pass is told of an own put
+pub own_after : {T E : Type 0} (r : Result T E) (passes : PassesView) (take : TakePassView) (i : ℕ) (old new : PutPassView) → i ≡ passes.place → i < length passes.puts
+    → old ≡ get_or passes.puts i old → passes.take.own ≡ own_puts passes → OnOk r (take ≡ record passes.take { own = new.put })
+    → OnErr r ((new.put ≡ old.put) × (take ≡ passes.take)) → take.own ≡ own_puts (record { place = passes.place; take = take; puts = set passes.puts i new })
+own_after r passes take i old new here within is was told none =
+    told_own r passes.take take old.put new.put told none
+    (was ∙ ap (λ (k : ℕ). get_or (map (λ (p : PutPassView). p.put) passes.puts) k []) (sym here) ∙ put_before passes.puts i old within is)
+    ∙ sym (put_here passes.puts i new within) ∙ ap (λ (k : ℕ). get_or (map (λ (p : PutPassView). p.put) (set passes.puts i new)) k []) here
+
+-- a put elsewhere is no own put
+pub own_apart : (passes : PassesView) (i : ℕ) (new : PutPassView) → (i ≡ passes.place → ⊥) → passes.take.own ≡ own_puts passes
+    → passes.take.own ≡ own_puts (record { place = passes.place; take = passes.take; puts = set passes.puts i new })
+own_apart passes i new apart was = was ∙ sym (put_elsewhere passes.puts i passes.place new (λ e. apart (sym e)))

@@ -1,5 +1,5 @@
 -- The turns of an actor.
-use Rattle.std.proofs.Common.{◌≡◌, ◌⊎◌, ℕ, ◌+◌, Bool, true, false, inl, inr, List, [], ◌∷◌, ◌++◌, length, Contains, Option, None, Some, refl, sym, ap, ◌∙◌, subst, arith, slice_get, length-append, if◌then◌else◌, MatchOption, IfSome}
+use Rattle.std.proofs.Common.{◌≡◌, ◌⊎◌, ℕ, ◌+◌, Bool, true, false, inl, inr, List, [], ◌∷◌, ◌++◌, length, Contains, Option, None, Some, refl, sym, ap, ◌∙◌, subst, arith, slice_get, get_or, length-append, if◌then◌else◌, MatchOption, IfSome}
 use Rattle.std.proofs.lemmas.List.{append-nil, append_assoc}
 use Rattle.std.proofs.lemmas.List.Elements.{Contains-push_cases}
 use Rattle.hb_base.specs.Numbers.{Numbers}
@@ -24,6 +24,7 @@ use Rattle.hb_rules.specs.Book.{SeatView}
 use Rattle.actor_cell.specs.declared.served.Served.{Served}
 use Rattle.actor_cell.specs.declared.served.Served.TheVariants as answers
 use Rattle.actor_cell.specs.Boxes.{BoxesView, place_of}
+use Rattle.actor_cell.specs.Passes.{PassesView, puts_of, own_puts}
 use Rattle.actor_cell.specs.Mail.{MailView, Sent, sent_of, ArePut, IsSameTaker, deliveries}
 use Rattle.actor_cell.specs.Held.{IsHeld, WasShown}
 use Rattle.actor_cell.specs.Turning.{IsSameSeat, IsShown, KeepsTerms, Starts, Begins, HasSent, Hears, HasReceived, IsHeard, Fares, Turning, TookOnly, HoldsBack, IsDelivered, Delivers, IsServed, ServesBack, ServesNew, TakesOne, TakesNone, Turned, arrival, arrival_found, by_lateness, arrives, is_late}
@@ -386,6 +387,23 @@ pub TookOnly-taker : (a b c : MailView) (xs : List ℕ) → TookOnly a b xs → 
     → (c.boxes ≡ a.boxes) × (c.passes.take.taken ≡ a.passes.take.taken ++ xs) × (c.passes.take.joined ≡ a.passes.take.joined)
 TookOnly-taker a b c xs one same = (same.boxes ∙ one.boxes, ap (λ t. t.taken) same.take ∙ one.taken, ap (λ t. t.joined) same.take ∙ one.joined)
 
+-- all that was put through the passes handed in was taken, and all own puts
+abbrev pub IsEmptied : PassesView → List ℕ → Type 0
+IsEmptied passes taken = HasAll passes.take.joined taken × HasAll (own_puts passes ∷ []) taken
+
+-- they had been put before
+pub emptied_before : (old new : MailView) (more : List ℕ) → TookOnly old new more → IsEmptied new.passes new.passes.take.taken
+    → IsEmptied old.passes (old.passes.take.taken ++ more)
+emptied_before old new more took emptied =
+    let own : own_puts new.passes ≡ own_puts old.passes =
+    ap (λ (puts : List (List ℕ)). get_or puts new.passes.place []) (ap (λ (s : Sent). s.puts) took.sent)
+    ∙ ap (λ (place : ℕ). get_or (puts_of old.passes) place []) took.place in (
+      subst (λ (ks : List ℕ). HasAll old.passes.take.joined ks) took.taken
+          (subst (λ (js : List (List ℕ)). HasAll js new.passes.take.taken) took.joined emptied.0),
+      subst (λ (ks : List ℕ). HasAll (own_puts old.passes ∷ []) ks) took.taken
+          (subst (λ (ks : List ℕ). HasAll (ks ∷ []) new.passes.take.taken) own emptied.1),
+    )
+
 pub none_in : (k : ℕ) → Contains [] k → ⊥
 none_in k stands = Contains-none [] k refl stands
 
@@ -468,10 +486,11 @@ TakesOne-new s moved k o m m1 q was took served =
     }
 
 -- the first of those held back was served
-pub TakesOne-back : (s : Script) (moved : List ℕ) (o m m1 q : Turning) → HoldsBack s moved o m → Took m m1 [] → HasAll m.mail.passes.take.joined m.mail.passes.take.taken
+pub TakesOne-back : (s : Script) (moved : List ℕ) (o m m1 q : Turning) → HoldsBack s moved o m → Took m m1 [] → IsEmptied m.mail.passes m.mail.passes.take.taken
     → ServesBack s answers.Did m1 q → TakesOne s o q
 TakesOne-back s moved o m m1 q was took empty done =
     let all = TookOnly-taker o.mail m1.mail q.mail (moved ++ []) (TookOnly-then o.mail m.mail m1.mail moved [] was.mail took.mail) done.3 in
+    let before = emptied_before o.mail m.mail moved was.mail empty in
     record {
       number = done.0;
       moved = moved;
@@ -479,8 +498,8 @@ TakesOne-back s moved o m m1 q was took empty done =
       source = inr (record {
         asked = omega (arith, was.asked, took.asked, ap (λ t. t.asked) done.3.take);
         taken = all.1 ∙ ap (λ (ks : List ℕ). o.mail.passes.take.taken ++ ks) (append-nil moved);
-        empty = subst (λ (ks : List ℕ). HasAll o.mail.passes.take.joined ks) was.mail.taken
-            (subst (λ (js : List (List ℕ)). HasAll js m.mail.passes.take.taken) was.mail.joined empty);
+        empty = before.0;
+        own = before.1;
         back = sym was.back ∙ sym took.back ∙ done.1;
       });
       fares = fares_of s done.0 moved [] o m m1 q was took done.2;
@@ -493,22 +512,23 @@ both_none [] ys is = (refl, is)
 both_none (x ∷ xs) ys is = absurd (omega (arith, ap (λ (zs : List ℕ). length zs) is))
 
 -- there was none
-pub TakesNone-of : (s : Script) (moved : List ℕ) (o m m1 q : Turning) → HoldsBack s moved o m → Took m m1 [] → HasAll m.mail.passes.take.joined m.mail.passes.take.taken
+pub TakesNone-of : (s : Script) (moved : List ℕ) (o m m1 q : Turning) → HoldsBack s moved o m → Took m m1 [] → IsEmptied m.mail.passes m.mail.passes.take.taken
     → ServesBack s answers.Idle m1 q → TakesNone o q
 TakesNone-of s moved o m m1 q was took empty done =
     let none = both_none o.back moved (sym was.back ∙ sym took.back ∙ done.0) in
     let player : q.player ≡ m.player = ap (λ (t : Turning). t.player) done.1 ∙ took.player in
     let all = TookOnly-then o.mail m.mail m1.mail moved [] was.mail took.mail in
+    let emptied : IsEmptied o.mail.passes o.mail.passes.take.taken =
+    subst (λ (ks : List ℕ). IsEmptied o.mail.passes ks) (ap (λ (ks : List ℕ). o.mail.passes.take.taken ++ ks) none.1 ∙ append-nil o.mail.passes.take.taken)
+    (emptied_before o.mail m.mail moved was.mail empty) in
     let took_all : TookOnly o.mail q.mail (moved ++ []) = subst (λ (t : Turning). TookOnly o.mail t.mail (moved ++ [])) (sym done.1) all in
     record {
       asked = omega (arith, was.asked, took.asked, ap (λ (t : Turning). t.mail.passes.take.asked) done.1);
       shown = subst (λ (p : PlayerView). IsShown o.player p) (sym player) was.shown;
       fate = ap (λ (p : PlayerView). p.fate) player ∙ was.fate;
       mail = subst (λ (ks : List ℕ). TookOnly o.mail q.mail ks) (append-nil moved ∙ none.1) took_all;
-      empty =
-          subst (λ (ks : List ℕ). HasAll o.mail.passes.take.joined ks)
-          (was.mail.taken ∙ ap (λ (ks : List ℕ). o.mail.passes.take.taken ++ ks) none.1 ∙ append-nil o.mail.passes.take.taken)
-          (subst (λ (js : List (List ℕ)). HasAll js m.mail.passes.take.taken) was.mail.joined empty);
+      empty = emptied.0;
+      own = emptied.1;
       before = none.0;
       after = ap (λ (t : Turning). t.back) done.1 ∙ done.0;
     }
@@ -572,7 +592,7 @@ looked_found s k (Some how) m looked = looked
 -- ---- the answers of a turn
 
 pub Turned-back : (s : Script) (r : Served) (moved : List ℕ) (o m m1 q : Turning) → m.player.fate ≡ Running → HoldsBack s moved o m → Took m m1 []
-    → HasAll m.mail.passes.take.joined m.mail.passes.take.taken → ServesBack s r m1 q → Turned s r o q
+    → IsEmptied m.mail.passes m.mail.passes.take.taken → ServesBack s r m1 q → Turned s r o q
 Turned-back s answers.Idle moved o m m1 q running was took empty done = (sym was.fate ∙ running, TakesNone-of s moved o m m1 q was took empty done)
 Turned-back s answers.Did moved o m m1 q running was took empty done = (sym was.fate ∙ running, TakesOne-back s moved o m m1 q was took empty done)
 Turned-back s answers.Ended moved o m m1 q running was took empty done = absurd done

@@ -98,11 +98,11 @@ abbrev pub ArePut : Numbers → List Delivery → Sent → Sent → Type 0
 ArePut c [] old new = new ≡ old
 ArePut c (d ∷ ds) old new = (mid : Sent) × (IsPut c d old mid ⊎ IsRefusedBy c d old mid) × ArePut c ds mid new
 
--- the same mailboxes, and what was taken is as before
+-- the same mailboxes, and what was taken is as before; the take pass may have been told of more own puts
 pub record IsSameTaker (old new : MailView) : Type 0 where
   pub boxes : new.boxes ≡ old.boxes
   pub place : new.passes.place ≡ old.passes.place
-  pub take : new.passes.take ≡ old.passes.take
+  pub take : new.passes.take ≡ record old.passes.take { own = new.passes.take.own }
 
 -- each of these was put or not put and its actor noted, and nothing was taken
 pub record AreSent (c : Numbers) (ds : List Delivery) (old new : MailView) : Type 0 where

@@ -32,10 +32,15 @@ needs_block_at place passes = slice_index_or (blocks_of passes) place false
 abbrev pub with_put : ℕ → ℕ → List (List ℕ) → List (List ℕ)
 with_put place number puts = slice_set puts place (slice_index_or puts place [] ++ number ∷ [])
 
--- the passes are of these mailboxes
+-- what was put through the pass to the own mailbox, which is the one whose numbers the take pass takes
+abbrev pub own_puts : PassesView → List ℕ
+own_puts passes = slice_index_or (puts_of passes) passes.place []
+
+-- the passes are of these mailboxes, and the take pass was told of all own puts
 pub record ArePassesOf (boxes : BoxesView) (passes : PassesView) : Type 0 where
   pub take : slice_get boxes.names passes.place ≡ Some passes.take.at
   pub puts : names_of passes.puts ≡ boxes.names
+  pub own : passes.take.own ≡ own_puts passes
 
 -- ---- new passes
 
@@ -43,6 +48,7 @@ pub record IsNewTake (take : TakePassView) : Type 0 where
   pub taken : take.taken ≡ []
   pub splits : take.splits ≡ []
   pub joined : take.joined ≡ []
+  pub own : take.own ≡ []
 
 abbrev pub IsNewPut : PutPassView → Type 0
 IsNewPut put = put.put ≡ []

@@ -17,6 +17,7 @@ use Rattle.actor_cell.specs.declared.arrival.Arrival.{Arrival}
 use Rattle.actor_cell.specs.declared.arrival.Arrival.TheVariants as arrivals
 use Rattle.actor_cell.specs.declared.served.Served.{Served}
 use Rattle.actor_cell.specs.declared.served.Served.TheVariants as served
+use Rattle.actor_cell.specs.Passes.{own_puts}
 use Rattle.actor_cell.specs.Held.{HeldView, player_at}
 use Rattle.actor_cell.specs.Mail.{MailView, Sent, sent_of, ArePut, IsSameTaker, deliveries}
 
@@ -201,11 +202,12 @@ pub record IsFromMailbox (s : Script) (k : ℕ) (moved : List ℕ) (old new : Tu
   pub late : arrival s new.player k ≡ arrivals.Late → new.player.fate ≡ Memory
 
 -- the mailbox gave none: it was asked once more than gave the moved numbers, all that was put through the passes handed in was
--- taken, and the number was the first of those held back
+-- taken, and all that the actor had put for itself, and the number was the first of those held back
 pub record IsFromBack (k : ℕ) (moved : List ℕ) (old new : Turning) : Type 0 where
   pub asked : old.mail.passes.take.asked + length moved < new.mail.passes.take.asked
   pub taken : new.mail.passes.take.taken ≡ old.mail.passes.take.taken ++ moved
   pub empty : HasAll old.mail.passes.take.joined (old.mail.passes.take.taken ++ moved)
+  pub own : HasAll (own_puts old.mail.passes ∷ []) (old.mail.passes.take.taken ++ moved)
   pub back : old.back ++ moved ≡ k ∷ new.back
 
 -- One number was taken. Before it others may have been moved to those held back, since their posts are late.
@@ -218,14 +220,15 @@ pub record TakesOne (s : Script) (old new : Turning) : Type 0 where
   pub boxes : new.mail.boxes ≡ old.mail.boxes
   pub joined : new.mail.passes.take.joined ≡ old.mail.passes.take.joined
 
--- no number was taken: the mailbox was asked and gave none, all that was put through the passes handed in was taken, and nothing
--- is held back
+-- no number was taken: the mailbox was asked and gave none, all that was put through the passes handed in was taken, and all that
+-- the actor had put for itself, and nothing is held back
 pub record TakesNone (old new : Turning) : Type 0 where
   pub asked : old.mail.passes.take.asked < new.mail.passes.take.asked
   pub shown : IsShown old.player new.player
   pub fate : new.player.fate ≡ old.player.fate
   pub mail : TookOnly old.mail new.mail []
   pub empty : HasAll old.mail.passes.take.joined old.mail.passes.take.taken
+  pub own : HasAll (own_puts old.mail.passes ∷ []) old.mail.passes.take.taken
   pub before : old.back ≡ []
   pub after : new.back ≡ []
 

@@ -2,7 +2,7 @@
 ghost use Rattle.std.specs.Prelude.{◌≡◌, ℕ, ◌+◌, ◌<◌, ◌≤◌, ◌++◌, true, false, List, [], ◌∷◌, length, map, All, slice_get, slice_index_or, IfOk, IfErr, IfNone, OnOk, OnErr, MatchOption, Some};
 ghost use Rattle.mailbox.specs.Interleaving.{HasAll};
 ghost use Rattle.actor_cell.specs.Boxes.{owners, owners_below, owner_of, place_of, firsts_below, BoxesView};
-ghost use Rattle.actor_cell.specs.Passes.{ArePassesOf, AreDealt, with_put, puts_of, names_of, splits_of, needs_block_at};
+ghost use Rattle.actor_cell.specs.Passes.{ArePassesOf, AreDealt, with_put, puts_of, own_puts, names_of, splits_of, needs_block_at};
 ghost use Rattle.hb_base.specs.Numbers.{Numbers};
 ghost use Rattle.actor_cell.specs.Making.{IsMade, AreNew};
 
@@ -74,7 +74,8 @@ impl Boxes {
     }
 
     /// Puts a number into the mailbox of an actor, or of its node if it lies. The error hands the number back, and comes only at a
-    /// place that needs a new block, for which there was no memory, or after 2^62 puts into that mailbox.
+    /// place that needs a new block, for which there was no memory, or after 2^62 puts into that mailbox. The take pass is told of a
+    /// put into the own mailbox, and nothing else of it changes.
     pub fn put<R: Wait>(
         &self,
         rt: &R,
@@ -86,7 +87,8 @@ impl Boxes {
         requires known { (node < self.now.config.n) × (actor ≤ self.now.config.n) }
         requires passes { ArePassesOf self.now passes.old }
         ensures passes { ArePassesOf self.now passes.new }
-        ensures same { (passes.new.place ≡ passes.old.place) × (passes.new.take ≡ passes.old.take)
+        ensures same { (passes.new.place ≡ passes.old.place)
+            × (passes.new.take ≡ record passes.old.take { own = passes.new.take.own })
             × (splits_of passes.new ≡ splits_of passes.old) }
         ensures put { OnOk result (puts_of passes.new ≡ with_put (place_of self.now.config node actor) number (puts_of passes.old)) }
         ensures back { IfErr result (λ back. back ≡ number) }
@@ -95,12 +97,18 @@ impl Boxes {
     {
         let place = self.place_of(node, actor);
         let mailbox = &self.boxes[place];
+        let is_own = place == passes.place;
         let pass = &mut passes.puts[place];
-        mailbox.put(rt, pass, number)
+        if is_own {
+            mailbox.put_own(rt, &mut passes.take, pass, number)
+        } else {
+            mailbox.put(rt, pass, number)
+        }
     }
 
     /// Takes the oldest number from the mailbox whose take pass this is. After `None` what was taken has all that was put through
-    /// the passes that were handed in. The pass counts each call, and no clause says that the call looked into the mailbox.
+    /// the passes that were handed in, and all own puts. The pass counts each call, and no clause says that the call looked into
+    /// the mailbox.
     pub fn take<R: Wait>(&self, rt: &R, passes: &mut Passes) -> Option<u32>
         requires passes { ArePassesOf self.now passes.old }
         ensures passes { ArePassesOf self.now passes.new }
@@ -108,6 +116,7 @@ impl Boxes {
             × (passes.new.take.splits ≡ passes.old.take.splits) × (passes.new.take.joined ≡ passes.old.take.joined) }
         ensures asked { passes.new.take.asked ≡ passes.old.take.asked + 1 }
         ensures empty { IfNone result (HasAll passes.old.take.joined passes.old.take.taken) }
+        ensures own { IfNone result (HasAll (own_puts passes.old ∷ []) passes.old.take.taken) }
         ensures taken { MatchOption result (passes.new.take.taken ≡ passes.old.take.taken)
             (λ number. passes.new.take.taken ≡ passes.old.take.taken ++ number ∷ []) }
     {

@@ -6,6 +6,7 @@ ghost use Rattle.mailbox.specs.Interleaving.{HasAll};
 ghost use Rattle.hb_rules.specs.declared.report.Fate.TheVariants.{Running, Memory};
 ghost use Rattle.hb_rules.specs.Report.{IsReceived};
 ghost use Rattle.actor_cell.specs.Boxes.{place_of};
+ghost use Rattle.actor_cell.specs.Passes.{own_puts};
 ghost use Rattle.actor_cell.specs.Held.{player_at, IsHeld, WasShown};
 ghost use Rattle.actor_cell.specs.Mail.{ArePut, IsSameTaker, deliveries, sent_of};
 ghost use Rattle.actor_cell.specs.Turning.{turning, arrival, IsShown, TookOnly, IsServed, IsDelivered, Begins, Delivers, ServesBack, ServesNew, Turned};
@@ -182,6 +183,7 @@ impl<'b, B: NamedBook + Drop, A: Actor<B>, J: RunName> Held<'b, B, A, J> {
         ensures rest { self.new ≡ record self.old { mail = self.new.mail } }
         ensures asked { self.new.mail.passes.take.asked ≡ self.old.mail.passes.take.asked + 1 }
         ensures empty { IfNone result (HasAll self.old.mail.passes.take.joined self.old.mail.passes.take.taken) }
+        ensures own { IfNone result (HasAll (own_puts self.old.mail.passes ∷ []) self.old.mail.passes.take.taken) }
         ensures taken { MatchOption result (TookOnly self.old.mail self.new.mail []) (λ k. TookOnly self.old.mail self.new.mail (k ∷ [])) }
     {
         self.mail.take(rt)

@@ -5,7 +5,7 @@ ghost use Rattle.std.specs.List.{flat_map, range_with_len};
 ghost use Rattle.hb_base.specs.NodeSet.{is_in};
 ghost use Rattle.mailbox.specs.Interleaving.{HasAll};
 ghost use Rattle.actor_cell.specs.Marks.{is_marked};
-ghost use Rattle.actor_cell.specs.Passes.{ArePassesOf};
+ghost use Rattle.actor_cell.specs.Passes.{ArePassesOf, own_puts};
 ghost use Rattle.actor_cell.specs.Mail.{delivery, at_node, at_liar, at_correct, if_reached, by_shape, of_post, copies, sent_of, AreSent};
 
 use crate::boxes::Boxes;
@@ -67,6 +67,7 @@ impl<'b> Mail<'b> {
         ensures joined { self.new.passes.take.joined ≡ self.old.passes.take.joined }
         ensures asked { self.new.passes.take.asked ≡ self.old.passes.take.asked + 1 }
         ensures empty { IfNone result (HasAll self.old.passes.take.joined self.old.passes.take.taken) }
+        ensures own { IfNone result (HasAll (own_puts self.old.passes ∷ []) self.old.passes.take.taken) }
         ensures taken { MatchOption result (self.new.passes.take.taken ≡ self.old.passes.take.taken)
             (λ number. self.new.passes.take.taken ≡ self.old.passes.take.taken ++ number ∷ []) }
     {

@@ -2,7 +2,6 @@
 use Rattle.std.proofs.Common.{◌≡◌, ℕ, ◌+◌, ◌-◌, ◌<◌, ◌≤◌, true, false, List, [], ◌∷◌, ◌++◌, length, inl, inr, Contains, Option, None, Some, refl, sym, ap, ◌∙◌, subst, arith, slice_get, length-append, IfSome, IfNone}
 use Rattle.std.proofs.lemmas.List.{append-nil, append_assoc}
 use Rattle.std.proofs.lemmas.List.Elements.{Contains-push_cases}
-use Rattle.mailbox.specs.Interleaving.{HasAll}
 use Rattle.hb_wire.specs.declared.post.Post.{Post}
 use Rattle.net_script.specs.declared.script.Script.{Script}
 use Rattle.hb_rules.specs.Ledger.{IsPrefix}
@@ -13,7 +12,7 @@ use Rattle.actor_cell.specs.declared.served.Served.{Served}
 use Rattle.actor_cell.specs.declared.served.Served.TheVariants as answers
 use Rattle.actor_cell.specs.Mail.{MailView, sent_of}
 use Rattle.actor_cell.specs.Turning.{arrives, is_late, TookOnly}
-use Rattle.actor_cell.proofs.Turnings.{TookOnly-then, TookOnly-taker, both_none, none_in}
+use Rattle.actor_cell.proofs.Turnings.{TookOnly-then, TookOnly-taker, IsEmptied, emptied_before, both_none, none_in}
 use Rattle.liar_cell.specs.HeldLiar.{LiarView}
 use Rattle.liar_cell.specs.LiarTurns.{arrival_at, is_late_found, IsLate, GoesOn, IsQuiet, TakesNothing, HasTold, IsThrownAway, IsHeard, Fares, HoldsBack, TakesOne, TakesNone, Turned, IsServed, ServesBack, ServesNew}
 use Rattle.liar_cell.proofs.Speaking.{longer, IsQuiet-refl, IsQuiet-then, TakesNothing-refl, TakesNothing-then, TakesNothing-of, PutsOwn-from}
@@ -180,17 +179,12 @@ TakesOne-new moved back k o m q mail was less took goes served =
       joined = all.2;
     }
 
-has_all : {B : Type 0} (back : List ℕ) (o m : LiarView B) → HoldsBack back o m → HasAll m.mail.passes.take.joined m.mail.passes.take.taken
-    → HasAll o.mail.passes.take.joined (o.mail.passes.take.taken ++ back)
-has_all back o m was empty =
-    subst (λ (ks : List ℕ). HasAll o.mail.passes.take.joined ks) was.mail.taken
-    (subst (λ (js : List (List ℕ)). HasAll js m.mail.passes.take.taken) was.mail.joined empty)
-
 -- the first of those held back was served
 pub TakesOne-back : {B : Type 0} (moved : ℕ → ℕ → B → B → Type 0) (back : List ℕ) (o m q : LiarView B) (mail : MailView) → HoldsBack back o m → length o.seat.seen ≤ length m.seat.seen
-    → Took m.mail mail [] → HasAll m.mail.passes.take.joined m.mail.passes.take.taken → GoesOn moved (with_mail m mail) q → ServesBack answers.Did (with_mail m mail) q → TakesOne o q
+    → Took m.mail mail [] → IsEmptied m.mail.passes m.mail.passes.take.taken → GoesOn moved (with_mail m mail) q → ServesBack answers.Did (with_mail m mail) q → TakesOne o q
 TakesOne-back moved back o m q mail was less took empty goes done =
     let all = TookOnly-taker o.mail mail q.mail (back ++ []) (TookOnly-then o.mail m.mail mail back [] was.mail took.mail) done.3 in
+    let before = emptied_before o.mail m.mail back was.mail empty in
     record {
       number = done.0;
       moved = back;
@@ -198,7 +192,8 @@ TakesOne-back moved back o m q mail was less took empty goes done =
       source = inr (record {
         asked = omega (arith, was.asked, took.asked, ap (λ t. t.asked) done.3.take);
         taken = all.1 ∙ ap (λ (ks : List ℕ). o.mail.passes.take.taken ++ ks) (append-nil back);
-        empty = has_all back o m was empty;
+        empty = before.0;
+        own = before.1;
         back = sym was.back ∙ done.1;
       });
       fares = fares_of done.0 back [] o m q mail was took less done.2;
@@ -207,17 +202,21 @@ TakesOne-back moved back o m q mail was less took empty goes done =
     }
 
 -- there was none
-pub TakesNone-of : {B : Type 0} (back : List ℕ) (o m q : LiarView B) (mail : MailView) → HoldsBack back o m → Took m.mail mail [] → HasAll m.mail.passes.take.joined m.mail.passes.take.taken
+pub TakesNone-of : {B : Type 0} (back : List ℕ) (o m q : LiarView B) (mail : MailView) → HoldsBack back o m → Took m.mail mail [] → IsEmptied m.mail.passes m.mail.passes.take.taken
     → ServesBack answers.Idle (with_mail m mail) q → TakesNone o q
 TakesNone-of {B} back o m q mail was took empty done =
     let none = both_none o.back back (sym was.back ∙ done.0) in
     let all : TookOnly o.mail mail (back ++ []) = TookOnly-then o.mail m.mail mail back [] was.mail took.mail in
+    let emptied : IsEmptied o.mail.passes o.mail.passes.take.taken =
+    subst (λ (ks : List ℕ). IsEmptied o.mail.passes ks) (ap (λ (ks : List ℕ). o.mail.passes.take.taken ++ ks) none.1 ∙ append-nil o.mail.passes.take.taken)
+    (emptied_before o.mail m.mail back was.mail empty) in
     let took_all : TookOnly o.mail q.mail (back ++ []) = subst (λ (v : LiarView B). TookOnly o.mail v.mail (back ++ [])) (sym done.1) all in
     record {
       asked = omega (arith, was.asked, took.asked, ap (λ (v : LiarView B). v.mail.passes.take.asked) done.1);
       quiet = record { said = ap (λ (v : LiarView B). v.said) done.1 ∙ was.quiet.said; hears = ap (λ (v : LiarView B). v.hears) done.1 ∙ was.quiet.hears };
       mail = subst (λ (ks : List ℕ). TookOnly o.mail q.mail ks) (append-nil back ∙ none.1) took_all;
-      empty = subst (λ (ks : List ℕ). HasAll o.mail.passes.take.joined ks) (ap (λ (ks : List ℕ). o.mail.passes.take.taken ++ ks) none.1 ∙ append-nil o.mail.passes.take.taken) (has_all back o m was empty);
+      empty = emptied.0;
+      own = emptied.1;
       before = none.0;
       after = ap (λ (v : LiarView B). v.back) done.1 ∙ done.0;
     }
@@ -225,7 +224,7 @@ TakesNone-of {B} back o m q mail was took empty done =
 -- ---- the answers of a turn
 
 pub Turned-back : {B : Type 0} (moved : ℕ → ℕ → B → B → Type 0) (r : Served) (back : List ℕ) (o m q : LiarView B) (mail : MailView) → HoldsBack back o m → length o.seat.seen ≤ length m.seat.seen
-    → Took m.mail mail [] → HasAll m.mail.passes.take.joined m.mail.passes.take.taken → GoesOn moved (with_mail m mail) q → ServesBack r (with_mail m mail) q → Turned r o q
+    → Took m.mail mail [] → IsEmptied m.mail.passes m.mail.passes.take.taken → GoesOn moved (with_mail m mail) q → ServesBack r (with_mail m mail) q → Turned r o q
 Turned-back moved answers.Idle back o m q mail was less took empty goes done = TakesNone-of back o m q mail was took empty done
 Turned-back moved answers.Did back o m q mail was less took empty goes done = TakesOne-back moved back o m q mail was less took empty goes done
 Turned-back moved answers.Ended back o m q mail was less took empty goes done = absurd done

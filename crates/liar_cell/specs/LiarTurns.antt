@@ -9,6 +9,7 @@ use Rattle.actor_cell.specs.declared.arrival.Arrival.{Arrival}
 use Rattle.actor_cell.specs.declared.arrival.Arrival.TheVariants as arrivals
 use Rattle.actor_cell.specs.declared.served.Served.{Served}
 use Rattle.actor_cell.specs.declared.served.Served.TheVariants as served
+use Rattle.actor_cell.specs.Passes.{own_puts}
 use Rattle.actor_cell.specs.Mail.{reaches_node, deliveries, sent_of, ArePut, IsSameTaker}
 use Rattle.actor_cell.specs.Turning.{by_lateness, arrives, is_late, TookOnly}
 use Rattle.liar_cell.specs.HeldLiar.{LiarView}
@@ -106,11 +107,12 @@ pub record IsFromMailbox {B : Type 0} (k : ℕ) (moved : List ℕ) (old new : Li
   pub late : IsLate new.script new.seat.seen new.seat.node k → IsThrownAway old new
 
 -- the mailbox gave none: it was asked once more than gave the moved numbers, all that was put through the passes handed in was
--- taken, and the number was the first of those held back
+-- taken, and all that the node had put for itself, and the number was the first of those held back
 pub record IsFromBack {B : Type 0} (k : ℕ) (moved : List ℕ) (old new : LiarView B) : Type 0 where
   pub asked : old.mail.passes.take.asked + length moved < new.mail.passes.take.asked
   pub taken : new.mail.passes.take.taken ≡ old.mail.passes.take.taken ++ moved
   pub empty : HasAll old.mail.passes.take.joined (old.mail.passes.take.taken ++ moved)
+  pub own : HasAll (own_puts old.mail.passes ∷ []) (old.mail.passes.take.taken ++ moved)
   pub back : old.back ++ moved ≡ k ∷ new.back
 
 -- One number was taken. Before it others may have been moved to those held back, since their posts are late.
@@ -123,13 +125,14 @@ pub record TakesOne {B : Type 0} (old new : LiarView B) : Type 0 where
   pub boxes : new.mail.boxes ≡ old.mail.boxes
   pub joined : new.mail.passes.take.joined ≡ old.mail.passes.take.joined
 
--- no number was taken: the mailbox was asked and gave none, all that was put through the passes handed in was taken, and nothing
--- is held back
+-- no number was taken: the mailbox was asked and gave none, all that was put through the passes handed in was taken, and all that
+-- the node had put for itself, and nothing is held back
 pub record TakesNone {B : Type 0} (old new : LiarView B) : Type 0 where
   pub asked : old.mail.passes.take.asked < new.mail.passes.take.asked
   pub quiet : IsQuiet old new
   pub mail : TookOnly old.mail new.mail []
   pub empty : HasAll old.mail.passes.take.joined old.mail.passes.take.taken
+  pub own : HasAll (own_puts old.mail.passes ∷ []) old.mail.passes.take.taken
   pub before : old.back ≡ []
   pub after : new.back ≡ []
 

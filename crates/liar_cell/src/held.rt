@@ -5,6 +5,7 @@ ghost use Rattle.mailbox.specs.Interleaving.{HasAll};
 ghost use Rattle.hb_base.specs.NodeSet.{is_in};
 ghost use Rattle.step_driver.specs.Delivering.{is_from};
 ghost use Rattle.actor_cell.specs.Boxes.{place_of};
+ghost use Rattle.actor_cell.specs.Passes.{own_puts};
 ghost use Rattle.actor_cell.specs.Mail.{AreSent, of_found, of_post};
 ghost use Rattle.actor_cell.specs.Turning.{TookOnly};
 ghost use Rattle.liar_cell.specs.HeldLiar.{seat_at, new_liar, IsHeldLiar};
@@ -197,6 +198,7 @@ impl<'b, B: NamedBook + Drop, L: Mouth, J: RunName> HeldLiar<'b, B, L, J> {
         ensures rest { self.new ≡ record self.old { mail = self.new.mail } }
         ensures asked { self.new.mail.passes.take.asked ≡ self.old.mail.passes.take.asked + 1 }
         ensures empty { IfNone result (HasAll self.old.mail.passes.take.joined self.old.mail.passes.take.taken) }
+        ensures own { IfNone result (HasAll (own_puts self.old.mail.passes ∷ []) self.old.mail.passes.take.taken) }
         ensures taken { MatchOption result (TookOnly self.old.mail self.new.mail []) (λ k. TookOnly self.old.mail self.new.mail (k ∷ [])) }
     {
         self.mail.take(rt)
