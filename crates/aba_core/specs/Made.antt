@@ -9,6 +9,7 @@ use Rattle.aba_core.specs.Rounds.{new_round, blank}
 unfoldable pub all_rounds : Numbers → ℕ → ℕ → List Round → List Round
 all_rounds c j e made = made ++ map (new_round c j e) (range_with_len (length made) (c.rounds - length made))
 
+-- the run and the place of an agreement, and each round that the run has
 pub record RoundsView : Type 0 where
   pub config : Numbers
   pub lane : ℕ
@@ -23,7 +24,7 @@ round_of s r = slice_index_or s.all r blank
 abbrev pub replaced : RoundsView → ℕ → Round → RoundsView
 replaced s r x = record s { all = slice_set s.all r x }
 
--- no more are made than the run has, and there is room for all of these
+-- of a lane and an epoch of the run no more rounds are made than it has, and there is room for all of these
 pub record AreMade (c : Numbers) (j e : ℕ) (made : List Round) (capacity : ℕ) : Type 0 where
   pub lane : j < c.n
   pub epoch : e < c.epochs

@@ -21,7 +21,7 @@ use std::sync::Arc;
 
 /// One node's state of the binary agreement of one lane in one epoch (after Mostéfaoui, Moumen and Raynal, PODC 2014):
 /// which votes its lane has cast, and round by round who has claimed what, and the coins that are known. Room for the tables
-/// of all rounds is reserved at once, so that hearing takes no memory; a round's are made when it is first heard of or cast
+/// of all rounds is reserved at once, so that hearing needs no memory; a round's are made when it is first heard of or cast
 /// in. Clauses see an `AbaView`.
 #[derive(Drop)]
 pub struct Aba {

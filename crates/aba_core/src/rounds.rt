@@ -29,7 +29,7 @@ use std::marker::Model;
 use std::sync::Arc;
 
 // The rounds of one agreement. They are made up to the last in which something was cast or heard; those after it are new.
-// There is room for all, so that making one takes no memory, and no page on which none was made is touched. Clauses see each
+// There is room for all, so that making one needs no memory, and no page on which none was made is touched. Clauses see each
 // round that the run has.
 #[derive(Drop)]
 pub(crate) struct Rounds {

@@ -75,7 +75,7 @@ impl Deal {
         eval(self.coefficients_of(e, j, r), 0) % 2 == 1
     }
 
-    /// The share that `dealt_to` gives. There is always one: no memory is wanting for it.
+    /// The share that `dealt_to` gives, for callers that pass want of memory on.
     pub fn share_of(
         &self,
         _alloc: Global,

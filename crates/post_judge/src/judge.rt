@@ -15,8 +15,8 @@ use std::marker::Model;
 /// `JudgeView`.
 ///
 /// The vote of a post is read once, and the branch of an Echo or a share of a coin is checked as it comes in, and by no look at
-/// it later; that of a correct node's Echo is also checked as it is judged, and that of a share only if it is not the one that
-/// was dealt. A post of a correct node is compared with the votes that its actor has cast in the epoch, a desk's with all of the
+/// it later; that of a correct node's Echo is also checked as it is judged. That of a share is checked only if it is not the one
+/// that was dealt. A post of a correct node is compared with the votes that its actor has cast in the epoch, a desk's with all of the
 /// desk. If it is new, its rule goes through the posts at the places at which it looks: a lane's Echoes and Readies of the epoch,
 /// the claims of a round, the shares of a round, or of each round for a decision, or what its own node's desk or lanes have said.
 /// What it encodes or rebuilds for a lane is kept until the lane's next is another. So a post is looked at by 5n judgements at

@@ -66,8 +66,8 @@ fn is_round_below(limit: u8, vote: &Vote) -> bool
     }
 }
 
-// Whether a vote is the share that was dealt to the node of a post. It counts, and no hash is made to see that.
-// A correct node shows no other.
+// Whether a vote is the share that was dealt to the node of a post. It counts, and nothing is hashed to see that, but for the
+// coin's tree, once. A correct node shows no other.
 fn is_dealt(
     alloc: Global,
     deal: &Deal,

@@ -16,7 +16,7 @@ use Rattle.hb_rules.specs.Strings.{IsHashed}
 
 -- ---- one codeword for a root
 
--- One codeword has the root, and it alone goes through the shards of any k valid Echoes for the root that count.
+-- A codeword has the root, and it alone goes through the shards of any k valid Echoes for the root that count.
 pub record HasOneCodeword (c : Numbers) (root : List ℕ) (counts : List (ℕ × List ℕ) → Type 0) : Type 0 where
   pub shards : List (List ℕ)
   pub codeword : IsCodeword c.n (data_count c) shards

@@ -9,8 +9,8 @@ use std::marker::Model;
 // So many bytes of a length stand before the payload.
 const FRONT: usize = 4;
 
-/// An entry that is being built. Its payload stands where it is written from, behind room for its length, so that no byte of it
-/// is copied again. Clauses see the payload.
+/// An entry that is being built. Its payload stands where it is written from, behind room for its length, so that it is not
+/// copied to be framed. Clauses see the payload.
 #[derive(Drop)]
 pub struct Entry {
     bytes: Vec<u8>,
