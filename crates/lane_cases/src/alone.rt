@@ -5,6 +5,7 @@ use crate::text::text_of;
 use coin_deal::deal;
 use hb_base::{Config, NodeSet};
 use std::alloc::{AllocError, Global};
+use std::sync::Arc;
 use std::test::Fail;
 
 // The version, the input, and the votes. The coins of the three rounds are 0, 0 and 1, the shares 118, 160 and 119.
@@ -32,7 +33,7 @@ fn hear_itself(node: &mut Node) -> Result<(), AllocError> {
 
 fn alone(alloc: Global, version: u8, bit: bool) -> Result<Vec<u8>, Fail> {
     let config = Config::new(1, 0, 1, 3, 1, 0, version, NodeSet::new()).ok_or("no config")?;
-    let deal = deal(alloc, &config)?;
+    let deal = Arc::new(alloc, deal(alloc, &config)?)?;
     let agreement = Agreement { lane: 0, epoch: 0 };
     let mut node = Node::new(alloc, &config, &deal, agreement, 0, &[])?;
     node.input(bit)?;
