@@ -98,13 +98,39 @@ fn add_combination(sum: &mut [u8], weights: &[u8], got: &[(u8, Bytes)])
     }
 }
 
+/// The fewest bytes of a shard for which the products with all elements are worked out before.
+const SHORTEST_FOR_ROW: usize = 128;
+
 /// Adds a multiple of a shard, byte by byte.
 fn add_multiple(sum: &mut [u8], weight: u8, shard: &[u8])
     requires { length sum.old ≡ length shard.now }
     ensures { (i : ℕ) → i < length shard.now
         → slice_index sum.new i ≡ field_sum (slice_index sum.old i) (field_product weight (slice_index shard.now i)) }
 {
-    let row = multiples(weight);
+    if shard.len() < SHORTEST_FOR_ROW {
+        add_products(sum, weight, shard);
+    } else {
+        add_from_row(sum, &multiples(weight), shard);
+    }
+}
+
+/// Adds a multiple of a shard, byte by byte, each product for itself.
+fn add_products(sum: &mut [u8], weight: u8, shard: &[u8])
+    requires { length sum.old ≡ length shard.now }
+    ensures { (i : ℕ) → i < length shard.now
+        → slice_index sum.new i ≡ field_sum (slice_index sum.old i) (field_product weight (slice_index shard.now i)) }
+{
+    for i in 0..sum.len() {
+        sum[i] ^= mul(weight, shard[i]);
+    }
+}
+
+/// Adds to each byte what the row has at the byte of the shard.
+fn add_from_row(sum: &mut [u8], row: &[u8; 256], shard: &[u8])
+    requires { length sum.old ≡ length shard.now }
+    ensures { (i : ℕ) → i < length shard.now
+        → slice_index sum.new i ≡ field_sum (slice_index sum.old i) (slice_index row.now (slice_index shard.now i)) }
+{
     for i in 0..sum.len() {
         sum[i] ^= row[shard[i] as usize];
     }

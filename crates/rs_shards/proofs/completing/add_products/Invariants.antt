@@ -1,6 +1,6 @@
 use Rattle.std.proofs.Common.{◌≡◌, ℕ, ◌<◌, ◌≤◌, get_or}
 use Rattle.gf_field.specs.Field.{field_sum, field_product}
-use Rattle.rs_shards.proofs.completing.add_multiple.Given as goal
+use Rattle.rs_shards.proofs.completing.add_products.Given as goal
 
 -- what stands below i is added, and the rest is as it was
 abbrev pub invariant-loop-i : goal.invariant-loop-i
