@@ -22,7 +22,9 @@ use std::marker::Model;
 #[derive(Drop)]
 pub(crate) struct Roots {
     config: Config,
-    by_root: BTreeMap<[u8; 32], RootState>,
+
+    // A leaf of the map has room for 11 states and mostly holds one, so they stand in boxes.
+    by_root: BTreeMap<[u8; 32], Box<RootState>>,
 }
 
 impl Model for Roots {
@@ -67,7 +69,7 @@ impl Roots {
         ensures sound { IsRootView self.now.config root.now (view_at self.now root.now) }
     {
         match self.by_root.get(root) {
-            Some(state) => state.counts(node),
+            Some(state) => state.as_ref().counts(node),
             None => RootCounts {
                 echoes: 0,
                 readies: 0,
@@ -82,7 +84,10 @@ impl Roots {
         ensures { option_copied result ≡ (view_at self.now root.now).value }
     {
         match self.by_root.get(root) {
-            Some(state) => state.value.as_ref(),
+            Some(state) => {
+                let state = state.as_ref();
+                state.value.as_ref()
+            }
             None => None,
         }
     }
@@ -102,6 +107,7 @@ impl Roots {
     {
         match self.by_root.get(root) {
             Some(state) => {
+                let state = state.as_ref();
                 let value = state.value.as_ref();
                 value_once(alloc, &self.config, root, &state.shards, value, node, shard)
             }
@@ -130,11 +136,12 @@ impl Roots {
         prove!(node < n);
         let k = self.config.k();
         match self.by_root.get_mut(root) {
-            Some(state) => state.add_echo(k, node, shard, value),
+            Some(state) => state.as_mut().add_echo(k, node, shard, value),
             None => {
                 let mut state = RootState::new(alloc);
                 state.add_echo(k, node, shard, value)?;
-                self.by_root.insert(*root, state)?;
+                let boxed = Box::new(alloc, state)?;
+                self.by_root.insert(*root, boxed)?;
                 Ok(())
             }
         }
@@ -157,13 +164,15 @@ impl Roots {
         prove!(node < n);
         match self.by_root.get_mut(root) {
             Some(state) => {
+                let state = state.as_mut();
                 state.readies.add(node);
                 Ok(())
             }
             None => {
                 let mut state = RootState::new(alloc);
                 state.readies.add(node);
-                self.by_root.insert(*root, state)?;
+                let boxed = Box::new(alloc, state)?;
+                self.by_root.insert(*root, boxed)?;
                 Ok(())
             }
         }

@@ -14,8 +14,9 @@ pub value_once-requires : goal.value_once-requires
 value_once-requires c =
     let config = c.self.inside.config in
     let root = c.args.root.now in
-    let v : RootView = root_view c.in-Some.state.now in
-    let at : view_at (shown config c.self.inside.by_root) root ≡ v = view-some config c.self.inside.by_root root c.in-Some.state.now (sym c.in-Some.ensures.value) in
+    let v : RootView = root_view c.as_ref-state.result.now in
+    let at : view_at (shown config c.self.inside.by_root) root ≡ v =
+    view-some config c.self.inside.by_root root c.in-Some.state.now (sym c.in-Some.ensures.value) ∙ ap root_view (sym c.as_ref-state.ensures) in
     let is : IsRootView config root v = subst (IsRootView config root) at (c.self.invariant.each root) in
     let known = rw (← c.self.view_is) at c.requires.known in
     let unseen = rw (← c.self.view_is) at c.requires.new in
@@ -51,8 +52,9 @@ pub returns-in-Some : goal.returns-in-Some
 returns-in-Some c =
     let config = c.self.inside.config in
     let root = c.args.root.now in
-    let v : RootView = root_view c.in-Some.state.now in
-    let at : view_at (shown config c.self.inside.by_root) root ≡ v = view-some config c.self.inside.by_root root c.in-Some.state.now (sym c.in-Some.ensures.value) in
+    let v : RootView = root_view c.as_ref-state.result.now in
+    let at : view_at (shown config c.self.inside.by_root) root ≡ v =
+    view-some config c.self.inside.by_root root c.in-Some.state.now (sym c.in-Some.ensures.value) ∙ ap root_view (sym c.as_ref-state.ensures) in
     rw (← c.self.view_is) (if_ok c.value_once.result _ _
     (λ answer is. is ∙ ap (λ (xs : List (ℕ × List ℕ)). value_through config root (first_with (data_count config) xs (c.args.node, c.args.shard.now)))
     (c.deref.ensures.value ∙ ap (λ (v : RootView). v.shards) (sym at)))
