@@ -1,8 +1,9 @@
-ghost use Rattle.std.specs.Prelude.{◌≡◌, ℕ, ◌<◌, ◌==◌, ◌&&◌, ◌||◌, false};
+ghost use Rattle.std.specs.Prelude.{◌≡◌, ℕ, ◌<◌, ◌==◌, ◌&&◌, ◌||◌, true, false};
 ghost use Rattle.hb_base.specs.NodeSet.{is_in};
 ghost use Rattle.hb_base.specs.Limits.{most_nodes};
 ghost use Rattle.hb_rules.specs.Marks.{Claim};
-ghost use Rattle.coin_deal.specs.Heard.{heard_share};
+ghost use Rattle.coin_deal.specs.Heard.{heard_share, IsGood};
+ghost use Rattle.coin_share.specs.Shares.{with_offered};
 ghost use Rattle.hb_rules.specs.Claims.{is_bit};
 ghost use Rattle.aba_core.specs.Bits.{holds};
 ghost use Rattle.aba_core.specs.Levels.{levels_of};
@@ -73,15 +74,17 @@ impl Round {
         share: u8,
         salt: &[u8; 16],
         branch: &Branch,
+        is_dealt: bool,
     ) -> bool
-        requires { from < self.old.shares.n }
+        requires from { from < self.old.shares.n }
+        requires dealt { is_dealt ≡ true → IsGood self.old.shares.root self.old.shares.n (heard_share from share salt.now branch.now) }
         ensures same { result ≡ false → self.new.coin ≡ self.old.coin }
         ensures exact { self.new ≡ after_share self.old (heard_share from share salt.now branch.now) }
     {
         if self.coin.is_some() {
             return false;
         }
-        self.shares.offer(from, share, salt, branch);
+        take_in(&mut self.shares, from, share, salt, branch, is_dealt);
         self.coin = self.shares.coin();
         self.coin.is_some()
     }
@@ -94,5 +97,25 @@ impl Round {
             Some(coin) => self.marks.picks.has(bit) && coin == bit,
             None => false,
         }
+    }
+}
+
+// Takes in a share of a node: unless it is one that was dealt, its branch is checked.
+fn take_in(
+    shares: &mut Shares,
+    from: u8,
+    share: u8,
+    salt: &[u8; 16],
+    branch: &Branch,
+    is_dealt: bool,
+)
+    requires from { from < shares.old.n }
+    requires dealt { is_dealt ≡ true → IsGood shares.old.root shares.old.n (heard_share from share salt.now branch.now) }
+    ensures { shares.new ≡ with_offered shares.old (heard_share from share salt.now branch.now) }
+{
+    if is_dealt {
+        shares.add_checked(from, share, salt, branch);
+    } else {
+        shares.offer(from, share, salt, branch);
     }
 }

@@ -1,4 +1,4 @@
-ghost use Rattle.std.specs.Prelude.{◌≡◌, ℕ, ◌+◌, ◌<◌, ◌≤◌, ◌==◌, ◌&&◌, ◌||◌, false, [], length, take, slice_index_or, vec_capacity, IfOk};
+ghost use Rattle.std.specs.Prelude.{◌≡◌, ℕ, ◌+◌, ◌<◌, ◌≤◌, ◌==◌, ◌&&◌, ◌||◌, true, false, [], length, take, slice_index_or, vec_capacity, IfOk};
 ghost use Rattle.std.specs.Arc.{arc_value};
 ghost use Rattle.std.specs.List.{list_any};
 ghost use Rattle.hb_base.specs.NodeSet.{is_in};
@@ -6,14 +6,14 @@ ghost use Rattle.hb_base.specs.Limits.{most_nodes};
 ghost use Rattle.merkle_branch.specs.Digests.{leaf_digests};
 ghost use Rattle.merkle_branch.specs.Branches.{branch_of};
 ghost use Rattle.coin_deal.specs.Deal.{share, salt, coin_leaves};
-ghost use Rattle.coin_deal.specs.Heard.{heard_share};
+ghost use Rattle.coin_deal.specs.Heard.{heard_share, IsGoodShare};
 ghost use Rattle.hb_rules.specs.Claims.{is_bit};
 ghost use Rattle.hb_rules.specs.Marks.{Claim};
 ghost use Rattle.aba_core.specs.Bits.{holds};
 ghost use Rattle.aba_core.specs.Levels.{levels_of};
 ghost use Rattle.aba_core.specs.Made.{all_rounds, round_of, replaced};
 ghost use Rattle.aba_core.specs.Marks.{with_vote};
-ghost use Rattle.aba_core.specs.Rounds.{blank, after_share};
+ghost use Rattle.aba_core.specs.Rounds.{blank, after_share, IsRound};
 ghost use Rattle.aba_core.specs.Tables.{no_tables, voters_in, count_in, claims};
 
 use crate::levels::Levels;
@@ -173,11 +173,13 @@ impl Rounds {
     ) -> bool
         requires config { config.now ≡ self.old.config }
         requires round { round < self.old.config.rounds }
-        requires from { from < (round_of self.old round).shares.n }
+        requires from { from < self.old.config.n }
+        requires is_round { IsRound self.old.config self.old.lane self.old.epoch round (round_of self.old round) }
         ensures same { result ≡ false
             → (after_share (round_of self.old round) (heard_share from share salt.now branch.now)).coin ≡ (round_of self.old round).coin }
         ensures exact { self.new ≡ replaced self.old round (after_share (round_of self.old round) (heard_share from share salt.now branch.now)) }
     {
+        let is_dealt = self.is_dealt(round, from, share, salt, branch);
         make(
             config,
             &self.deal,
@@ -186,7 +188,19 @@ impl Rounds {
             &mut self.made,
             round,
         );
-        self.made[round as usize].hear_share(from, share, salt, branch)
+        self.made[round as usize].hear_share(from, share, salt, branch, is_dealt)
+    }
+
+    // Whether the coin of a round is not known yet, and this share of it was dealt to the node: then it is good.
+    fn is_dealt(&self, round: u8, from: u8, share: u8, salt: &[u8; 16], branch: &Branch) -> bool
+        requires round { round < self.now.config.rounds }
+        requires from { from < self.now.config.n }
+        ensures { result ≡ true → IsGoodShare self.now.config self.now.epoch self.now.lane round from share salt.now branch.now }
+    {
+        coin_in(self.made.as_slice(), round).is_none()
+            && self
+                .deal
+                .is_dealt(self.epoch, self.lane, round, from, share, salt, branch)
     }
 }
 

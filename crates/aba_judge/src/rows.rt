@@ -1,5 +1,5 @@
 //! The rows of the rules.
-ghost use Rattle.std.specs.Prelude.{◌≡◌, ◌+◌, ◌-◌, ◌*◌, ◌<◌, ◌&&◌, not, nat_lt, nat_le, true, false, IfOk};
+ghost use Rattle.std.specs.Prelude.{◌≡◌, ◌+◌, ◌-◌, ◌*◌, ◌<◌, ◌&&◌, not, nat_lt, nat_le, true, false};
 ghost use Rattle.hb_rules.specs.AgreementRows.{view_of, is_gathered_one, is_confirmed_one, was_settled, dealt};
 ghost use Rattle.hb_rules.specs.Same.{same_vote};
 ghost use Rattle.hb_rules.specs.Marks.{bvals, any_pick, any_coin, has, support};
@@ -14,7 +14,6 @@ use crate::place::Place;
 use coin_deal::{Deal, DealtShare};
 use hb_rules::Heard;
 use hb_wire::{Vals, Vote};
-use std::alloc::{AllocError, Global};
 
 // Whether the run has a round, and the lane has cast no such vote.
 fn is_first(place: &Place, round: u8, cast: Cast, own: &[Vote]) -> bool
@@ -236,26 +235,26 @@ pub(crate) fn may_pick(place: &Place, round: u8, vals: Vals, own: &[Vote], heard
 }
 
 // The share that was dealt to the node.
-fn dealt_share(alloc: Global, deal: &Deal, place: &Place, round: u8) -> Result<Vote, AllocError>
+fn dealt_share(deal: &Deal, place: &Place, round: u8) -> Vote
     requires deal { deal.now ≡ place.now.config }
     requires node { place.now.node < place.now.config.n }
     requires lane { place.now.lane < place.now.config.n }
     requires epoch { place.now.epoch < place.now.config.epochs }
     requires round { round < place.now.config.rounds }
-    ensures { IfOk result (λ vote. vote ≡ dealt place.now.config place.now.node place.now.lane place.now.epoch round) }
+    ensures { result ≡ dealt place.now.config place.now.node place.now.lane place.now.epoch round }
 {
     let DealtShare {
         share,
         salt,
         branch,
-    } = deal.share_of(alloc, place.epoch, place.lane, round, place.node)?;
-    Ok(Vote::Coin {
+    } = deal.dealt_to(place.epoch, place.lane, round, place.node);
+    Vote::Coin {
         epoch: place.epoch,
         round,
         share,
         salt,
         branch,
-    })
+    }
 }
 
 // Whether the lane has picked in a round and has shown no share of it.
@@ -268,27 +267,15 @@ fn is_share_due(place: &Place, round: u8, own: &[Vote]) -> bool
 }
 
 // Whether the lane may show this share, which is to be its own of the round.
-pub(crate) fn may_show(
-    alloc: Global,
-    deal: &Deal,
-    place: &Place,
-    round: u8,
-    own: &[Vote],
-    vote: &Vote,
-) -> Result<bool, AllocError>
+pub(crate) fn may_show(deal: &Deal, place: &Place, round: u8, own: &[Vote], vote: &Vote) -> bool
     requires deal { deal.now ≡ place.now.config }
     requires node { place.now.node < place.now.config.n }
     requires lane { place.now.lane < place.now.config.n }
     requires epoch { place.now.epoch < place.now.config.epochs }
-    ensures { IfOk result (λ may. may ≡ (((nat_lt round place.now.config.rounds && not (has place.now.epoch (any_coin round) own.now)) && has place.now.epoch (any_pick round) own.now)
-        && same_vote (dealt place.now.config place.now.node place.now.lane place.now.epoch round) vote.now)) }
+    ensures { result ≡ (((nat_lt round place.now.config.rounds && not (has place.now.epoch (any_coin round) own.now)) && has place.now.epoch (any_pick round) own.now)
+        && same_vote (dealt place.now.config place.now.node place.now.lane place.now.epoch round) vote.now) }
 {
-    let is_due = is_share_due(place, round, own);
-    if !is_due {
-        return Ok(false);
-    }
-    let expected = dealt_share(alloc, deal, place, round)?;
-    Ok(expected == *vote)
+    is_share_due(place, round, own) && dealt_share(deal, place, round) == *vote
 }
 
 // Whether a round settles a bit: the lane picked it alone there, and the coin is the bit.

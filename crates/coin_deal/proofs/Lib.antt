@@ -6,3 +6,4 @@ pub mod Fitting
 pub mod Shares
 pub mod OneCoin
 pub mod Form
+pub mod Telling

@@ -1,6 +1,6 @@
 //! What a deal gives: roots, and the shares of the nodes.
 
-ghost use Rattle.std.specs.Prelude.{◌≡◌, ◌+◌, ◌*◌, ◌<◌, ◌≤◌, IfOk, IfSome, length};
+ghost use Rattle.std.specs.Prelude.{◌≡◌, ◌+◌, ◌*◌, ◌<◌, ◌≤◌, ◌↔◌, true, IfSome, length};
 ghost use Rattle.hb_base.specs.Limits.{most_nodes};
 ghost use Rattle.hb_base.specs.Numbers.{Numbers};
 ghost use Rattle.merkle_branch.specs.Digests.{leaf_digests};
@@ -75,28 +75,6 @@ impl Deal {
         eval(self.coefficients_of(e, j, r), 0) % 2 == 1
     }
 
-    /// The share that `dealt_to` gives, for callers that pass want of memory on.
-    pub fn share_of(
-        &self,
-        _alloc: Global,
-        e: u8,
-        j: u8,
-        r: u8,
-        m: u8,
-    ) -> Result<DealtShare, AllocError>
-        requires epoch { e < self.now.epochs }
-        requires lane { j < self.now.n }
-        requires round { r < self.now.rounds }
-        requires node { m < self.now.n }
-        ensures share { IfOk result (λ dealt. dealt.share ≡ dealt_share self.now e j r m) }
-        ensures salt { IfOk result (λ dealt. dealt.salt ≡ dealt_salt self.now e j r m) }
-        ensures branch { IfOk result (λ dealt. dealt.branch ≡ branch_of (leaf_digests (coin_leaves self.now e j r)) m) }
-        ensures good { IfOk result (λ dealt. IsGoodShare self.now e j r m dealt.share dealt.salt dealt.branch) }
-        ensures form { IfOk result (λ dealt. HasForm self.now.n (heard_share m dealt.share dealt.salt dealt.branch)) }
-    {
-        Ok(self.dealt_to(e, j, r, m))
-    }
-
     /// The share of node m of the coin of an epoch, a lane and a round. The branch leads from it to the root. It is read from
     /// the coin's tree, which the deal builds when it is first asked for, and keeps; where no memory is left for a tree, it is
     /// worked out without one.
@@ -118,6 +96,33 @@ impl Deal {
             salt: salts[m as usize],
             branch: self.branch_from(e, j, r, m),
         }
+    }
+
+    /// Whether these are the share, the salt and the branch that `dealt_to` gives to node m. They are good then. Nothing is hashed
+    /// but the coin's tree, once; where no memory is left for the tree, each call hashes its leaves. A correct node shows no others.
+    pub fn is_dealt(
+        &self,
+        e: u8,
+        j: u8,
+        r: u8,
+        m: u8,
+        share: u8,
+        salt: &[u8; 16],
+        branch: &Branch,
+    ) -> bool
+        requires epoch { e < self.now.epochs }
+        requires lane { j < self.now.n }
+        requires round { r < self.now.rounds }
+        requires node { m < self.now.n }
+        ensures exact { (result ≡ true) ↔ ((share ≡ dealt_share self.now e j r m) × (salt.now ≡ dealt_salt self.now e j r m)
+            × (branch.now ≡ branch_of (leaf_digests (coin_leaves self.now e j r)) m)) }
+        ensures good { result ≡ true → IsGoodShare self.now e j r m share salt.now branch.now }
+    {
+        let dealt = self.dealt_to(e, j, r, m);
+        let same_share = dealt.share == share;
+        let same_salt = dealt.salt == *salt;
+        let same_branch = dealt.branch == *branch;
+        same_share & same_salt & same_branch
     }
 
     // The branch of the leaf of node m, over the leaves where no tree is kept.

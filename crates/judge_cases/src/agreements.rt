@@ -100,7 +100,7 @@ fn bytes_of(alloc: Global, config: &Config, deal: &Deal, word: &str) -> Result<V
     bytes.push(0)?;
     match kind {
         b'N' => {}
-        b'S' => put_share(alloc, config, deal, round, &mut bytes)?,
+        b'S' => put_share(config, deal, round, &mut bytes)?,
         b'D' => bytes.push(value_of(kind, last, coin(config, deal)))?,
         _ => bytes.extend_from_slice(&[round, value_of(kind, last, coin(config, deal))])?,
     }
@@ -121,13 +121,7 @@ fn coin(config: &Config, deal: &Deal) -> bool
 }
 
 // Adds a round, and node 0's share and salt in it.
-fn put_share(
-    alloc: Global,
-    config: &Config,
-    deal: &Deal,
-    round: u8,
-    bytes: &mut Vec<u8>,
-) -> Result<(), Fail>
+fn put_share(config: &Config, deal: &Deal, round: u8, bytes: &mut Vec<u8>) -> Result<(), Fail>
     requires { deal.now ≡ config.now }
 {
     if round >= config.rounds() {
@@ -137,7 +131,7 @@ fn put_share(
     let n = config.n();
     prove!(0 < epochs);
     prove!(0 < n);
-    let dealt = deal.share_of(alloc, 0, 0, round, 0)?;
+    let dealt = deal.dealt_to(0, 0, round, 0);
     bytes.extend_from_slice(&[round, dealt.share])?;
     bytes.extend_from_slice(&dealt.salt)?;
     Ok(())
@@ -168,7 +162,7 @@ fn said(alloc: Global, config: &Config, deal: &Deal, bytes: &[u8]) -> Result<Hea
             return Err("a wrong branch".into());
         }
     }
-    Ok(Heard { from: 0, vote })
+    Ok(Heard::new(0, vote))
 }
 
 // Votes that are heard, told by words.
@@ -188,7 +182,6 @@ fn heard_of(alloc: Global, config: &Config, deal: &Deal, words: &str) -> Result<
 
 // Whether lane 0 may cast a vote of epoch 0.
 fn may(
-    alloc: Global,
     config: &Config,
     deal: &Deal,
     own: &[Vote],
@@ -212,7 +205,7 @@ fn may(
     if vote.epoch() != 0 {
         return Err("another epoch".into());
     }
-    Ok(may_agree(alloc, deal, &place, own, heard, vote)?)
+    Ok(may_agree(deal, &place, own, heard, vote))
 }
 
 // The vote that a word tells.
@@ -242,14 +235,7 @@ fn answer(alloc: Global, row: &Row) -> Result<bool, Fail> {
     let own = cast(alloc, &config, &deal, own)?;
     let heard = heard_of(alloc, &config, &deal, heard)?;
     let vote = told(alloc, &config, &deal, vote)?;
-    may(
-        alloc,
-        &config,
-        &deal,
-        own.as_slice(),
-        heard.as_slice(),
-        &vote,
-    )
+    may(&config, &deal, own.as_slice(), heard.as_slice(), &vote)
 }
 
 #[test]
@@ -316,7 +302,7 @@ fn votes_of_all_rounds(rt: HostRuntime) -> Result<(), Fail> {
             round,
             bit,
         };
-        let answer = may(alloc, &config, &deal, own.as_slice(), &backed, &vote)?;
+        let answer = may(&config, &deal, own.as_slice(), &backed, &vote)?;
         assert!(rt; answer == wanted, "an Aux of round {round} with {bit}");
     }
     Ok(())

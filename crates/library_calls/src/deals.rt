@@ -184,7 +184,7 @@ fn compare(rt: &impl Abort, alloc: Global, row: &Row) -> Result<(), Fail> {
     let (root, coin) = (run.root_of(e, j, r), run.coin_of(e, j, r));
     assert!(rt; root == *row.root && coin == row.coin && row.shares.len() == config.n() as usize);
     for m in 0..config.n() {
-        let dealt = run.share_of(alloc, e, j, r, m)?;
+        let dealt = run.dealt_to(e, j, r, m);
         compare_share(rt, row, m, &dealt);
     }
     Ok(())

@@ -165,65 +165,53 @@ fn each_choice(rt: HostRuntime) -> Result<(), Fail> {
 }
 
 // What a caller may rest on: a dealt share is added where none of its node was.
-fn offer_dealt(
-    alloc: Global,
-    run: &Deal,
-    r: u8,
-    m: u8,
-    shares: &mut Shares,
-) -> Result<Offer, AllocError>
+fn offer_dealt(run: &Deal, r: u8, m: u8, shares: &mut Shares) -> Offer
     requires epoch { 0 < run.now.epochs }
     requires round { r < run.now.rounds }
     requires node { m < run.now.n }
     requires of { IsOfCoin shares.old run.now 0 0 r }
     requires first { has_share_of shares.old.added m ≡ false }
-    ensures added { IfOk result (λ offer. offer ≡ Offer.Added) }
-    ensures more { IfOk result (λ _. (a : HeardShare) × (a.node ≡ m) × (shares.new ≡ with_share shares.old a)) }
+    ensures added { result ≡ Offer.Added }
+    ensures more { (a : HeardShare) × (a.node ≡ m) × (shares.new ≡ with_share shares.old a) }
 {
     let DealtShare {
         share,
         salt,
         branch,
-    } = run.share_of(alloc, 0, 0, r, m)?;
-    Ok(shares.offer(m, share, &salt, &branch))
+    } = run.dealt_to(0, 0, r, m);
+    shares.offer(m, share, &salt, &branch)
 }
 
 // It is added too where it is known to be good.
-fn add_dealt(alloc: Global, run: &Deal, r: u8, m: u8, shares: &mut Shares) -> Result<(), AllocError>
+fn add_dealt(run: &Deal, r: u8, m: u8, shares: &mut Shares)
     requires epoch { 0 < run.now.epochs }
     requires round { r < run.now.rounds }
     requires node { m < run.now.n }
     requires of { IsOfCoin shares.old run.now 0 0 r }
-    ensures { IfOk result (λ _. IsOfCoin shares.new run.now 0 0 r) }
+    ensures { IsOfCoin shares.new run.now 0 0 r }
 {
     let DealtShare {
         share,
         salt,
         branch,
-    } = run.share_of(alloc, 0, 0, r, m)?;
+    } = run.dealt_to(0, 0, r, m);
     shares.add_checked(m, share, &salt, &branch);
-    Ok(())
 }
 
 // And f + 1 of them give the dealt coin, or two of the strings that are hashed to check one of them collide.
-fn coin_of_two(
-    alloc: Global,
-    run: &Deal,
-    r: u8,
-    shares: &mut Shares,
-) -> Result<Option<bool>, AllocError>
+fn coin_of_two(run: &Deal, r: u8, shares: &mut Shares) -> Option<bool>
     requires epoch { 0 < run.now.epochs }
     requires round { r < run.now.rounds }
     requires nodes { 1 < run.now.n }
     requires f { run.now.f ≡ 1 }
     requires of { IsOfCoin shares.old run.now 0 0 r }
     requires none { shares.old.added ≡ [] }
-    ensures known { IfOk result IsSome }
-    ensures dealt { IfOk result (λ known. IfSome known (λ coin. (coin ≡ dealt_coin run.now 0 0 r) ⊎ Any (Collides run.now 0 0 r) (deciding shares.new))) }
+    ensures known { IsSome result }
+    ensures dealt { IfSome result (λ coin. (coin ≡ dealt_coin run.now 0 0 r) ⊎ Any (Collides run.now 0 0 r) (deciding shares.new)) }
 {
-    offer_dealt(alloc, run, r, 0, shares)?;
-    offer_dealt(alloc, run, r, 1, shares)?;
-    Ok(shares.coin())
+    offer_dealt(run, r, 0, shares);
+    offer_dealt(run, r, 1, shares);
+    shares.coin()
 }
 
 #[test]
@@ -232,16 +220,54 @@ fn dealt_shares(rt: HostRuntime) -> Result<(), Fail> {
     let run = deal(rt.alloc(), &config)?;
     assert!(rt; config.n() == 4 && config.f() == 1 && config.epochs() == 1 && config.rounds() == 1);
     let mut shares = Shares::new(4, 1, run.root_of(0, 0, 0));
-    let coin = coin_of_two(rt.alloc(), &run, 0, &mut shares)?;
+    let coin = coin_of_two(&run, 0, &mut shares);
     let dealt = run.coin_of(0, 0, 0);
 
     // one of each node counts
     let mut checked = Shares::new(4, 1, run.root_of(0, 0, 0));
-    add_dealt(rt.alloc(), &run, 0, 2, &mut checked)?;
-    add_dealt(rt.alloc(), &run, 0, 2, &mut checked)?;
+    add_dealt(&run, 0, 2, &mut checked);
+    add_dealt(&run, 0, 2, &mut checked);
     let coin_of_one = checked.coin();
-    add_dealt(rt.alloc(), &run, 0, 3, &mut checked)?;
+    add_dealt(&run, 0, 3, &mut checked);
     assert!(rt; coin == Some(dealt) && coin_of_one == None && checked.coin() == coin);
+    Ok(())
+}
+
+// Shares of the first coin of seed 0: the node, the share, whose salt and whose branch it comes with, and whether the node was
+// dealt these.
+const SHOWN: [(u8, u8, u8, u8, bool); 8] = [
+    (0, 0xD6, 0, 0, true),
+    (1, 0x2B, 1, 1, true),
+    (2, 0x8B, 2, 2, true),
+    (3, 0xCC, 3, 3, true),
+    (2, 0x2B, 1, 1, false),
+    (1, 0x2C, 1, 1, false),
+    (1, 0x2B, 0, 1, false),
+    (1, 0x2B, 1, 0, false),
+];
+
+#[test]
+fn dealt_alone(rt: HostRuntime) -> Result<(), Fail> {
+    let config = Config::new(4, 1, 1, 1, 1, 0, 1, NodeSet::new()).expect(&rt, "a config");
+    let run = deal(rt.alloc(), &config)?;
+    assert!(rt; config.n() == 4 && config.epochs() == 1 && config.rounds() == 1);
+    let tree = first_tree(rt.alloc())?;
+    for &(m, share, salt, branch, wanted) in &SHOWN {
+        assert!(rt; m < 4 && salt < 4 && branch < 4);
+        let shown = tree.branch(branch);
+        let is_dealt = run.is_dealt(0, 0, 0, m, share, &SALTS[salt as usize], &shown);
+        assert!(rt; is_dealt == wanted);
+    }
+
+    // one bit of the salt differs, or one of a digest
+    let mut salt = SALTS[1];
+    let mut branch = tree.branch(1);
+    assert!(rt; run.is_dealt(0, 0, 0, 1, 0x2B, &salt, &branch));
+    salt[15] ^= 1;
+    assert!(rt; !run.is_dealt(0, 0, 0, 1, 0x2B, &salt, &branch));
+    salt[15] ^= 1;
+    branch.digests[1][31] ^= 1;
+    assert!(rt; !run.is_dealt(0, 0, 0, 1, 0x2B, &salt, &branch));
     Ok(())
 }
 

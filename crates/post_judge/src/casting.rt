@@ -78,7 +78,7 @@ fn may_in_lane(
         lane: lane.lane,
         epoch: vote.epoch(),
     };
-    may_agree(alloc, deal, &place, own, heard, vote)
+    Ok(may_agree(deal, &place, own, heard, vote))
 }
 
 // Whether an actor may cast a vote that actors of its number cast, of an epoch that the run has. A yes is always right, and so is a no

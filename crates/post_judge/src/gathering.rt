@@ -27,7 +27,7 @@ fn told_to(
     }
     let from = if actor == n { post.actor } else { post.from };
     let vote = vote.clone()?;
-    Ok(Some(Heard { from, vote }))
+    Ok(Some(Heard::new(from, vote)))
 }
 
 // Puts a hearing, if there is one, behind what was heard.

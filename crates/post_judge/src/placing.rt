@@ -4,7 +4,7 @@ ghost use Rattle.hb_rules.specs.Hearing.{is_within, round_of, is_below};
 ghost use Rattle.post_judge.specs.Places.{own_place, heard_place, is_told, counts, told_place, cast_place, share_places, looked_at};
 
 use crate::place::{Place, Topic};
-use coin_deal::{Deal, DealtShare, leaf_of};
+use coin_deal::{Deal, leaf_of};
 use hb_base::Config;
 use hb_rules::is_correct;
 use hb_wire::{Post, Vote};
@@ -66,49 +66,13 @@ fn is_round_below(limit: u8, vote: &Vote) -> bool
     }
 }
 
-// Whether a vote is the share that was dealt to the node of a post. It counts, and nothing is hashed to see that, but for the
-// coin's tree, once. A correct node shows no other.
-fn is_dealt(
-    alloc: Global,
-    deal: &Deal,
-    post: &Post,
-    epoch: u8,
-    round: u8,
-    vote: &Vote,
-) -> Result<bool, AllocError>
-    requires node { post.now.from < deal.now.n }
-    requires epoch { epoch < deal.now.epochs }
-    requires lane { post.now.actor < deal.now.n }
-    requires round { round < deal.now.rounds }
-    ensures { IfOk result (λ yes. yes ≡ true → counts deal.now post.now.from post.now.actor vote.now ≡ true) }
-{
-    let DealtShare {
-        share,
-        salt,
-        branch,
-    } = deal.share_of(alloc, epoch, post.actor, round, post.from)?;
-    let dealt = Vote::Coin {
-        epoch,
-        round,
-        share,
-        salt,
-        branch,
-    };
-    Ok(dealt == *vote)
-}
-
-// Whether it counts: the branch of an Echo or of a share is right.
-fn counts(
-    alloc: Global,
-    config: &Config,
-    deal: &Deal,
-    post: &Post,
-    vote: &Vote,
-) -> Result<bool, AllocError>
+// Whether it counts: the branch of an Echo or of a share is right. A share that was dealt counts, and no branch is hashed to see
+// that.
+fn counts(config: &Config, deal: &Deal, post: &Post, vote: &Vote) -> bool
     requires deal { deal.now ≡ config.now }
     requires within { is_within config.now vote.now ≡ true }
     requires told { is_told config.now.n post.now.from post.now.actor vote.now ≡ true }
-    ensures { IfOk result (λ yes. yes ≡ counts config.now post.now.from post.now.actor vote.now) }
+    ensures { result ≡ counts config.now post.now.from post.now.actor vote.now }
 {
     let n = config.n();
     match vote {
@@ -117,7 +81,7 @@ fn counts(
             shard,
             branch,
             ..
-        } => Ok(post.from < n && is_branch(root, n, post.from, shard.as_slice(), branch)),
+        } => post.from < n && is_branch(root, n, post.from, shard.as_slice(), branch),
         Vote::Coin {
             epoch,
             round,
@@ -125,42 +89,31 @@ fn counts(
             salt,
             branch,
         } => {
-            if post.from >= n {
-                return Ok(false);
+            let (m, e, j, r) = (post.from, *epoch, post.actor, *round);
+            if m >= n {
+                return false;
             }
-            let was_dealt = is_dealt(alloc, deal, post, *epoch, *round, vote)?;
-            if was_dealt {
-                return Ok(true);
+            if deal.is_dealt(e, j, r, m, *share, salt, branch) {
+                return true;
             }
-            let root = deal.root_of(*epoch, post.actor, *round);
             let leaf = leaf_of(*share, salt);
-            Ok(is_branch(&root, n, post.from, &leaf, branch))
+            is_branch(&deal.root_of(e, j, r), n, m, &leaf, branch)
         }
-        _ => Ok(true),
+        _ => true,
     }
 }
 
 // The place of a post's vote among those that are heard, if it can be heard and counts. It checks the branch of an Echo or of a
 // share, so that no look at the place checks it again.
-pub(crate) fn told_place(
-    alloc: Global,
-    config: &Config,
-    deal: &Deal,
-    post: &Post,
-    vote: &Vote,
-) -> Result<Option<Place>, AllocError>
+pub(crate) fn told_place(config: &Config, deal: &Deal, post: &Post, vote: &Vote) -> Option<Place>
     requires deal { deal.now ≡ config.now }
-    ensures { IfOk result (λ place. place ≡ told_place config.now post.now vote.now) }
+    ensures { result ≡ told_place config.now post.now vote.now }
 {
     let may_be_heard = is_within(config, vote) && is_told(config.n(), post, vote);
-    if !may_be_heard {
-        return Ok(None);
-    }
-    let is_counted = counts(alloc, config, deal, post, vote)?;
-    if is_counted {
-        Ok(heard_place(post.from, post.actor, vote))
+    if may_be_heard && counts(config, deal, post, vote) {
+        heard_place(post.from, post.actor, vote)
     } else {
-        Ok(None)
+        None
     }
 }
 

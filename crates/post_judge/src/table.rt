@@ -31,7 +31,7 @@ pub(crate) fn vote_of(
     ensures exact { IfOk result (λ vote. vote ≡ spelled config.now post.now) }
     ensures fits { IfOk result (λ vote. IfSome vote (HasSpelling config.now)) }
 {
-    match read_shared(alloc, config.n(), config.version(), &post.bytes) {
+    match read_shared(alloc, config.n(), config.version(), post.bytes.as_bytes()) {
         Ok(vote) => Ok(Some(vote)),
         Err(WireFault::NotAMessage) => Ok(None),
         Err(WireFault::Memory) => Err(AllocError),
@@ -90,7 +90,7 @@ impl Table {
             return Ok(());
         }
         let cast = cast_place(&self.config, post, vote);
-        let told = told_place(self.alloc, &self.config, &self.deal, post, vote)?;
+        let told = told_place(&self.config, &self.deal, post, vote);
         self.buckets.add_at(self.alloc, cast, post, vote)?;
         self.buckets.add_at(self.alloc, told, post, vote)?;
         Ok(())

@@ -1,6 +1,5 @@
 use Rattle.std.proofs.Common.{◌≡◌, ℕ, true, sym, ap, ◌∙◌, subst}
 use Rattle.std.specs.Prelude.{◌↔◌}
-use Rattle.std.proofs.lemmas.Result.{IfOk-weaker}
 use Rattle.hb_wire.specs.declared.vote.Vote.{Vote}
 use Rattle.hb_wire.specs.declared.vote.Vote.TheVariants.{Est, Bval, Aux, Conf, Pick, Coin, Decided}
 use Rattle.hb_wire.specs.Votes.{epoch_of}
@@ -101,7 +100,7 @@ returns-in-Coin-clause-sound c =
     c.in-Coin.is ∙ ap (λ (e : ℕ). Coin e c.in-Coin.round c.in-Coin.share c.in-Coin.salt c.in-Coin.branch) (ap epoch_of (sym c.in-Coin.is) ∙ c.requires.same) in
     let both =
     subst (λ (v : Vote). (allows_coin p.config p.node p.lane p.epoch (view_of p.config p.node p.lane p.epoch c.args.own.now c.args.heard.now) c.in-Coin.round v ≡ true) ↔ MayAgree p.config p.node p.lane c.args.own.now c.args.heard.now v) (sym vote) (show_told p.config p.node p.lane p.epoch c.args.own.now c.args.heard.now c.in-Coin.round c.in-Coin.share c.in-Coin.salt c.in-Coin.branch) in
-    IfOk-weaker c.may_show.result _ _ (λ may told h. both.0 (sym told ∙ h)) c.may_show.ensures
+    λ told. both.0 (sym c.may_show.ensures ∙ told)
 
 pub returns-in-Coin-clause-complete : goal.returns-in-Coin-clause-complete
 returns-in-Coin-clause-complete c =
@@ -110,4 +109,4 @@ returns-in-Coin-clause-complete c =
     c.in-Coin.is ∙ ap (λ (e : ℕ). Coin e c.in-Coin.round c.in-Coin.share c.in-Coin.salt c.in-Coin.branch) (ap epoch_of (sym c.in-Coin.is) ∙ c.requires.same) in
     let both =
     subst (λ (v : Vote). (allows_coin p.config p.node p.lane p.epoch (view_of p.config p.node p.lane p.epoch c.args.own.now c.args.heard.now) c.in-Coin.round v ≡ true) ↔ MayAgree p.config p.node p.lane c.args.own.now c.args.heard.now v) (sym vote) (show_told p.config p.node p.lane p.epoch c.args.own.now c.args.heard.now c.in-Coin.round c.in-Coin.share c.in-Coin.salt c.in-Coin.branch) in
-    IfOk-weaker c.may_show.result _ _ (λ may told from allowed. told ∙ both.1 allowed) c.may_show.ensures
+    λ from allowed. c.may_show.ensures ∙ both.1 allowed

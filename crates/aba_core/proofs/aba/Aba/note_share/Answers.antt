@@ -1,5 +1,8 @@
-use Rattle.std.proofs.Common.{refl, arith}
+use Rattle.std.proofs.Common.{refl, sym, subst, arith}
+use Rattle.hb_base.specs.Numbers.{Numbers}
 use Rattle.coin_deal.specs.Heard.{heard_share}
+use Rattle.aba_core.specs.Made.{round_of}
+use Rattle.aba_core.specs.Rounds.{IsRound}
 use Rattle.aba_core.proofs.Notes.{Notes-share_past}
 use Rattle.aba_core.proofs.Noted.{share_sound, share_noted, share_noted_less}
 use Rattle.aba_core.proofs.Replacing.{holds_replaced}
@@ -33,3 +36,13 @@ returns-then-not-hear_share c =
     rw (c.hear_share.ensures.exact, ← c.self.view_is) (share_noted_less _ c.args.round c.args.from c.args.share c.args.salt.now c.args.branch.now _ _
     (record { sound = c.self.invariant.aba; inside = omega (arith, c.if-round-rounds.false, c.rounds.ensures.value); read = refl }) refl
     (rw (← c.self.view_is) at c.requires) (c.hear_share.ensures.same c.if-not-hear_share.true))
+
+-- each round is one of the lane and the epoch
+pub hear_share-requires-clause-is_round : goal.hear_share-requires-clause-is_round
+hear_share-requires-clause-is_round c =
+    let s = c.self.inside in
+    let r = c.args.round in
+    let known = c.self.invariant.aba.each r (omega (arith, c.if-round-rounds.false, c.rounds.ensures.value)) in
+    subst (λ (n : Numbers). IsRound n s.rounds.lane s.rounds.epoch r (round_of s.rounds r)) (sym c.self.invariant.config)
+    (subst (λ j. IsRound s.config j s.rounds.epoch r (round_of s.rounds r)) (sym c.self.invariant.lane)
+    (subst (λ e. IsRound s.config s.lane e r (round_of s.rounds r)) (sym c.self.invariant.epoch) known))

@@ -2,20 +2,37 @@ use Rattle.std.proofs.Common.{◌≡◌, ◌<◌, List, sym, ap, ◌∙◌, subs
 use Rattle.hb_base.specs.Numbers.{Numbers}
 use Rattle.aba_core.specs.declared.round.Round.{Round}
 use Rattle.aba_core.specs.Made.{RoundsView, all_rounds}
-use Rattle.coin_deal.specs.Heard.{heard_share}
+use Rattle.coin_deal.specs.Deal.{coin_root}
+use Rattle.coin_deal.specs.Heard.{heard_share, IsGood}
 use Rattle.aba_core.specs.Rounds.{after_share}
 use Rattle.aba_core.proofs.Made.{made-is, all-replaced}
 use Rattle.aba_core.proofs.rounds.Rounds.hear_share.Goals as goal
 
-pub hear_share-requires : goal.hear_share-requires
-hear_share-requires c =
+pub hear_share-requires-clause-from : goal.hear_share-requires-clause-from
+hear_share-requires-clause-from c =
     let s = c.self.inside in
     let old = s.made.items in
     let made = c.make.new.made.items in
     let same : all_rounds s.deal.value s.lane s.epoch made ≡ all_rounds s.deal.value s.lane s.epoch old =
     subst (λ (n : Numbers). all_rounds n s.lane s.epoch made ≡ all_rounds n s.lane s.epoch old) (rw (← c.self.view_is) at c.requires.config) c.make.ensures.same in
     let was = made-is s.deal.value s.lane s.epoch made old c.args.round c.index_mut.result.now same c.make.ensures.made c.index_mut.ensures.value in
-    subst (λ (x : Round). c.args.from < x.shares.n) (sym was) (rw (← c.self.view_is) at c.requires.from)
+    let is = rw (← c.self.view_is) at c.requires.is_round in
+    subst (λ n. c.args.from < n) (sym (ap (λ (x : Round). x.shares.n) was ∙ is.n)) (rw (← c.self.view_is) at c.requires.from)
+
+-- the shares of the round are of the coin of which the share was dealt
+pub hear_share-requires-clause-dealt : goal.hear_share-requires-clause-dealt
+hear_share-requires-clause-dealt c = λ yes.
+    let s = c.self.inside in
+    let old = s.made.items in
+    let made = c.make.new.made.items in
+    let same : all_rounds s.deal.value s.lane s.epoch made ≡ all_rounds s.deal.value s.lane s.epoch old =
+    subst (λ (n : Numbers). all_rounds n s.lane s.epoch made ≡ all_rounds n s.lane s.epoch old) (rw (← c.self.view_is) at c.requires.config) c.make.ensures.same in
+    let was = made-is s.deal.value s.lane s.epoch made old c.args.round c.index_mut.result.now same c.make.ensures.made c.index_mut.ensures.value in
+    let is = rw (← c.self.view_is) at c.requires.is_round in
+    let a = heard_share c.args.from c.args.share c.args.salt.now c.args.branch.now in
+    let good = rw (← c.self.view_is) at c.is_dealt-is_dealt.ensures in
+    subst (λ root. IsGood root c.index_mut.result.now.shares.n a) (sym (ap (λ (x : Round). x.shares.root) was ∙ is.root))
+    (subst (λ n. IsGood (coin_root s.deal.value s.epoch s.lane c.args.round) n a) (sym (ap (λ (x : Round). x.shares.n) was ∙ is.n)) (good yes))
 
 pub returns-clause-same : goal.returns-clause-same
 returns-clause-same c =

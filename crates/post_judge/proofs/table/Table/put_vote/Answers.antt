@@ -13,7 +13,7 @@ returns-clause-told c =
     let new = c.add_at-2.new.self.by_place in
     AreTold-push t.config t.posts.items old mid new (record { post = c.args.post.now; vote = c.args.vote.now }) c.requires.told c.requires.vote
     (subst (λ (o : Option Place). Adds old mid o (record { post = c.args.post.now; vote = c.args.vote.now })) c.cast_place-cast.ensures c.in_ok-add_at.ensures)
-    (subst (λ (o : Option Place). Adds mid new o (record { post = c.args.post.now; vote = c.args.vote.now })) c.in_ok-told.ensures c.in_ok-add_at-2.ensures)
+    (subst (λ (o : Option Place). Adds mid new o (record { post = c.args.post.now; vote = c.args.vote.now })) c.told_place-told.ensures c.in_ok-add_at-2.ensures)
 
 pub returns-then-was_judged-clause-told : goal.returns-then-was_judged-clause-told
 returns-then-was_judged-clause-told c =
