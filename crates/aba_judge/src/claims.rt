@@ -93,6 +93,6 @@ pub(crate) fn wants_no_more(node: u8, epoch: u8, heard: &[Heard]) -> bool
     ensures { result ≡ heard_by heard.now node (is_no_more epoch) }
 {
     heard.iter().any(|said| {
-        said.from == node && matches!(said.vote, Vote::NoMore { epoch: e } if e == epoch)
+        said.from == node && matches!(said.vote(), Vote::NoMore { epoch: e } if *e == epoch)
     })
 }

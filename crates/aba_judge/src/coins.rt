@@ -16,7 +16,7 @@ fn add(shares: &mut Shares, epoch: u8, round: u8, said: &Heard)
     requires { IfSome (share_in epoch round said.now.from said.now.vote) (IsGood shares.old.root shares.old.n) }
     ensures { shares.new ≡ with_shown shares.old epoch round said.now }
 {
-    match &said.vote {
+    match said.vote() {
         Vote::Coin {
             epoch: e,
             round: r,

@@ -3,7 +3,7 @@ ghost use Rattle.std.specs.Prelude.{◌≡◌, IfOk, IfSome};
 ghost use Rattle.book_cases.specs.Run.{IsRun, empty_proposal};
 
 use hb_base::{Bytes, Config, NodeSet};
-use hb_wire::{Post, To, Vote};
+use hb_wire::{Post, PostBytes, To, Vote};
 use std::alloc::{AllocError, Global};
 
 /// The config of that run.
@@ -29,6 +29,6 @@ pub(crate) fn proposed_by(alloc: Global, node: u8) -> Result<Post, AllocError> {
         from: node,
         actor: 5,
         to: To::Home,
-        bytes: Bytes::copy(alloc, &[0x10, 0, 0, 0, 0, 2, 0, 0])?,
+        bytes: PostBytes::plain(Bytes::copy(alloc, &[0x10, 0, 0, 0, 0, 2, 0, 0])?),
     })
 }

@@ -8,7 +8,7 @@ ghost use Rattle.hb_rules.specs.Book.{post_of, AreTwo, IsSeatOf, Moved};
 
 use hb_base::{Bytes, Config, NodeSet};
 use hb_rules::{Book, BookFault, PlainBook, PlainSeat};
-use hb_wire::{Post, To, Vote, reaches};
+use hb_wire::{Post, PostBytes, To, Vote, reaches};
 use std::alloc::{AllocError, Global};
 use std::test::Fail;
 
@@ -115,7 +115,7 @@ fn wanted(alloc: Global, k: u32) -> Result<Post, AllocError> {
             from: 0,
             actor: 4,
             to: To::Home,
-            bytes: Bytes::copy(alloc, &[0x10, 0, 0, 0, 0, 2, 0, 0])?,
+            bytes: PostBytes::plain(Bytes::copy(alloc, &[0x10, 0, 0, 0, 0, 2, 0, 0])?),
         });
     }
     let (actor, to, bytes) = lie_at(k - 1);
@@ -123,7 +123,7 @@ fn wanted(alloc: Global, k: u32) -> Result<Post, AllocError> {
         from: 3,
         actor,
         to,
-        bytes: Bytes::copy(alloc, bytes)?,
+        bytes: PostBytes::plain(Bytes::copy(alloc, bytes)?),
     })
 }
 

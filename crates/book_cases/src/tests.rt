@@ -7,7 +7,7 @@ use crate::crowd::{Crowd, MANY, actor_of, post_beside};
 use crate::expected::{five_nodes, proposal, proposed_by};
 use crate::pair::{Pair, post_two};
 use hb_base::{Bytes, Config};
-use hb_wire::{Post, To, Vote};
+use hb_wire::{Post, PostBytes, To, Vote};
 use post_book::Naming;
 use std::alloc::{AllocError, Global};
 use std::marker::Brand;
@@ -86,7 +86,7 @@ fn a_desk_and_a_liar_on_one_thread(rt: HostRuntime) -> Result<(), Fail> {
         from: 4,
         actor: 3,
         to: To::Book,
-        bytes: Bytes::copy(alloc, b"?")?,
+        bytes: PostBytes::plain(Bytes::copy(alloc, b"?")?),
     };
     assert!(rt; alone.history.as_slice() == [proposed_by(alloc, 0)?, lie].as_slice());
     Ok(())

@@ -5,7 +5,7 @@ ghost use Rattle.actor_cell.specs.Passes.{ArePassesOf};
 
 use actor_cell::{Arrival, Boxes, Mail, Marks, Passes, arrival_found};
 use hb_base::{Bytes, Config, NodeSet};
-use hb_wire::{Post, To};
+use hb_wire::{Post, PostBytes, To};
 use net_script::{Link, Order, Script, Shape};
 use std::alloc::{AllocError, Global};
 use std::sync::Wait;
@@ -247,7 +247,7 @@ fn post_of(alloc: Global, from: u8) -> Result<Post, AllocError> {
         from,
         actor: 2,
         to: To::All,
-        bytes: Bytes::copy(alloc, b"?")?,
+        bytes: PostBytes::plain(Bytes::copy(alloc, b"?")?),
     })
 }
 

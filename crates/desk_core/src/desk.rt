@@ -7,7 +7,7 @@ ghost use Rattle.hb_base.specs.Limits.{IsTransaction};
 use epoch_core::{Epochs, order_laws};
 use hb_base::{Bytes, Config};
 use hb_rules::{Due, desk_slot_laws, slot_laws, term_laws};
-use hb_wire::Vote;
+use hb_wire::{Spoken, Vote};
 use journaled_actor::Core;
 use std::alloc::{AllocError, Global};
 use std::marker::Model;
@@ -97,7 +97,7 @@ impl Core for DeskCore {
         &mut self,
         alloc: Global,
         from: u8,
-        vote: &Vote,
+        vote: &Spoken,
         due: &mut Due,
     ) -> Result<(), AllocError> {
         desk_slot_laws();
@@ -105,7 +105,7 @@ impl Core for DeskCore {
         let Some(epochs) = &mut self.epochs else {
             return Ok(());
         };
-        epochs.hear(alloc, from, vote, due)
+        epochs.hear(alloc, from, vote.vote(), due)
     }
 }
 

@@ -34,14 +34,14 @@ fn is_delivery(epoch: u8, value: &[u8], vote: &Vote) -> bool
 pub(crate) fn has_decided(epoch: u8, lane: u8, bit: bool, heard: &[Heard]) -> bool
     ensures { result ≡ heard_by heard.now lane (is_decision epoch bit) }
 {
-    heard.iter().any(|said| said.from == lane && is_decision(epoch, bit, &said.vote))
+    heard.iter().any(|said| said.from == lane && is_decision(epoch, bit, said.vote()))
 }
 
 // Whether a lane has delivered this value.
 pub(crate) fn has_delivered(epoch: u8, lane: u8, value: &[u8], heard: &[Heard]) -> bool
     ensures { result ≡ heard_by heard.now lane (is_delivery epoch value.now) }
 {
-    heard.iter().any(|said| said.from == lane && is_delivery(epoch, value, &said.vote))
+    heard.iter().any(|said| said.from == lane && is_delivery(epoch, value, said.vote()))
 }
 
 // How many of the lanes below n have decided 1.

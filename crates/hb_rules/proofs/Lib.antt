@@ -20,6 +20,7 @@ pub mod Lawful
 pub mod Histories
 pub mod Addressed
 pub mod Cast
+pub mod ValidEchoes
 pub mod LaneVotes
 pub mod Once
 pub mod DeskVotes

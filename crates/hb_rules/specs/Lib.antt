@@ -18,6 +18,7 @@ pub mod BroadcastRows
 pub mod AgreementRows
 pub mod Pool
 pub mod DeskRows
+pub mod Echoes
 pub mod Owing
 pub mod Same
 pub mod Tested

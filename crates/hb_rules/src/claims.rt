@@ -27,7 +27,7 @@ pub fn count_claims<C: Claim>(n: u8, claim: &C, heard: &[Heard]) -> u8
 {
     let mut voters = Voters::none();
     for said in heard {
-        let counts = said.from < n && claim.is_made(said.from, &said.vote);
+        let counts = said.from < n && claim.is_made(said.from, said.vote());
         if counts {
             voters.add(said.from);
         }

@@ -1,10 +1,10 @@
 //! What an actor hears of a post.
 ghost use Rattle.std.specs.Prelude.{◌≡◌, true, IfOk};
 ghost use Rattle.hb_wire.specs.Addresses.{reaches};
-ghost use Rattle.hb_rules.specs.Hearing.{round_of, is_below, is_within, heeds, hearing_of};
+ghost use Rattle.hb_rules.specs.Hearing.{hearing, round_of, is_below, is_within, heeds, hearing_of};
 
 use hb_base::Config;
-use hb_wire::{Post, Vote, WireFault, read_shared};
+use hb_wire::{Post, Spoken, Vote, WireFault};
 use std::alloc::{AllocError, Global};
 use std::marker::Model;
 
@@ -12,7 +12,7 @@ use std::marker::Model;
 #[derive(Drop)]
 pub struct Heard {
     pub from: u8,
-    pub vote: Vote,
+    pub spoken: Spoken,
 }
 
 impl Model for Heard {
@@ -20,7 +20,24 @@ impl Model for Heard {
 
     ghost Value = { Hearing };
 
-    ghost view = { λ h. record { from = h.from; vote = h.vote } };
+    ghost view = { λ h. record { from = h.from; vote = h.spoken } };
+}
+
+impl Heard {
+    /// A vote, of which nothing is known, as it is heard from this node or lane.
+    pub fn new(from: u8, vote: Vote) -> Heard
+        ensures { result ≡ hearing from vote }
+    {
+        let spoken = Spoken::plain(vote);
+        Heard { from, spoken }
+    }
+
+    /// The vote, lent.
+    pub fn vote(&self) -> &Vote
+        ensures { result.now ≡ self.now.vote }
+    {
+        self.spoken.vote()
+    }
 }
 
 /// What an actor hears of a post that reaches it, if anything: a vote that the post spells, that the actor takes heed of,
@@ -36,10 +53,11 @@ pub fn hear(
     ensures { IfOk result (λ heard. heard ≡ hearing_of config.now node actor post.now) }
 {
     let n = config.n();
-    match read_shared(alloc, n, config.version(), &post.bytes) {
-        Ok(vote) if heeds(n, node, actor, post, &vote) && is_within(config, &vote) => {
+    match post.bytes.vote(alloc, n, config.version()) {
+        Ok(spoken)
+            if heeds(n, node, actor, post, spoken.vote()) && is_within(config, spoken.vote()) => {
             let from = if actor == n { post.actor } else { post.from };
-            Ok(Some(Heard { from, vote }))
+            Ok(Some(Heard { from, spoken }))
         }
         Ok(_) => Ok(None),
         Err(WireFault::NotAMessage) => Ok(None),

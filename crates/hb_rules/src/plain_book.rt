@@ -8,7 +8,7 @@ ghost use Rattle.hb_rules.specs.BookLaws.{Moved-refl, Moved-trans, IsSeatOf-move
 
 use crate::book::{Book, BookFault};
 use crate::plain_seat::PlainSeat;
-use crate::posts::{Posts, spell};
+use crate::posts::Posts;
 use hb_base::{Bytes, Config};
 use hb_wire::{Post, To, Vote};
 use std::alloc::{AllocError, Global};
@@ -101,8 +101,9 @@ impl Book for PlainBook {
     ghost looks = { HasSeenAll-most };
 
     fn post(&mut self, seat: &mut PlainSeat, vote: &Vote) -> Result<u32, BookFault> {
-        let bytes = spell(self.posts.alloc(), &self.posts.config(), vote);
-        let posted = self.posts.add_vote(seat.node(), seat.actor(), vote, bytes);
+        let (node, actor) = (seat.node(), seat.actor());
+        let bytes = self.posts.speak(node, actor, vote);
+        let posted = self.posts.add_vote(node, actor, vote, bytes);
         seat.look(&self.posts);
         posted
     }

@@ -4,12 +4,13 @@ ghost use Rattle.hb_base.specs.Limits.{most_posts};
 ghost use Rattle.hb_base.specs.NodeSet.{is_in};
 ghost use Rattle.hb_wire.specs.Votes.{Spells};
 ghost use Rattle.hb_rules.specs.History.{HasSpelling, IsAllowed, MayFollow, IsLegal};
+ghost use Rattle.hb_rules.specs.Echoes.{IsEchoValid};
 ghost use Rattle.hb_rules.specs.Book.{post_of, lie_of, AreKept};
 
 use crate::book::BookFault;
 use hb_base::limits::MOST_POSTS;
 use hb_base::{Bytes, Config};
-use hb_wire::{Post, To, Vote, write};
+use hb_wire::{Post, PostBytes, To, Vote, write};
 use std::alloc::{AllocError, Global};
 use std::marker::Model;
 
@@ -19,6 +20,23 @@ pub fn spell(alloc: Global, config: &Config, vote: &Vote) -> Result<Bytes, Alloc
     ensures { IfOk result (λ b. Spells config.now.n config.now.version b vote.now) }
 {
     write(alloc, config.n(), config.version(), vote)
+}
+
+/// The bytes of a vote that a node posts in a run of this config. An Echo of a correct node is marked as valid, as the rules ask
+/// for it. Err where there is no memory.
+pub fn speak(alloc: Global, config: &Config, node: u8, vote: &Vote) -> Result<PostBytes, AllocError>
+    requires spelled { HasSpelling config.now vote.now }
+    requires valid { IsEchoValid config.now node vote.now }
+    ensures { IfOk result (λ b. Spells config.now.n config.now.version b vote.now) }
+{
+    let bytes = spell(alloc, config, vote)?;
+    match vote {
+        Vote::Echo { .. } if !config.liars().has(node) => {
+            let (n, version) = (config.n(), config.version());
+            Ok(PostBytes::of_valid_echo(bytes, n, version, node, vote))
+        }
+        _ => Ok(PostBytes::plain(bytes)),
+    }
 }
 
 /// The posts of a run, in order, by the run's config. At every moment they are a legal history of at most 2^22 posts, since a
@@ -108,15 +126,24 @@ impl Posts {
         }
     }
 
-    /// Adds the post of a vote that the rules allow to this actor of this node, and answers its number. `bytes` is what `spell` gave
-    /// for the vote, so that nothing is spelled where a book is locked. `Full` comes exactly where there are 2^22 posts, and a
-    /// refusal adds nothing.
+    /// The bytes of a vote that the rules allow to this actor of this node, as `speak` gives them. Err where there is no memory.
+    pub fn speak(&self, node: u8, actor: u8, vote: &Vote) -> Result<PostBytes, AllocError>
+        requires spelled { HasSpelling self.now.config vote.now }
+        requires allowed { IsAllowed self.now.config node actor self.now.posts vote.now }
+        ensures { IfOk result (λ b. Spells self.now.config.n self.now.config.version b vote.now) }
+    {
+        speak(self.alloc(), &self.config, node, vote)
+    }
+
+    /// Adds the post of a vote that the rules allow to this actor of this node, and answers its number. `bytes` is what `speak`
+    /// gave for the vote, so that nothing is spelled where a book is locked. `Full` comes exactly where there are 2^22
+    /// posts, and a refusal adds nothing.
     pub fn add_vote(
         &mut self,
         node: u8,
         actor: u8,
         vote: &Vote,
-        bytes: Result<Bytes, AllocError>,
+        bytes: Result<PostBytes, AllocError>,
     ) -> Result<u32, BookFault>
         requires known { node < self.old.config.n }
         requires spelled { IfOk bytes (λ b. Spells self.old.config.n self.old.config.version b vote.now) }
@@ -138,8 +165,8 @@ impl Posts {
         })
     }
 
-    /// Adds a post of a liar's node, with any actor, address and bytes, and answers its number. `bytes` is a copy that was made
-    /// before. `Full` comes exactly where there are 2^22 posts, and a refusal adds nothing.
+    /// Adds a post of a liar's node, with any actor, address and bytes, and answers its number. `bytes` is a copy that was
+    /// made before. `Full` comes exactly where there are 2^22 posts, and a refusal adds nothing.
     pub fn add_lie(
         &mut self,
         node: u8,
@@ -162,7 +189,7 @@ impl Posts {
             from: node,
             actor,
             to,
-            bytes: bytes?,
+            bytes: PostBytes::plain(bytes?),
         })
     }
 

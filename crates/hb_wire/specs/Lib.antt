@@ -5,3 +5,4 @@ pub mod Lists
 pub mod Views
 pub mod Glances
 pub mod Batches
+pub mod Echoes

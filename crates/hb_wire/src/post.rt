@@ -3,6 +3,7 @@
 ghost use Rattle.std.specs.Prelude.{◌≡◌};
 ghost use Rattle.hb_wire.specs.Addresses.{reaches};
 
+use crate::post_bytes::PostBytes;
 use crate::vote::To;
 use hb_base::Bytes;
 use std::alloc::AllocError;
@@ -18,7 +19,7 @@ pub struct Post {
     /// Where it goes.
     pub to: To,
     /// The bytes of a vote, or for a liar any bytes.
-    pub bytes: Bytes,
+    pub bytes: PostBytes,
 }
 
 impl Clone for Post {

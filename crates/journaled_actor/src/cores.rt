@@ -8,7 +8,7 @@ ghost use Rattle.journaled_actor.specs.Cores.{IsHearing};
 
 use hb_base::Config;
 use hb_rules::Due;
-use hb_wire::Vote;
+use hb_wire::{Spoken, Vote};
 use std::alloc::{AllocError, Global};
 
 /// The core of an actor: it hears votes, and says which votes are owed then. It posts nothing and keeps nothing that lasts.
@@ -51,7 +51,7 @@ pub trait Core: Drop {
         &mut self,
         alloc: Global,
         from: u8,
-        vote: &Vote,
+        vote: &Spoken,
         due: &mut Due,
     ) -> Result<(), AllocError>
         requires stands { (own : List Vote) × (heard : List Hearing) × stands self.old own heard }

@@ -38,7 +38,7 @@ fn hear_post<C: Core>(
     let heard = hear(alloc, &core.config(), post, core.node(), core.actor())?;
     match heard {
         None => Ok(()),
-        Some(heard) => core.hear(alloc, heard.from, &heard.vote, due),
+        Some(heard) => core.hear(alloc, heard.from, &heard.spoken, due),
     }
 }
 

@@ -127,7 +127,7 @@ fn said(alloc: Global, config: &Config, bytes: &[u8]) -> Result<Heard, Fail>
             return Err("a wrong branch".into());
         }
     }
-    Ok(Heard { from: 0, vote })
+    Ok(Heard::new(0, vote))
 }
 
 // Votes that are heard, told by words.

@@ -3,7 +3,7 @@
 
 use hb_base::{Bytes, Config, NodeSet};
 use hb_rules::Report;
-use hb_wire::{Post, To};
+use hb_wire::{Post, PostBytes, To};
 use rbc_world::delivered_agree;
 use std::alloc::{AllocError, Global};
 use std::test::Fail;
@@ -116,7 +116,7 @@ fn report_of(alloc: Global, config: Config, rows: Rows) -> Result<Report, AllocE
             from,
             actor,
             to: To::Home,
-            bytes: bytes_of(alloc, kind, epoch, byte)?,
+            bytes: PostBytes::plain(bytes_of(alloc, kind, epoch, byte)?),
         })?;
     }
     Ok(report)

@@ -5,7 +5,7 @@ use acs_world::{batches_ok, common_epochs, comparable, unaltered};
 use disk_model::{MemoryDisk, Plan, Power};
 use hb_base::{Bytes, Config, NodeSet};
 use hb_rules::{End, Fate, Report};
-use hb_wire::{Post, To};
+use hb_wire::{Post, PostBytes, To};
 use std::alloc::{AllocError, Global};
 use std::test::Fail;
 
@@ -242,7 +242,7 @@ fn post_of(alloc: Global, word: &str) -> Result<Post, Fail> {
                 from: digit(*node),
                 actor,
                 to: To::Home,
-                bytes,
+                bytes: PostBytes::plain(bytes),
             })
         }
         _ => Err("no post".into()),

@@ -3,7 +3,7 @@
 use crate::callers::count_accused;
 use accuse::{Accusation, accuse};
 use hb_base::{Bytes, Config, NodeSet};
-use hb_wire::{Post, To};
+use hb_wire::{Post, PostBytes, To};
 use std::alloc::Global;
 use std::process::Abort;
 use std::test::Fail;
@@ -55,7 +55,7 @@ fn post_of(alloc: Global, word: &str) -> Result<Post, Fail> {
             from: *from,
             actor: *actor,
             to: To::All,
-            bytes: Bytes::copy(alloc, rest)?,
+            bytes: PostBytes::plain(Bytes::copy(alloc, rest)?),
         }),
         _ => Err("no post".into()),
     }

@@ -4,7 +4,7 @@
 ghost use Rattle.std.specs.Prelude.{◌≡◌, IfOk};
 
 use hb_base::{Bytes, Config, NodeSet};
-use hb_wire::{Post, To};
+use hb_wire::{Post, PostBytes, To};
 use history_verdict::Judge;
 use post_judge::HistoryJudge;
 use std::alloc::Global;
@@ -260,7 +260,7 @@ fn judged(alloc: Global, judge: &mut HistoryJudge, line: &Line) -> Result<bool, 
         from,
         actor,
         to,
-        bytes,
+        bytes: PostBytes::plain(bytes),
     };
     Ok(judge.judge(&post)?)
 }

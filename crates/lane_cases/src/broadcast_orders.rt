@@ -5,7 +5,7 @@ ghost use Rattle.merkle_branch.specs.Digests.{leaf_digests};
 use crate::broadcasts::{SIZES, are, config_of, hear_echo, vals_of, value_of};
 use hb_base::{Bytes, Config};
 use hb_rules::Due;
-use hb_wire::Vote;
+use hb_wire::{Spoken, Vote};
 use merkle_branch::{MAX_HEIGHT, Tree};
 use rbc_core::{Rbc, tree_over};
 use rs_shards::encode;
@@ -21,7 +21,7 @@ fn due_by_val(alloc: Global, config: &Config, node: u8, val: &Vote) -> Result<Du
     let mut rbc = Rbc::rebuild(alloc, config, node, 0, 0, &[])?;
     let mut due = Due::new(alloc);
     match val {
-        Vote::Val { .. } => rbc.hear(alloc, 0, val, &mut due)?,
+        Vote::Val { .. } => rbc.hear(alloc, 0, &Spoken::plain(val.clone()?), &mut due)?,
         _ => return Err("no Val".into()),
     }
     Ok(due)
@@ -198,7 +198,8 @@ fn order_holds(
         if order[place] < 4 {
             hear_echo(alloc, &mut rbc, from, from, tree, shards, &mut due)?;
         } else {
-            rbc.hear(alloc, from, &Vote::Ready { epoch: 0, root }, &mut due)?;
+            let vote = Spoken::plain(Vote::Ready { epoch: 0, root });
+            rbc.hear(alloc, from, &vote, &mut due)?;
         }
         if !is_as_wanted(&rbc, &due, &root, value, &order[..place + 1]) {
             return Ok(false);

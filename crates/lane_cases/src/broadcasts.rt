@@ -7,7 +7,7 @@ ghost use Rattle.rbc_core.specs.Broadcast.{place_of};
 
 use hb_base::{Bytes, Config, NodeSet};
 use hb_rules::Due;
-use hb_wire::Vote;
+use hb_wire::{Spoken, Vote};
 use merkle_branch::{Tree, is_branch};
 use rbc_core::{Check, Rbc, check, tree_over};
 use rs_shards::encode;
@@ -103,7 +103,8 @@ pub(crate) fn vals_of(alloc: Global, config: &Config, value: Bytes) -> Result<Du
     prove!(0 < n);
     let mut rbc = Rbc::rebuild(alloc, config, 0, 0, 0, &[])?;
     let mut due = Due::new(alloc);
-    rbc.hear(alloc, 0, &Vote::Propose { epoch: 0, value }, &mut due)?;
+    let vote = Spoken::plain(Vote::Propose { epoch: 0, value });
+    rbc.hear(alloc, 0, &vote, &mut due)?;
     Ok(due)
 }
 
@@ -188,7 +189,7 @@ pub(crate) fn hear_echo(
         shard,
         branch,
     };
-    rbc.hear(alloc, from, &vote, due)?;
+    rbc.hear(alloc, from, &Spoken::plain(vote), due)?;
     Ok(())
 }
 
@@ -216,7 +217,8 @@ fn due_after(
     let root = tree.root();
     for from in readies {
         if *from < n {
-            rbc.hear(alloc, *from, &Vote::Ready { epoch: 0, root }, &mut due)?;
+            let vote = Spoken::plain(Vote::Ready { epoch: 0, root });
+            rbc.hear(alloc, *from, &vote, &mut due)?;
         }
     }
     Ok(due)

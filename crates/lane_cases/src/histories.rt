@@ -3,7 +3,7 @@
 use aba_world::decided_agree;
 use hb_base::{Bytes, Config, NodeSet};
 use hb_rules::Report;
-use hb_wire::{Post, To};
+use hb_wire::{Post, PostBytes, To};
 use std::alloc::{AllocError, Global};
 use std::test::Fail;
 
@@ -86,7 +86,7 @@ fn post_of(alloc: Global, text: &[u8]) -> Result<Post, Fail> {
             from: value_of(from),
             actor: value_of(actor),
             to: To::Home,
-            bytes: bytes_of(alloc, [kind, epoch, round, bit])?,
+            bytes: PostBytes::plain(bytes_of(alloc, [kind, epoch, round, bit])?),
         }),
         _ => Err("no post".into()),
     }

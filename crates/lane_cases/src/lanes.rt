@@ -6,7 +6,7 @@ ghost use Rattle.rbc_core.specs.Broadcast.{IsShort};
 use coin_deal::deal;
 use hb_base::{Bytes, Config, NodeSet};
 use hb_rules::Due;
-use hb_wire::{To, Vals, Vote};
+use hb_wire::{Spoken, To, Vals, Vote};
 use lane_core::LaneCore;
 use std::alloc::{AllocError, Global};
 use std::sync::Arc;
@@ -164,8 +164,8 @@ impl Node {
         if sent.from >= self.n || !is_short(&sent.vote) {
             return Err("no vote".into());
         }
-        self.lane
-            .hear_vote(alloc, sent.from, &sent.vote, &mut self.due)?;
+        let vote = Spoken::plain(sent.vote.clone()?);
+        self.lane.hear_vote(alloc, sent.from, &vote, &mut self.due)?;
         for vote in self.due.votes() {
             self.cast.push(vote.clone()?)?;
             posts.push(Sent {

@@ -15,7 +15,7 @@ use aba_core::Aba;
 use coin_deal::Deal;
 use hb_base::Config;
 use hb_rules::Due;
-use hb_wire::Vote;
+use hb_wire::{Spoken, Vote};
 use rbc_core::Rbc;
 use std::alloc::{AllocError, Global};
 use std::sync::Arc;
@@ -61,7 +61,7 @@ impl Cores {
         &mut self,
         alloc: Global,
         from: u8,
-        vote: &Vote,
+        vote: &Spoken,
         due: &mut Due,
     ) -> Result<(), AllocError>
         requires from { IsNodeOf self.old from }
@@ -87,7 +87,7 @@ impl Cores {
         &mut self,
         alloc: Global,
         from: u8,
-        vote: &Vote,
+        vote: &Spoken,
         due: &mut Due,
     ) -> Result<(), AllocError>
         requires from { IsNodeOf self.old from }
@@ -109,7 +109,7 @@ impl Cores {
     }
 
     // Hears a vote of the agreement, or that the own node's desk wants no more lanes.
-    fn hear_agreement(&mut self, from: u8, vote: &Vote, due: &mut Due) -> Result<(), AllocError>
+    fn hear_agreement(&mut self, from: u8, vote: &Spoken, due: &mut Due) -> Result<(), AllocError>
         requires from { IsNodeOf self.old from }
         requires kind { is_for_agreement vote.now ≡ true }
         requires other { is_for_broadcast vote.now ≡ false }
@@ -118,16 +118,16 @@ impl Cores {
         ensures at { StayAt self.old self.new }
         ensures room { IsOk result }
     {
-        self.aba.hear(from, vote, due)
+        self.aba.hear(from, vote.vote(), due)
     }
 }
 
 /// Whether the broadcast of its epoch hears a vote.
-pub(crate) fn is_for_broadcast(vote: &Vote) -> bool
+pub(crate) fn is_for_broadcast(vote: &Spoken) -> bool
     ensures { result ≡ is_for_broadcast vote.now }
 {
     matches!(
-        vote,
+        vote.vote(),
         Vote::Val { .. }
             | Vote::Echo { .. }
             | Vote::Ready { .. }
@@ -137,11 +137,11 @@ pub(crate) fn is_for_broadcast(vote: &Vote) -> bool
 }
 
 // Whether the agreement of its epoch hears a vote.
-fn is_for_agreement(vote: &Vote) -> bool
+fn is_for_agreement(vote: &Spoken) -> bool
     ensures { result ≡ is_for_agreement vote.now }
 {
     matches!(
-        vote,
+        vote.vote(),
         Vote::Est { .. }
             | Vote::Bval { .. }
             | Vote::Aux { .. }

@@ -17,7 +17,7 @@ use crate::cores::{Cores, is_for_broadcast};
 use coin_deal::Deal;
 use hb_base::Config;
 use hb_rules::{Due, term_laws};
-use hb_wire::Vote;
+use hb_wire::{Spoken, Vote};
 use journaled_actor::Core;
 use std::alloc::{AllocError, Global};
 use std::marker::Model;
@@ -97,7 +97,7 @@ impl LaneCore {
         &mut self,
         alloc: Global,
         from: u8,
-        vote: &Vote,
+        vote: &Spoken,
         due: &mut Due,
     ) -> Result<(), AllocError>
         requires from { from < self.old.config.n }
@@ -119,7 +119,7 @@ impl LaneCore {
     }
 
     // How many votes one that is heard makes due at most.
-    fn room(&self, vote: &Vote) -> u32
+    fn room(&self, vote: &Spoken) -> u32
         ensures { result ≡ room_by self.now vote.now }
     {
         let agreement = 7 * self.config.rounds() as u32 + 1;
@@ -166,7 +166,7 @@ impl LaneCore {
         &mut self,
         alloc: Global,
         from: u8,
-        vote: &Vote,
+        vote: &Spoken,
         due: &mut Due,
     ) -> Result<(), AllocError>
         requires cores { is_open self.old (epoch_of vote.now) ≡ true }
@@ -253,7 +253,7 @@ impl Core for LaneCore {
         &mut self,
         alloc: Global,
         from: u8,
-        vote: &Vote,
+        vote: &Spoken,
         due: &mut Due,
     ) -> Result<(), AllocError> {
         self.hear_vote(alloc, from, vote, due)
@@ -295,7 +295,7 @@ fn hear_in(
     alloc: Global,
     epochs: &mut [Option<Cores>],
     from: u8,
-    vote: &Vote,
+    vote: &Spoken,
     due: &mut Due,
 ) -> Result<(), AllocError>
     requires cores { IsOpenFor (cores_at epochs.old (epoch_of vote.now)) from }
@@ -319,7 +319,7 @@ fn hear_at(
     alloc: Global,
     place: &mut Option<Cores>,
     from: u8,
-    vote: &Vote,
+    vote: &Spoken,
     due: &mut Due,
 ) -> Result<(), AllocError>
     requires cores { IsOpenFor place.old from }

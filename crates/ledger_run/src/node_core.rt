@@ -4,7 +4,7 @@ ghost use Rattle.ledger_run.specs.Cores.{core_terms, core_stands};
 use desk_core::DeskCore;
 use hb_base::Config;
 use hb_rules::Due;
-use hb_wire::Vote;
+use hb_wire::{Spoken, Vote};
 use journaled_actor::Core;
 use lane_core::LaneCore;
 use std::alloc::{AllocError, Global};
@@ -62,7 +62,7 @@ impl Core for NodeCore {
         &mut self,
         alloc: Global,
         from: u8,
-        vote: &Vote,
+        vote: &Spoken,
         due: &mut Due,
     ) -> Result<(), AllocError> {
         match self {

@@ -6,7 +6,7 @@ mod said;
 mod vals;
 
 use hb_base::{Bytes, Config, NodeSet};
-use hb_wire::{Lie, Post, To};
+use hb_wire::{Lie, Post, PostBytes, To};
 use liar_cast::{Kind, Liar, LiarSeat, Lies, all_names, cast};
 use std::alloc::{AllocError, Global};
 use std::test::*;

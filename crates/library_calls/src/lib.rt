@@ -102,7 +102,7 @@ pub fn coin(
         share,
         salt,
         branch,
-    } = deal.share_of(alloc, epoch, lane, round, node)?;
+    } = deal.dealt_to(epoch, lane, round, node);
     let vote = Vote::Coin {
         epoch,
         round,
@@ -182,7 +182,7 @@ fn hear(
 ) -> Result<(), AllocError>
     ensures { OnOk result (votes.new.items ≡ votes.old.items ++ option_to_list (vote_at config.now.n config.now.version post.now.bytes)) }
 {
-    match read_shared(alloc, config.n(), config.version(), &post.bytes) {
+    match read_shared(alloc, config.n(), config.version(), post.bytes.as_bytes()) {
         Ok(vote) => {
             votes.push(vote)?;
             Ok(())

@@ -7,7 +7,7 @@ ghost use Rattle.hb_base.specs.Numbers.{numbers};
 use super::*;
 use coin_deal::deal;
 use hb_base::NodeSet;
-use hb_wire::To;
+use hb_wire::{PostBytes, To};
 use std::process::Abort;
 use std::test::Fail;
 
@@ -81,7 +81,7 @@ fn three_posts(alloc: Global) -> Result<Vec<Post>, AllocError> {
             from: 0,
             actor: 0,
             to: To::All,
-            bytes,
+            bytes: PostBytes::plain(bytes),
         })?;
     }
     Ok(posts)

@@ -93,12 +93,13 @@ impl Observer {
         let Some(epoch) = claimed_epoch(&self.config, post) else {
             return Ok(Heard::Nothing);
         };
-        let mut nodes = self.claims.nodes(&post.bytes);
+        let bytes = post.bytes.as_bytes();
+        let mut nodes = self.claims.nodes(bytes);
         if nodes.has(post.from) {
             return Ok(Heard::Nothing);
         }
         nodes.add(post.from);
-        self.count(epoch, nodes, &post.bytes)?;
+        self.count(epoch, nodes, bytes)?;
         Ok(Heard::Counted)
     }
 

@@ -10,7 +10,7 @@ ghost use Rattle.hb_rules.specs.Book.{post_of, lie_of};
 use crate::naming::Naming;
 use hb_base::{Bytes, Config};
 use hb_rules::{BookFault, Posts};
-use hb_wire::{Post, To, Vote};
+use hb_wire::{Post, PostBytes, To, Vote};
 use std::alloc::{AllocError, Global};
 use std::marker::{Model, PhantomData};
 use turn_book::History;
@@ -74,7 +74,7 @@ impl<J: Naming> NamedPosts<J> {
         node: u8,
         actor: u8,
         vote: &Vote,
-        bytes: Result<Bytes, AllocError>,
+        bytes: Result<PostBytes, AllocError>,
     ) -> Result<u32, BookFault>
         requires known { node < J.config.n }
         requires spelled { IfOk bytes (λ b. Spells J.config.n J.config.version b vote.now) }

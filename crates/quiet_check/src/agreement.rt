@@ -39,7 +39,7 @@ pub(crate) fn is_agreement_idle(
     )?;
     for said in heard {
         if said.from < n {
-            aba.note(said.from, &said.vote);
+            aba.note(said.from, said.spoken.vote());
         }
     }
     aba.is_idle(alloc)

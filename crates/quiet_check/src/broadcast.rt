@@ -40,7 +40,7 @@ pub(crate) fn is_broadcast_idle(
         if said.from >= n {
             continue;
         }
-        rbc.hear(alloc, said.from, &said.vote, &mut due)?;
+        rbc.hear(alloc, said.from, &said.spoken, &mut due)?;
         let made = due.votes().len();
         if made > 0 {
             return Ok(false);

@@ -64,7 +64,7 @@ fn decided_by(epoch: u8, lane: u8, said: &Heard) -> Option<bool>
     if said.from != lane {
         return None;
     }
-    match &said.vote {
+    match said.vote() {
         Vote::Decided { epoch: other, bit } if *other == epoch => Some(*bit),
         _ => None,
     }
@@ -87,9 +87,7 @@ fn decision_of(epoch: u8, lane: u8, heard: &[Heard]) -> Option<bool>
 fn has_delivered(epoch: u8, lane: u8, heard: &[Heard]) -> bool
     ensures { result ≡ heard_by heard.now lane (is_any_delivery epoch) }
 {
-    heard
-        .iter()
-        .any(|said| said.from == lane && is_delivery(epoch, &said.vote))
+    heard.iter().any(|said| said.from == lane && is_delivery(epoch, said.vote()))
 }
 
 fn is_delivery(epoch: u8, vote: &Vote) -> bool

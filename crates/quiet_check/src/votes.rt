@@ -36,7 +36,7 @@ fn vote_by(
     if post.from != node || post.actor != actor {
         return Ok(None);
     }
-    match read_shared(alloc, config.n(), config.version(), &post.bytes) {
+    match read_shared(alloc, config.n(), config.version(), post.bytes.as_bytes()) {
         Ok(vote) => Ok(Some(vote)),
         Err(WireFault::NotAMessage) => Ok(None),
         Err(WireFault::Memory) => Err(AllocError),

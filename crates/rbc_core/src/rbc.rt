@@ -23,7 +23,7 @@ use crate::checking::tree_over;
 use crate::roots::{Roots, copy_of};
 use hb_base::{Bytes, Config, NodeSet};
 use hb_rules::Due;
-use hb_wire::Vote;
+use hb_wire::{Spoken, Vote};
 use merkle_branch::{Branch, Tree, is_branch};
 use rs_shards::encode;
 use std::alloc::{AllocError, Global};
@@ -116,7 +116,7 @@ impl Rbc {
         &mut self,
         alloc: Global,
         from: u8,
-        vote: &Vote,
+        vote: &Spoken,
         due: &mut Due,
     ) -> Result<(), AllocError>
         requires from { from < (place_of self.old).config.n }
@@ -130,7 +130,7 @@ impl Rbc {
         if vote.epoch() != self.epoch {
             return Ok(());
         }
-        match vote {
+        match vote.vote() {
             Vote::Propose { value, .. } => self.hear_proposal(alloc, from, value, due),
             Vote::Val {
                 target,
@@ -144,7 +144,11 @@ impl Rbc {
                 shard,
                 branch,
                 ..
-            } => self.hear_echo(alloc, from, root, shard, branch, due),
+            } => {
+                let n = self.roots.config().n();
+                let is_valid = vote.is_valid_echo(n, from);
+                self.hear_echo(alloc, from, is_valid, root, shard, branch, due)
+            }
             Vote::Ready { root, .. } => self.hear_ready(alloc, from, root, due),
             _ => Ok(()),
         }
@@ -259,12 +263,15 @@ impl Rbc {
         &mut self,
         alloc: Global,
         from: u8,
+        is_valid: bool,
         root: &[u8; 32],
         shard: &Bytes,
         branch: &Branch,
         due: &mut Due,
     ) -> Result<(), AllocError>
         requires from { from < (place_of self.old).config.n }
+        requires few { (place_of self.old).config.n ≤ most_nodes }
+        requires valid { is_valid ≡ is_branch root.now (place_of self.old).config.n from shard.now branch.now }
         requires short { length shard.now < 2 ^ 32 }
         ensures ok { OnOk result (Hears self.old self.new
             (hearing from (Echo self.old.epoch root.now shard.now branch.now)) due.old.votes due.new.votes) }
@@ -272,7 +279,7 @@ impl Rbc {
         ensures due { OnErr result (due.new.votes ≡ due.old.votes) }
         ensures room { due.old.spare ≤ due.new.spare + 2 }
     {
-        if !self.is_valid(from, root, shard, branch) {
+        if !is_valid {
             return Ok(());
         }
         let counts = self.roots.counts(root, from);

@@ -117,7 +117,7 @@ fn is_delivered_by(
     if !is_correct {
         return Ok(false);
     }
-    match &said.vote {
+    match said.vote() {
         Vote::Ready { epoch: other, root } if *other == epoch => {
             is_carried(alloc, known, lane, epoch, heard, value, root)
         }

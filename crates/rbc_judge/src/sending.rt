@@ -35,7 +35,7 @@ fn is_source(
     if said.from != lane.node {
         return Ok(false);
     }
-    match &said.vote {
+    match said.vote() {
         Vote::Propose {
             epoch: other,
             value,
@@ -107,7 +107,7 @@ fn was_heard(from: u8, vote: &Vote, heard: &[Heard]) -> bool
 {
     heard
         .iter()
-        .any(|said| said.from == from && *vote == said.vote)
+        .any(|said| said.from == from && vote == said.vote())
 }
 
 // Whether a node may echo a shard: the sender has handed it to the node, its branch is right, and the node has echoed none yet.

@@ -20,7 +20,7 @@ fn shard_in<'a>(epoch: u8, root: &[u8; 32], said: &'a Heard) -> Option<&'a Bytes
     ensures { (n : ℕ) → is_checked n said.now.from said.now.vote ≡ true
         → option_map (λ shard. (said.now.from, shard)) (option_copied result) ≡ shard_of n epoch root.now said.now }
 {
-    match &said.vote {
+    match said.vote() {
         Vote::Echo {
             epoch: other,
             root: shown,

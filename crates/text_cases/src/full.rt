@@ -3,7 +3,7 @@
 use crate::reports::{Told, report_of};
 use hb_base::{Bytes, MemorySink};
 use hb_rules::Report;
-use hb_wire::{Post, To};
+use hb_wire::{Post, PostBytes, To};
 use ledger_text::print_run;
 use std::alloc::{AllocError, Global};
 use std::process::Abort;
@@ -36,7 +36,7 @@ fn post(bytes: Bytes) -> Post {
         from: 0,
         actor: 16,
         to: To::Book,
-        bytes,
+        bytes: PostBytes::plain(bytes),
     }
 }
 

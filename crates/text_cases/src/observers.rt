@@ -3,7 +3,7 @@
 use crate::reports::{Told, report_of};
 use hb_base::{Bytes, Config, NodeSet};
 use hb_rules::Report;
-use hb_wire::{Post, To};
+use hb_wire::{Post, PostBytes, To};
 use net_script::{Link, Shape};
 use observer::{Heard, Observer, observers_agree};
 use std::alloc::{AllocError, Global};
@@ -111,7 +111,7 @@ fn post_of(alloc: Global, bytes: &[u8]) -> Result<Post, AllocError> {
         from: 0,
         actor: 4,
         to: To::Book,
-        bytes: Bytes::copy(alloc, bytes)?,
+        bytes: PostBytes::plain(Bytes::copy(alloc, bytes)?),
     })
 }
 

@@ -4,7 +4,7 @@ use crate::observers::{EVERY_TO_TWO, run_of};
 use crate::reports::{failing_sink, lines};
 use hb_base::{Bytes, Config, MemorySink, NodeSet};
 use hb_rules::Report;
-use hb_wire::{Post, To};
+use hb_wire::{Post, PostBytes, To};
 use observer_text::{ObserveFault, print_observe};
 use std::alloc::{AllocError, Global};
 use std::test::Fail;
@@ -129,7 +129,10 @@ fn one_node(alloc: Global) -> Result<Report, Fail> {
         from: 0,
         actor: 1,
         to: To::Book,
-        bytes: Bytes::copy(alloc, b"\x12\x00\x01\x00\x00\x00\x00\x06\x00\x01\x00\x02hi")?,
+        bytes: PostBytes::plain(Bytes::copy(
+            alloc,
+            b"\x12\x00\x01\x00\x00\x00\x00\x06\x00\x01\x00\x02hi",
+        )?),
     })?;
     Ok(report)
 }

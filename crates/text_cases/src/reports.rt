@@ -3,7 +3,7 @@
 use disk_model::{MemoryDisk, Note, Plan, Power};
 use hb_base::{Bytes, Config, MemorySink, NodeSet};
 use hb_rules::{End, Fate, Report};
-use hb_wire::{Post, To};
+use hb_wire::{Post, PostBytes, To};
 use std::alloc::{AllocError, Global};
 use std::test::Fail;
 
@@ -99,7 +99,7 @@ fn post_of(alloc: Global, nodes: u8, word: &str) -> Result<Post, Fail> {
                 from: digit(*node),
                 actor: if *actor == b'd' { nodes } else { digit(*actor) },
                 to: To::Home,
-                bytes,
+                bytes: PostBytes::plain(bytes),
             })
         }
         _ => Err("no post".into()),

@@ -3,7 +3,7 @@
 use disk_model::{MemoryDisk, Note, Plan, Power};
 use hb_base::{Bytes, Config, NodeSet};
 use hb_rules::{End, Fate, Report};
-use hb_wire::{Post, To};
+use hb_wire::{Post, PostBytes, To};
 use run_status::status;
 use std::alloc::{AllocError, Global};
 use std::process::Abort;
@@ -249,7 +249,7 @@ fn post_of(alloc: Global, word: &str) -> Result<Post, Fail> {
         from: number_of(node),
         actor: number_of(actor),
         to: To::Book,
-        bytes,
+        bytes: PostBytes::plain(bytes),
     })
 }
 

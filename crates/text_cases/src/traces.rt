@@ -3,7 +3,7 @@
 use crate::reports::{failing_sink, lines};
 use hb_base::{Bytes, Config, MemorySink, NodeSet};
 use hb_rules::Report;
-use hb_wire::{Post, To};
+use hb_wire::{Post, PostBytes, To};
 use std::alloc::Global;
 use std::process::Abort;
 use std::test::Fail;
@@ -18,7 +18,7 @@ fn report_of(alloc: Global, config: Config, posts: &[(u8, u8, To, &[u8])]) -> Re
             from: *from,
             actor: *actor,
             to: *to,
-            bytes: Bytes::copy(alloc, bytes)?,
+            bytes: PostBytes::plain(Bytes::copy(alloc, bytes)?),
         })?;
     }
     Ok(report)

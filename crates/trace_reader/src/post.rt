@@ -7,7 +7,7 @@ ghost use Rattle.trace_reader.specs.Reading.{end_at, node_at, address_at, words_
 use crate::hex_line::{bytes_of, line_at};
 use crate::words::{Field, after, byte_before};
 use hb_base::Bytes;
-use hb_wire::{Post, To};
+use hb_wire::{Post, PostBytes, To};
 use ledger_text::add_count;
 use script_fault::Line;
 use std::alloc::{AllocError, Global};
@@ -79,7 +79,7 @@ fn with_words(
                     from: words.from,
                     actor: words.actor,
                     to: words.to,
-                    bytes: Bytes::from_vec(bytes)?,
+                    bytes: PostBytes::plain(Bytes::from_vec(bytes)?),
                 };
                 Ok(Some((post, rest)))
             }

@@ -27,7 +27,13 @@ pub fn post_in_words(
 {
     let mut line = Vec::new(alloc);
     add_front(&mut line, k, post)?;
-    add_said(&mut line, detail, config.n(), config.version(), &post.bytes)?;
+    add_said(
+        &mut line,
+        detail,
+        config.n(),
+        config.version(),
+        post.bytes.as_bytes(),
+    )?;
     add_word(&mut line, "\n")?;
     Ok(line)
 }

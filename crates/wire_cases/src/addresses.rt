@@ -11,7 +11,7 @@ fn post(alloc: Global, actor: u8, to: To) -> Result<Post, AllocError> {
         from: 1,
         actor,
         to,
-        bytes: Bytes::copy(alloc, b"")?,
+        bytes: PostBytes::plain(Bytes::copy(alloc, b"")?),
     })
 }
 

@@ -16,6 +16,8 @@ mod callers;
 #[cfg(test)]
 mod malformed;
 #[cfg(test)]
+mod post_bytes;
+#[cfg(test)]
 mod probes;
 #[cfg(test)]
 mod spellings;

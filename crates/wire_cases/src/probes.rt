@@ -4,7 +4,7 @@ ghost use Rattle.std.specs.Prelude.{◌≡◌, ◌<◌, length, IfOk};
 
 use crate::callers::{deliver, hear, propose, ready, show};
 use hb_base::{Bytes, Config, NodeSet};
-use hb_wire::{Post, To, VoteView, batch_len, read_batch, view};
+use hb_wire::{Post, PostBytes, To, VoteView, batch_len, read_batch, view};
 use merkle_branch::{Leaves, Tree, is_branch};
 use std::alloc::{AllocError, Global};
 use std::test::*;
@@ -111,7 +111,7 @@ fn post(alloc: Global, text: &str) -> Result<Post, Fail> {
         from: 2,
         actor: 0,
         to: To::All,
-        bytes: Bytes::copy(alloc, &bytes)?,
+        bytes: PostBytes::plain(Bytes::copy(alloc, &bytes)?),
     })
 }
 

@@ -90,7 +90,7 @@ fn post_of(alloc: Global, k: u32) -> Result<Post, AllocError> {
         from: 1,
         actor: (place % 16) as u8,
         to: To::All,
-        bytes,
+        bytes: PostBytes::plain(bytes),
     })
 }
 

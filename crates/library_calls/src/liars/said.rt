@@ -212,7 +212,7 @@ fn add_heard(
             from: sender(me, actor, from)?,
             actor,
             to: To::All,
-            bytes: bytes_of(alloc, n, text)?,
+            bytes: PostBytes::plain(bytes_of(alloc, n, text)?),
         };
         liar.hear(alloc, me, &post, lies);
         add_line(alloc, lines, lies)?;

@@ -15,7 +15,7 @@ pub loop-said-preserved : goal.loop-said-preserved
 loop-said-preserved c =
     let p : Place = record { config = c.args.place.now.config; node = c.args.place.now.node; lane = c.args.place.now.lane; epoch = c.args.place.now.epoch } in
     let before : List Hearing = take c.loop-said.said-index c.args.heard.now in
-    let h : Hearing = record { from = c.said.inside.from; vote = c.said.inside.vote } in
+    let h : Hearing = record { from = c.said.inside.from; vote = c.said.inside.spoken } in
     let more : before ++ h ∷ [] ≡ take (c.loop-said.said-index + 1) c.args.heard.now =
     ap (λ (h : Hearing). before ++ h ∷ []) (c.said.view_is ∙ c.said-item.is)
     ∙ sym (take_more c.args.heard.now c.loop-said.said-index c.said-item.result c.loop-said-test.true) in
@@ -25,7 +25,7 @@ loop-said-preserved c =
           subst (λ (a : AbaView). HasNoted a p c.args.own.now (before ++ h ∷ [])) (sym w.aba-is)
           (noted_inside c.loop-said.aba w.note.new.self p c.args.own.now before h c.loop-said.invariant
           (lt-ltb c.said.inside.from c.args.place.now.config.n (omega (arith, w.if-said-n.true, c.n-n.ensures.value)))
-          (record { place = w.note.ensures.place; shows = w.note.ensures.shows }))
+          (record { place = w.note.ensures.place; shows = rw w.vote.ensures at w.note.ensures.shows }))
       | else-said-n w ↦
           subst (λ (a : AbaView). HasNoted a p c.args.own.now (before ++ h ∷ [])) (sym w.aba-is)
           (noted_outside c.loop-said.aba p c.args.own.now before h c.loop-said.invariant

@@ -17,7 +17,7 @@ pub loop-said-preserved-then-said-n : goal.loop-said-preserved-then-said-n
 loop-said-preserved-then-said-n c =
     let p : Place = record { config = c.args.place.now.config; node = c.args.place.now.node; lane = c.args.place.now.lane; epoch = c.args.place.now.epoch } in
     let before : List Hearing = take c.loop-said.said-index c.args.heard.now in
-    let h : Hearing = record { from = c.said.inside.from; vote = c.said.inside.vote } in
+    let h : Hearing = record { from = c.said.inside.from; vote = c.said.inside.spoken } in
     let more : before ++ h ∷ [] ≡ take (c.loop-said.said-index + 1) c.args.heard.now =
     ap (λ (h : Hearing). before ++ h ∷ []) (c.said.view_is ∙ c.said-item.is)
     ∙ sym (take_more c.args.heard.now c.loop-said.said-index c.said-item.result c.loop-said-test.true) in
@@ -29,7 +29,7 @@ pub loop-said-preserved : goal.loop-said-preserved
 loop-said-preserved c =
     let p : Place = record { config = c.args.place.now.config; node = c.args.place.now.node; lane = c.args.place.now.lane; epoch = c.args.place.now.epoch } in
     let before : List Hearing = take c.loop-said.said-index c.args.heard.now in
-    let h : Hearing = record { from = c.said.inside.from; vote = c.said.inside.vote } in
+    let h : Hearing = record { from = c.said.inside.from; vote = c.said.inside.spoken } in
     let more : before ++ h ∷ [] ≡ take (c.loop-said.said-index + 1) c.args.heard.now =
     ap (λ (h : Hearing). before ++ h ∷ []) (c.said.view_is ∙ c.said-item.is)
     ∙ sym (take_more c.args.heard.now c.loop-said.said-index c.said-item.result c.loop-said-test.true) in
@@ -42,7 +42,7 @@ pub returns-then-made-gt0 : goal.returns-then-made-gt0
 returns-then-made-gt0 c =
     let p : Place = record { config = c.args.place.now.config; node = c.args.place.now.node; lane = c.args.place.now.lane; epoch = c.args.place.now.epoch } in
     let before : List Hearing = take c.loop-said.said-index c.args.heard.now in
-    let h : Hearing = record { from = c.said.inside.from; vote = c.said.inside.vote } in
+    let h : Hearing = record { from = c.said.inside.from; vote = c.said.inside.spoken } in
     let later : List Hearing = drop (c.loop-said.said-index + 1) c.args.heard.now in
     let more : before ++ h ∷ [] ≡ take (c.loop-said.said-index + 1) c.args.heard.now =
     ap (λ (h : Hearing). before ++ h ∷ []) (c.said.view_is ∙ c.said-item.is)

@@ -13,7 +13,7 @@ returns-clause-owed c =
     on_ok c.hear.result _ _
     (hears_owed c.args.self.now c.in-Some.epochs c.hear.new.self (hearing c.args.from c.args.vote.now) c.args.due.now.votes c.hear.new.due.votes
     c.slot_laws.ensures.unique c.desk_slot_laws.ensures.owed (there c))
-    c.hear.ensures.ok
+    (rw c.vote.ensures at c.hear.ensures.ok)
 
 pub returns-clause-stands : goal.returns-clause-stands
 returns-clause-stands c =
@@ -25,4 +25,4 @@ returns-clause-stands c =
     (sym c.self.view_is)
     (hears_stands d c.in-Some.epochs c.hear.new.self h c.args.due.now.votes c.hear.new.due.votes
     c.slot_laws.ensures.unique c.desk_slot_laws.ensures.owed (there c) hears own heard stands))
-    c.hear.ensures.ok
+    (rw c.vote.ensures at c.hear.ensures.ok)

@@ -11,7 +11,7 @@ returns-clause-ok c =
     (λ hears n i j at.
     HearsOne-agreed n i j (epoch_of c.args.vote.now) c.args.self.now _ (hearing c.args.from c.args.vote.now) c.args.due.now.votes c.hear.new.due.votes at
     c.requires.other c.requires.kind refl hears)
-    c.hear.ensures.ok
+    (rw c.vote.ensures at c.hear.ensures.ok)
 
 pub returns-clause-room : goal.returns-clause-room
 returns-clause-room c = c.hear.ensures.room (agreement_fits c.args.self.now c.args.vote.now c.args.due.now.spare c.requires.room)

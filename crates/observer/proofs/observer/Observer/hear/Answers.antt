@@ -21,7 +21,7 @@ pub returns-then-has-clause-heard : goal.returns-then-has-clause-heard
 returns-then-has-clause-heard c =
     let claim : Closure = (c.in-Some.epoch, c.in-Some.ensures.some.0) in
     let among : is_in (nodes_at c.self.inside.claims c.args.post.now.bytes) c.args.post.now.from ≡ true =
-    ap (λ (set : List Bool). is_in set c.args.post.now.from) (sym c.nodes-nodes.ensures) ∙ sym c.has.ensures ∙ c.if-has.true in
+    ap (λ (set : List Bool). is_in set c.args.post.now.from) (sym (rw c.as_bytes-bytes.ensures at c.nodes-nodes.ensures)) ∙ sym c.has.ensures ∙ c.if-has.true in
     rw (← c.self.view_is) (λ heard has.
     heard_nothing _ heard c.args.post.now has (node_known _ heard c.args.post.now claim has c.in-Some.ensures.some.1 among))
 
@@ -29,7 +29,7 @@ pub returns-then-has-clause-exact : goal.returns-then-has-clause-exact
 returns-then-has-clause-exact c =
     let claim : Closure = (c.in-Some.epoch, c.in-Some.ensures.some.0) in
     let among : is_in (nodes_at c.self.inside.claims c.args.post.now.bytes) c.args.post.now.from ≡ true =
-    ap (λ (set : List Bool). is_in set c.args.post.now.from) (sym c.nodes-nodes.ensures) ∙ sym c.has.ensures ∙ c.if-has.true in
+    ap (λ (set : List Bool). is_in set c.args.post.now.from) (sym (rw c.as_bytes-bytes.ensures at c.nodes-nodes.ensures)) ∙ sym c.has.ensures ∙ c.if-has.true in
     rw (← c.self.view_is) (λ heard has.
     ap (λ (b : Bool). if b then Counted else Nothing) (sym (node_known _ heard c.args.post.now claim has c.in-Some.ensures.some.1 among)))
 
@@ -39,9 +39,9 @@ returns-clause-heard c =
     let post : Post = c.args.post.now in
     let claim : Closure = (c.in-Some.epoch, c.in-Some.ensures.some.0) in
     let missing : is_in (nodes_at c.self.inside.claims post.bytes) post.from ≡ false =
-    ap (λ (set : List Bool). is_in set post.from) (sym c.nodes-nodes.ensures) ∙ sym c.has.ensures ∙ c.if-has.false in
+    ap (λ (set : List Bool). is_in set post.from) (sym (rw c.as_bytes-bytes.ensures at c.nodes-nodes.ensures)) ∙ sym c.has.ensures ∙ c.if-has.false in
     let nodes : c.nodes-nodes.result ≡ nodes_at o.claims post.bytes =
-    c.nodes-nodes.ensures ∙ ap (λ (x : ObserverView). nodes_at x.claims post.bytes) c.self.view_is in
+    (rw c.as_bytes-bytes.ensures at c.nodes-nodes.ensures) ∙ ap (λ (x : ObserverView). nodes_at x.claims post.bytes) c.self.view_is in
     λ heard has.
     counted_self o c.count.new.self heard post claim c.add.new.self
     (subst (λ (x : ObserverView). x.config.n ≤ most_nodes) c.self.view_is c.liars-sound.ensures.sound.nodes.1)
@@ -50,13 +50,13 @@ returns-clause-heard c =
       claims = subst (λ (x : ObserverView). claim_of x.config post ≡ Some claim) c.self.view_is c.in-Some.ensures.some.1;
       new = subst (λ (x : ObserverView). is_in (nodes_at x.claims post.bytes) post.from ≡ false) c.self.view_is missing;
       more = λ a. c.add.ensures.members a ∙ ap (λ (set : List Bool). (a == post.from) || is_in set a) nodes;
-    }) c.in_ok-count.ensures.config c.in_ok-count.ensures.claims c.in_ok-count.ensures.taken
+    }) c.in_ok-count.ensures.config (rw c.as_bytes-bytes.ensures at c.in_ok-count.ensures.claims) (rw c.as_bytes-bytes.ensures at c.in_ok-count.ensures.taken)
 
 pub returns-clause-exact : goal.returns-clause-exact
 returns-clause-exact c =
     let claim : Closure = (c.in-Some.epoch, c.in-Some.ensures.some.0) in
     let missing : is_in (nodes_at c.self.inside.claims c.args.post.now.bytes) c.args.post.now.from ≡ false =
-    ap (λ (set : List Bool). is_in set c.args.post.now.from) (sym c.nodes-nodes.ensures) ∙ sym c.has.ensures ∙ c.if-has.false in
+    ap (λ (set : List Bool). is_in set c.args.post.now.from) (sym (rw c.as_bytes-bytes.ensures at c.nodes-nodes.ensures)) ∙ sym c.has.ensures ∙ c.if-has.false in
     rw (← c.self.view_is) (λ heard has.
     ap (λ (b : Bool). if b then Counted else Nothing) (sym (node_new _ heard c.args.post.now claim has c.in-Some.ensures.some.1 missing)))
 

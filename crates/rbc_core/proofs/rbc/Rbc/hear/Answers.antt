@@ -1,5 +1,5 @@
-use Rattle.std.proofs.Common.{◌∙◌}
-use Rattle.rbc_core.proofs.Unheeded.{unheeded_epoch, unheeded_kind, other_kind}
+use Rattle.std.proofs.Common.{◌∙◌, ap, sym}
+use Rattle.rbc_core.proofs.Unheeded.{unheeded_epoch, unheeded_kind, is_heard_kind, other_kind}
 use Rattle.rbc_core.proofs.rbc.Rbc.hear.Goals as goal
 
 pub returns-then-epoch-self-clause-ok : goal.returns-then-epoch-self-clause-ok
@@ -10,4 +10,4 @@ returns-then-epoch-self-clause-ok c =
 pub returns-in_default-clause-ok : goal.returns-in_default-clause-ok
 returns-in_default-clause-ok c =
     unheeded_kind c.args.self.now c.args.from c.args.vote.now c.args.due.now.votes c.requires.from
-    (other_kind c.args.vote.now c.in_default.not-Val c.in_default.not-Echo c.in_default.not-Ready c.in_default.not-Propose)
+    (ap is_heard_kind (sym c.vote.ensures) ∙ other_kind c.vote.result.now c.in_default.not-Val c.in_default.not-Echo c.in_default.not-Ready c.in_default.not-Propose)

@@ -12,16 +12,16 @@ use Rattle.rbc_core.proofs.rbc.Rbc.hear_echo.Goals as goal
 
 pub returns-then-not-is_valid-clause-ok : goal.returns-then-not-is_valid-clause-ok
 returns-then-not-is_valid-clause-ok c =
-    let bad = sym (rw (← c.self.view_is) at c.is_valid.ensures.value) ∙ c.if-not-is_valid.true in
-    rw (← c.self.view_is) (unheeded_echo _ c.args.from c.self.inside.epoch c.args.root.now c.args.shard.now c.args.branch.now c.args.due.now.votes
-    (rw (← c.self.view_is) at c.requires.from)
-    (λ _ valid. both_ways (is_branch c.args.root.now c.self.inside.roots.config.n c.args.from c.args.shard.now c.args.branch.now) bad valid))
+    let at = c.args.self.now in
+    unheeded_echo at c.args.from at.epoch c.args.root.now c.args.shard.now c.args.branch.now c.args.due.now.votes c.requires.from
+    (λ _ valid. both_ways (is_branch c.args.root.now at.roots.config.n c.args.from c.args.shard.now c.args.branch.now)
+    (sym c.requires.valid ∙ c.if-not-is_valid.true) valid)
 
 pub returns-then-counts-clause-ok : goal.returns-then-counts-clause-ok
 returns-then-counts-clause-ok c =
-    let valid = sym (rw (← c.self.view_is) at c.is_valid.ensures.value) ∙ c.if-not-is_valid.false in
+    let valid = sym (rw (← c.self.view_is) at c.requires.valid) ∙ c.if-not-is_valid.false in
     rw (← c.self.view_is) (Hears-echo_again _ c.args.from c.args.root.now c.args.shard.now c.args.branch.now c.args.due.now.votes
-    (rw (← c.self.view_is) at c.requires.from) (rw (← c.self.view_is) at c.is_valid.ensures.few) valid c.counts-counts.ensures.sound
+    (rw (← c.self.view_is) at c.requires.from) (rw (← c.self.view_is) at c.requires.few) valid c.counts-counts.ensures.sound
     (sym c.counts-counts.ensures.has_echoed ∙ c.if-counts.true))
 
 pub returns-in_err-add_echo-clause-err : goal.returns-in_err-add_echo-clause-err
@@ -36,7 +36,7 @@ cast-requires c =
 
 pub returns-clause-ok : goal.returns-clause-ok
 returns-clause-ok c =
-    let valid = sym (rw (← c.self.view_is) at c.is_valid.ensures.value) ∙ c.if-not-is_valid.false in
+    let valid = sym (rw (← c.self.view_is) at c.requires.valid) ∙ c.if-not-is_valid.false in
     let copy : c.in_ok-shard.shard ≡ c.args.shard.now = c.in_ok-shard.ensures.cases in
     let ready = rw (← c.self.view_is) at c.due_by-is_ready_due.ensures.ready in
     let delivery = rw (← c.self.view_is) at c.due_by-is_ready_due.ensures.delivery in
@@ -45,7 +45,7 @@ returns-clause-ok c =
     c.in_ok-votes.votes.is_ready_due c.in_ok-votes.votes.delivered c.args.due.now.votes c.cast.new.due.votes
     (record {
       below = rw (← c.self.view_is) at c.requires.from;
-      few = rw (← c.self.view_is) at c.is_valid.ensures.few;
+      few = rw (← c.self.view_is) at c.requires.few;
       valid = valid;
       short = c.requires.short;
       is = c.counts-counts.ensures.sound;
