@@ -6,3 +6,4 @@ pub mod NodeSet
 pub mod Memory
 pub mod Outside
 pub mod Numbers
+pub mod Words
