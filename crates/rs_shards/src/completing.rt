@@ -98,7 +98,8 @@ fn add_combination(sum: &mut [u8], weights: &[u8], got: &[(u8, Bytes)])
     }
 }
 
-/// The fewest bytes of a shard for which the products with all elements are worked out before.
+/// The fewest bytes of a shard for which the products with all 256 elements are worked out before: below, to work them out
+/// costs more than they save.
 const SHORTEST_FOR_ROW: usize = 128;
 
 /// Adds a multiple of a shard, byte by byte.
