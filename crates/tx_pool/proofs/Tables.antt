@@ -1,43 +1,72 @@
 -- Tables of standings.
-use Rattle.std.proofs.Common.{◌≡◌, ℕ, ◌+◌, ◌<◌, Bool, true, false, ◌&&◌, ◌||◌, List, [], ◌∷◌, Option, None, Some, IsSome, is_some}
+use Rattle.std.proofs.Common.{◌≡◌, ℕ, ◌+◌, ◌<◌, Bool, true, false, ◌&&◌, ◌||◌, List, [], ◌∷◌, map, filter, Option, None, Some, IsSome, is_some}
 use Rattle.std.proofs.Common.{unwrap_or, if◌then◌else◌, refl, sym, ap, ◌∙◌, inl, inr, ◌⊎◌, ⊎_elim, bytes_eq, length, take, drop, get_or}
 use Rattle.std.proofs.Common.{take-append-drop}
-use Rattle.std.specs.Ordering.{nat_cmp}
+use Rattle.std.specs.Ordering.{nat_cmp, is_eq}
 use Rattle.std.specs.Cmp.Lexicographic.{slice_cmp, nat_list_cmp_total}
 use Rattle.std.specs.BTreeMap.{is_at}
+use Rattle.std.specs.FinSet.{contains, items, from_list, contains-items, contains-from_list, same_set, slice_cmp-IsAntisymmetric, nat_cmp-IsAntisymmetric}
+use Rattle.std.specs.Global.{Global}
 use Rattle.std.specs.List.{list_any}
-use Rattle.std.specs.Map.{keys_of}
+use Rattle.std.specs.Map.{lookup}
+use Rattle.std.specs.declared.vec.Vec.{Vec}
 use Rattle.std.proofs.lemmas.List.Folds.{list_any_more, list_any_at}
-use Rattle.std.proofs.lemmas.List.Kept.{IsStrictlySortedBy-filter}
-use Rattle.std.proofs.lemmas.Map.Lookups.{btree_set_from_contains, exact_bytes}
 use Rattle.std.proofs.lemmas.Map.Text.{is_eq-slice_cmp}
 use Rattle.std.proofs.lemmas.Slice.Eq.{bytes_eq-Decides}
+use Rattle.tx_pool.specs.Marks.{mark}
 use Rattle.tx_pool.specs.Pool.{is_among}
-use Rattle.tx_pool.specs.Standings.{Table, standing_of, is_settled, is_pooled, is_reserved, settled_of, IsOrdered, IsClean, Sets, Stays}
-use Rattle.tx_pool.specs.Standings.{Settles, Reserves, HaveRoom, unreserved, Releases}
+use Rattle.tx_pool.specs.Standings.{Table, query_cmp, first_with, other_at, is_first, standing_of, all_of, is_settled, is_pooled, is_reserved, settled_of}
+use Rattle.tx_pool.specs.Standings.{IsClean, Sets, Stays, Settles, Reserves, HaveRoom, unreserved, Releases}
+use Rattle.tx_pool.specs.declared.standings.First.{First}
 use Rattle.tx_pool.specs.declared.standings.Standing.{Standing}
 use Rattle.tx_pool.specs.declared.standings.Standing.TheVariants.{Pooled, Settled, Reserved}
 use Rattle.tx_pool.proofs.Among.{is_among-filter, is_among-append, bytes_eq-swap, bytes_eq-refl}
+use Rattle.tx_pool.proofs.ByMark.{chosen-apart}
+
+both : (a b : Bool) → b ≡ true → (a || b) ≡ true
+both true b e = refl
+both false b e = e
+
+-- a transaction that is the first with its mark is among the firsts
+first_among : (test : ℕ → Bool) (es : List (ℕ × First)) (tx : List ℕ) → is_first (lookup test es) tx ≡ true
+    → is_among (map (λ e. e.1.tx.items) es) tx ≡ true
+first_among test [] tx is = is
+first_among test (e ∷ es) tx is = by (test e.0) (first_among test es tx) is
+  where
+    by : (b : Bool) → (is_first (lookup test es) tx ≡ true → is_among (map (λ e. e.1.tx.items) es) tx ≡ true)
+        → is_first (if b then Some e.1 else lookup test es) tx ≡ true → (bytes_eq tx e.1.tx.items || is_among (map (λ e. e.1.tx.items) es) tx) ≡ true
+    by true later h = ap (λ (b : Bool). b || is_among (map (λ e. e.1.tx.items) es) tx) h
+    by false later h = both (bytes_eq tx e.1.tx.items) (is_among (map (λ e. e.1.tx.items) es) tx) (later h)
+
+-- one that stands among the others is one of them
+other_among : (es : List (Vec ℕ Global × Standing)) (tx : List ℕ) → is_some (lookup (is_at (query_cmp tx)) es) ≡ true
+    → is_among (map (λ e. e.0.items) es) tx ≡ true
+other_among [] tx some = some
+other_among (e ∷ es) tx some = by (is_eq (slice_cmp nat_cmp tx e.0.items)) (is_eq-slice_cmp tx e.0.items) (other_among es tx) some
+  where
+    by : (b : Bool) → b ≡ bytes_eq tx e.0.items
+        → (is_some (lookup (is_at (query_cmp tx)) es) ≡ true → is_among (map (λ e. e.0.items) es) tx ≡ true)
+        → is_some (if b then Some e.1 else lookup (is_at (query_cmp tx)) es) ≡ true → (bytes_eq tx e.0.items || is_among (map (λ e. e.0.items) es) tx) ≡ true
+    by true same later h = ap (λ (b : Bool). b || is_among (map (λ e. e.0.items) es) tx) (sym same)
+    by false same later h = both (bytes_eq tx e.0.items) (is_among (map (λ e. e.0.items) es) tx) (later h)
 
 -- a transaction that has a standing is in the table
-among_keys : (table : Table) (tx : List ℕ) → is_settled (standing_of table tx) ≡ true → is_among (keys_of table) tx ≡ true
-among_keys [] tx settled = settled
-among_keys (e ∷ table) tx settled = by (bytes_eq tx e.0) (among_keys table tx) settled
+among_all : (table : Table) (tx : List ℕ) → is_settled (standing_of table tx) ≡ true → is_among (all_of table) tx ≡ true
+among_all table tx settled =
+    is_among-append (map (λ e. e.1.tx.items) table.firsts) (map (λ e. e.0.items) table.others) tx
+    ∙ by (is_first (first_with table (mark tx)) tx) refl
   where
-    by : (b : Bool) → (is_settled (standing_of table tx) ≡ true → is_among (keys_of table) tx ≡ true)
-        → is_settled (if b then Some e.1 else standing_of table tx) ≡ true → (b || is_among (keys_of table) tx) ≡ true
-    by true later h = refl
-    by false later h = later h
+    some : (o : Option Standing) → is_settled o ≡ true → is_some o ≡ true
+    some None h = h
+    some (Some standing) h = refl
 
--- the settled ones are those that stand as settled
-pub is_among-settled_of : (table : Table) (tx : List ℕ) → is_among (settled_of table) tx ≡ is_settled (standing_of table tx)
-is_among-settled_of table tx =
-    is_among-filter (λ other. is_settled (standing_of table other)) (keys_of table) tx
-    ∙ by (is_settled (standing_of table tx)) (among_keys table tx)
-  where
-    by : (b : Bool) → (b ≡ true → is_among (keys_of table) tx ≡ true) → (b && is_among (keys_of table) tx) ≡ b
-    by true h = h refl
-    by false h = refl
+    by : (b : Bool) → is_first (first_with table (mark tx)) tx ≡ b
+        → (is_among (map (λ e. e.1.tx.items) table.firsts) tx || is_among (map (λ e. e.0.items) table.others) tx) ≡ true
+    by true is = ap (λ (b : Bool). b || is_among (map (λ e. e.0.items) table.others) tx) (first_among (is_at (nat_cmp (mark tx))) table.firsts tx is)
+    by false apart =
+        both (is_among (map (λ e. e.1.tx.items) table.firsts) tx) (is_among (map (λ e. e.0.items) table.others) tx)
+        (other_among table.others tx
+        (some (other_at table tx) (ap is_settled (sym (chosen-apart (first_with table (mark tx)) tx (other_at table tx) apart)) ∙ settled)))
 
 same_test : (txs : List (List ℕ)) (tx : List ℕ) → list_any (is_at (slice_cmp nat_cmp tx)) txs ≡ is_among txs tx
 same_test [] tx = refl
@@ -45,15 +74,45 @@ same_test (first ∷ txs) tx =
     ap (λ (b : Bool). b || list_any (is_at (slice_cmp nat_cmp tx)) txs) (is_eq-slice_cmp tx first)
     ∙ ap (λ (b : Bool). bytes_eq tx first || b) (same_test txs tx)
 
+settled_list : Table → List (List ℕ)
+settled_list table = filter (λ tx. is_settled (standing_of table tx)) (all_of table)
+
+among-settled_list : (table : Table) (tx : List ℕ) → is_among (settled_list table) tx ≡ is_settled (standing_of table tx)
+unfolding settled_list
+among-settled_list table tx =
+    is_among-filter (λ other. is_settled (standing_of table other)) (all_of table) tx
+    ∙ by (is_settled (standing_of table tx)) (among_all table tx)
+  where
+    by : (b : Bool) → (b ≡ true → is_among (all_of table) tx ≡ true) → (b && is_among (all_of table) tx) ≡ b
+    by true h = h refl
+    by false h = refl
+
+contains_settled : (table : Table) (tx : List ℕ) → contains (from_list {R = slice_cmp nat_cmp} (settled_list table)) tx ≡ is_settled (standing_of table tx)
+contains_settled table tx =
+    contains-from_list nat_list_cmp_total (settled_list table) tx ∙ same_test (settled_list table) tx ∙ among-settled_list table tx
+
+-- the settled ones are those that stand as settled
+pub is_among-settled_of : (table : Table) (tx : List ℕ) → is_among (settled_of table) tx ≡ is_settled (standing_of table tx)
+unfolding settled_list
+is_among-settled_of table tx =
+    sym (same_test (settled_of table) tx)
+    ∙ sym (contains-items (from_list {R = slice_cmp nat_cmp} (settled_list table)) tx)
+    ∙ contains_settled table tx
+
 -- tables in which the same transactions are settled have the same list of settled ones
-pub settled_of-same : (old new : Table) → IsOrdered old → IsOrdered new
-    → ((tx : List ℕ) → is_settled (standing_of new tx) ≡ is_settled (standing_of old tx)) → settled_of new ≡ settled_of old
-settled_of-same old new old_ordered new_ordered same =
-    btree_set_from_contains nat_list_cmp_total (record { keys = settled_of new }) (record { keys = settled_of old })
-    (IsStrictlySortedBy-filter (slice_cmp nat_cmp) (λ tx. is_settled (standing_of new tx)) (keys_of new) new_ordered)
-    (IsStrictlySortedBy-filter (slice_cmp nat_cmp) (λ tx. is_settled (standing_of old tx)) (keys_of old) old_ordered)
-    (λ tx. same_test (settled_of new) tx ∙ is_among-settled_of new tx ∙ same tx ∙ sym (is_among-settled_of old tx) ∙ sym (same_test (settled_of old) tx))
-    exact_bytes
+pub settled_of-same : (old new : Table) → ((tx : List ℕ) → is_settled (standing_of new tx) ≡ is_settled (standing_of old tx)) → settled_of new ≡ settled_of old
+unfolding settled_list
+settled_of-same old new same =
+    ap items (same_set nat_list_cmp_total (slice_cmp-IsAntisymmetric nat_cmp-IsAntisymmetric)
+    (from_list {R = slice_cmp nat_cmp} (settled_list new)) (from_list {R = slice_cmp nat_cmp} (settled_list old))
+    (λ tx. contains_settled new tx ∙ same tx ∙ sym (contains_settled old tx)))
+
+no_members : (txs : List (List ℕ)) → ((tx : List ℕ) → is_among txs tx ≡ false) → txs ≡ []
+no_members [] none = refl
+no_members (tx ∷ txs) none = absurd (cc (sym (ap (λ (b : Bool). b || is_among txs tx) (bytes_eq-refl tx)), none tx))
+
+pub settled_of-none : settled_of (record { firsts = []; others = [] }) ≡ []
+settled_of-none = no_members (settled_of (record { firsts = []; others = [] })) (λ tx. is_among-settled_of (record { firsts = []; others = [] }) tx)
 
 -- no transaction is both pooled and settled
 pub pooled_or_settled : (o : Option Standing) → is_pooled o ≡ true → is_settled o ≡ false
@@ -80,13 +139,12 @@ among_take txs i tx among =
     ∙ is_among-append (take i txs) (drop i txs) tx
     ∙ ap (λ (b : Bool). b || is_among (drop i txs) tx) among
 
-pub settles_none : (table : Table) → IsOrdered table → Settles table table []
-settles_none table ordered = record { ordered = ordered; is = λ tx. refl }
+pub settles_none : (table : Table) → Settles table table []
+settles_none table = record { is = λ tx. refl }
 
 pub settles_more : (old mid new : Table) (txs : List (List ℕ)) (i : ℕ) (tx : List ℕ) → i < length txs → tx ≡ get_or txs i tx
     → Settles old mid (take i txs) → Sets mid new tx (Some Settled) → Settles old new (take (i + 1) txs)
 settles_more old mid new txs i tx within item settles sets = record {
-  ordered = sets.ordered;
   is = λ other. sets.is other
       ∙ ap (λ (o : Option Standing). if bytes_eq tx other then Some Settled else o) (settles.is other)
       ∙ by (bytes_eq tx other) (is_among (take i txs) other) (standing_of old other)
@@ -110,13 +168,12 @@ room_now old mid txs some tx room settles among =
     by true o there = refl
     by false o there = there
 
-pub releases_none : (table : Table) → IsOrdered table → Releases table table []
-releases_none table ordered = record { ordered = ordered; is = λ tx. refl }
+pub releases_none : (table : Table) → Releases table table []
+releases_none table = record { is = λ tx. refl }
 
 pub releases_more : (old mid new : Table) (txs : List (List ℕ)) (i : ℕ) (tx : List ℕ) → i < length txs → tx ≡ get_or txs i tx
     → Releases old mid (take i txs) → Sets mid new tx (unreserved (standing_of mid tx)) → Releases old new (take (i + 1) txs)
 releases_more old mid new txs i tx within item releases sets = record {
-  ordered = sets.ordered;
   is = λ other. sets.is other
       ∙ here other (bytes_eq tx other) refl
       ∙ ap (λ (o : Option Standing). if bytes_eq tx other then unreserved o else o) (releases.is other)
@@ -142,17 +199,12 @@ releases_more old mid new txs i tx within item releases sets = record {
     by false true o = refl
     by false false o = refl
 
-both : (a b : Bool) → b ≡ true → (a || b) ≡ true
-both true b e = refl
-both false b e = e
-
-pub reserves_none : (table : Table) → IsOrdered table → Reserves table table []
-reserves_none table ordered = record { ordered = ordered; is = λ tx. inl refl }
+pub reserves_none : (table : Table) → Reserves table table []
+reserves_none table = record { is = λ tx. inl refl }
 
 pub reserves_more : (old mid new : Table) (txs : List (List ℕ)) (i : ℕ) (tx : List ℕ) → i < length txs → tx ≡ get_or txs i tx
     → Reserves old mid (take i txs) → Sets mid new tx (Some (unwrap_or (standing_of mid tx) Reserved)) → Reserves old new (take (i + 1) txs)
 reserves_more old mid new txs i tx within item reserves sets = record {
-  ordered = sets.ordered;
   is = λ other. by other (bytes_eq tx other) refl (standing_of mid other) refl (reserves.is other);
 }
   where
@@ -206,14 +258,12 @@ have_room_more mid new txs i tx within item room sets = record {
 
 pub reserves_all : (old new : Table) (txs : List (List ℕ)) (i : ℕ) → Reserves old new (take i txs) → Reserves old new txs
 reserves_all old new txs i reserves = record {
-  ordered = reserves.ordered;
   is = λ tx. ⊎_elim (λ same. inl same) (λ h. inr (among_take txs i tx h.0, h.1, h.2)) (reserves.is tx);
 }
 
 -- what was reserved for transactions is settled with them
 pub settles_reserved : (old mid new : Table) (txs : List (List ℕ)) → Reserves old mid txs → Settles mid new txs → Settles old new txs
 settles_reserved old mid new txs reserves settles = record {
-  ordered = settles.ordered;
   is = λ tx. settles.is tx ∙ by tx (is_among txs tx) refl (reserves.is tx);
 }
   where
@@ -227,7 +277,6 @@ settles_reserved old mid new txs reserves settles = record {
 -- what was reserved for transactions is given back with them
 pub stays_released : (old mid new : Table) (txs : List (List ℕ)) → IsClean old → Reserves old mid txs → Releases mid new txs → Stays old new
 stays_released old mid new txs sound reserves releases = record {
-  ordered = releases.ordered;
   is = λ tx. releases.is tx ∙ by tx (is_among txs tx) refl (reserves.is tx);
 }
   where

@@ -3,7 +3,6 @@ use Rattle.std.proofs.Common.{◌≡◌, ℕ, Bool, true, false, not, ◌&&◌, 
 use Rattle.std.proofs.Common.{refl, sym, ap, ◌∙◌, bytes_eq, filter}
 use Rattle.std.specs.Cmp.Lexicographic.{nat_list_eq_equiv}
 use Rattle.std.specs.List.{IsDistinct, AllByRecursion}
-use Rattle.std.specs.List.Sorted.{IsStrictlySortedBy}
 use Rattle.std.proofs.Math.Bool.{or-false}
 use Rattle.std.proofs.lemmas.List.Elements.{All-nil, All-push, All-filter}
 use Rattle.std.proofs.lemmas.Map.Keys.{IsDistinct-push}
@@ -16,10 +15,10 @@ use Rattle.tx_pool.specs.declared.standings.Standing.TheVariants.{Pooled, Settle
 use Rattle.tx_pool.proofs.Tables.{is_among-settled_of, settled_of-same}
 use Rattle.tx_pool.proofs.Among.{is_among-filter, is_among-append, bytes_eq-swap, filter_agree_among}
 
-pub tied_none : IsTied [] []
-unfolding IsStrictlySortedBy IsDistinct
+pub tied_none : IsTied [] (record { firsts = []; others = [] })
+unfolding IsDistinct
 tied_none = record {
-  sound = record { ordered = tt; clean = λ tx. refl };
+  sound = record { clean = λ tx. refl };
   listed = λ tx. refl;
   once = tt;
   fit = All-nil IsTransaction;
@@ -31,7 +30,6 @@ pub tied_push : (pooled : List (List ℕ)) (old new : Table) (tx : List ℕ) →
     → IsTied (pooled ++ tx ∷ []) new
 tied_push pooled old new tx fits tied fresh sets = record {
   sound = record {
-    ordered = sets.ordered;
     clean = λ other. ap is_reserved (sets.is other) ∙ clean (bytes_eq tx other) other;
   };
   listed = λ other. is_among-append pooled (tx ∷ []) other
@@ -79,7 +77,6 @@ pub tied_settle : (pooled : List (List ℕ)) (old new : Table) (txs : List (List
     → IsTied (filter (λ tx. is_pooled (standing_of new tx)) pooled) new
 tied_settle pooled old new txs tied settles = record {
   sound = record {
-    ordered = settles.ordered;
     clean = λ tx. ap is_reserved (settles.is tx) ∙ clean (is_among txs tx) tx;
   };
   listed = λ tx. is_among-filter (λ other. is_pooled (standing_of new other)) pooled tx
@@ -150,7 +147,7 @@ none_from (Some standing) none = absurd (cc (none))
 pub settled_of-push : (pooled : List (List ℕ)) (old new : Table) (tx : List ℕ) → IsTied pooled old → standing_of old tx ≡ None → Sets old new tx (Some Pooled)
     → settled_of new ≡ settled_of old
 settled_of-push pooled old new tx tied fresh sets =
-    settled_of-same old new tied.sound.ordered sets.ordered (λ other. ap is_settled (sets.is other) ∙ by other (bytes_eq tx other) refl)
+    settled_of-same old new (λ other. ap is_settled (sets.is other) ∙ by other (bytes_eq tx other) refl)
   where
     by : (other : List ℕ) (b : Bool) → bytes_eq tx other ≡ b
         → is_settled (if b then Some Pooled else standing_of old other) ≡ is_settled (standing_of old other)
@@ -161,7 +158,6 @@ settled_of-push pooled old new tx tied fresh sets =
 pub tied_stays : (pooled : List (List ℕ)) (old new : Table) → IsTied pooled old → Stays old new → IsTied pooled new
 tied_stays pooled old new tied stays = record {
   sound = record {
-    ordered = stays.ordered;
     clean = λ tx. ap is_reserved (stays.is tx) ∙ tied.sound.clean tx;
   };
   listed = λ tx. tied.listed tx ∙ ap is_pooled (sym (stays.is tx));
@@ -170,4 +166,4 @@ tied_stays pooled old new tied stays = record {
 }
 
 pub settled_of-stays : (pooled : List (List ℕ)) (old new : Table) → IsTied pooled old → Stays old new → settled_of new ≡ settled_of old
-settled_of-stays pooled old new tied stays = settled_of-same old new tied.sound.ordered stays.ordered (λ tx. ap is_settled (stays.is tx))
+settled_of-stays pooled old new tied stays = settled_of-same old new (λ tx. ap is_settled (stays.is tx))

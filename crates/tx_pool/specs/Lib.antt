@@ -1,4 +1,4 @@
 pub mod Pool
-pub mod Keyed
+pub mod Marks
 pub mod Standings
 pub mod Calls

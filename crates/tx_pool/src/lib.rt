@@ -2,6 +2,7 @@
 //! is not settled, in the order in which it came.
 #![tactic(auto)]
 
+mod marks;
 mod pool;
 mod standings;
 

@@ -24,8 +24,8 @@ pub enum Submitted {
 /// The transactions that were submitted to a node and are not settled, in the order in which they came, and those that
 /// are settled. Clauses see a `PoolView`.
 ///
-/// The pool owns the bytes of a pooled transaction twice, in the list that it lends and as a key of the ordered map that
-/// finds it, and those of a settled one once, as a key.
+/// The pool owns the bytes of a pooled transaction twice, in the list that it lends and in the ordered map that finds it,
+/// and those of a settled one once, in the map.
 #[derive(Drop)]
 pub struct Pool {
     pooled: Vec<Bytes>,

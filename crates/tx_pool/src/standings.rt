@@ -1,7 +1,11 @@
 //! How each transaction stands that a pool was told of.
-ghost use Rattle.std.specs.Prelude.{◌≡◌, [], IsSome, unwrap_or, OnOk, OnErr};
-ghost use Rattle.tx_pool.specs.Standings.{standing_of, IsOrdered, IsClean, Sets, Stays, Settles, Reserves, HaveRoom, unreserved, Releases};
+ghost use Rattle.std.specs.Prelude.{◌≡◌, [], None, Some, false, true, IsSome, unwrap_or, OnOk, OnErr};
+ghost use Rattle.std.specs.Option.{option_map};
+ghost use Rattle.tx_pool.specs.Marks.{mark};
+ghost use Rattle.tx_pool.specs.Standings.{standing_of, IsClean, Sets, Stays, Settles, Reserves, HaveRoom, unreserved, Releases};
+ghost use Rattle.tx_pool.specs.Standings.{first_with, other_at, is_first, with_standing, SetsFirst, SetsOther};
 
+use crate::marks::{are_same, mark_of};
 use hb_base::Bytes;
 use std::alloc::{AllocError, Global};
 use std::collections::BTreeMap;
@@ -18,30 +22,40 @@ pub enum Standing {
     Reserved,
 }
 
+// The first transaction that came with its mark.
+#[derive(Drop)]
+struct First {
+    tx: Vec<u8>,
+    standing: Standing,
+}
+
 /// How each transaction stands that a pool was told of. A look-up takes time logarithmic in their number, and copies
-/// nothing. Clauses see the transactions with their standings, in the order of their bytes.
+/// nothing.
+///
+/// Transactions are found by a mark, a hash of their bytes: a look-up then compares numbers, and the bytes once. Who picks
+/// the bytes can make marks equal. Such transactions are the others, which are found by their bytes, no less surely.
 #[derive(Drop)]
 pub struct Standings {
-    by_tx: BTreeMap<Vec<u8>, Standing>,
+    by_mark: BTreeMap<u64, First>,
+    others: BTreeMap<Vec<u8>, Standing>,
 }
 
 impl Model for Standings {
-    ghost use Rattle.std.specs.Prelude.{ℕ, List};
-    ghost use Rattle.tx_pool.specs.declared.standings.Standing.{Standing};
-    ghost use Rattle.tx_pool.specs.Keyed.{by_bytes};
+    ghost use Rattle.tx_pool.specs.Standings.{Table};
 
-    ghost Value = { List (List ℕ × Standing) };
+    ghost Value = { Table };
 
-    ghost view = { λ s. by_bytes s.by_tx };
+    ghost view = { λ s. record { firsts = s.by_mark.entries; others = s.others.entries } };
 }
 
 impl Standings {
     /// No transaction.
     pub fn new(alloc: Global) -> Standings
-        ensures { result ≡ [] }
+        ensures { result ≡ record { firsts = []; others = [] } }
     {
         Standings {
-            by_tx: BTreeMap::new(alloc),
+            by_mark: BTreeMap::new(alloc),
+            others: BTreeMap::new(alloc),
         }
     }
 
@@ -49,16 +63,27 @@ impl Standings {
     pub fn get(&self, tx: &[u8]) -> Option<Standing>
         ensures { result ≡ standing_of self.now tx.now }
     {
-        self.by_tx.get(tx).copied()
+        if let Some(first) = self.by_mark.get(&mark_of(tx)) {
+            if are_same(tx, first.tx.as_slice()) {
+                return Some(first.standing);
+            }
+        }
+        self.others.get(tx).copied()
     }
 
-    /// Gives a transaction a standing. It copies the bytes.
+    /// Gives a standing to a transaction that has none. It copies the bytes.
     pub fn insert(&mut self, alloc: Global, tx: &[u8], standing: Standing) -> Result<(), AllocError>
+        requires { standing_of self.old tx.now ≡ None }
         ensures ok { OnOk result (Sets self.old self.new tx.now (Some standing)) }
         ensures err { OnErr result (self.new ≡ self.old) }
     {
-        let key = Vec::from_slice(alloc, tx)?;
-        self.by_tx.insert(key, standing)?;
+        let mark = mark_of(tx);
+        let tx = Vec::from_slice(alloc, tx)?;
+        if self.by_mark.contains_key(&mark) {
+            self.others.insert(tx, standing)?;
+        } else {
+            self.by_mark.insert(mark, First { tx, standing })?;
+        }
         Ok(())
     }
 
@@ -82,7 +107,6 @@ impl Standings {
 
     // Gives each of these transactions a place, so that it can be settled without memory.
     fn reserve_all(&mut self, alloc: Global, txs: &[Bytes]) -> Result<(), AllocError>
-        requires { IsOrdered self.old }
         ensures reserves { Reserves self.old self.new txs.now }
         ensures room { OnOk result (HaveRoom self.new txs.now) }
     {
@@ -94,7 +118,6 @@ impl Standings {
 
     // Gives back the places that were reserved for these transactions.
     fn release_all(&mut self, txs: &[Bytes])
-        requires { IsOrdered self.old }
         ensures { Releases self.old self.new txs.now }
     {
         for tx in txs {
@@ -104,7 +127,6 @@ impl Standings {
 
     // Settles transactions that have a place.
     fn set_settled(&mut self, txs: &[Bytes])
-        requires ordered { IsOrdered self.old }
         requires room { HaveRoom self.old txs.now }
         ensures { Settles self.old self.new txs.now }
     {
@@ -115,7 +137,6 @@ impl Standings {
 
     // Reserves a place for a transaction that has none.
     fn reserve(&mut self, alloc: Global, tx: &[u8]) -> Result<(), AllocError>
-        requires { IsOrdered self.old }
         ensures ok { OnOk result (Sets self.old self.new tx.now (Some (unwrap_or (standing_of self.old tx.now) Standing.Reserved))) }
         ensures err { OnErr result (self.new ≡ self.old) }
     {
@@ -127,7 +148,6 @@ impl Standings {
 
     // Gives the place of a transaction back, if it is reserved.
     fn release(&mut self, tx: &[u8])
-        requires { IsOrdered self.old }
         ensures { Sets self.old self.new tx.now (unreserved (standing_of self.old tx.now)) }
     {
         if let Some(Standing::Reserved) = self.get(tx) {
@@ -140,14 +160,64 @@ impl Standings {
         requires { IsSome (standing_of self.old tx.now) }
         ensures { Sets self.old self.new tx.now (Some standing) }
     {
-        if let Some(place) = self.by_tx.get_mut(tx) {
+        let mark = mark_of(tx);
+        if self.is_first(mark, tx) {
+            self.set_first(mark, standing);
+        } else {
+            self.set_other(tx, standing);
+        }
+    }
+
+    // Gives the place of a transaction back.
+    fn remove(&mut self, tx: &[u8])
+        ensures { Sets self.old self.new tx.now None }
+    {
+        self.remove_first(tx);
+        self.remove_other(tx);
+    }
+
+    // Whether this transaction is the first with this mark.
+    fn is_first(&self, mark: u64, tx: &[u8]) -> bool
+        ensures { result ≡ is_first (first_with self.now mark) tx.now }
+    {
+        match self.by_mark.get(&mark) {
+            Some(first) => are_same(tx, first.tx.as_slice()),
+            None => false,
+        }
+    }
+
+    fn set_first(&mut self, mark: u64, standing: Standing)
+        requires { IsSome (first_with self.old mark) }
+        ensures { SetsFirst self.old self.new mark (option_map (with_standing standing) (first_with self.old mark)) }
+    {
+        if let Some(first) = self.by_mark.get_mut(&mark) {
+            first.standing = standing;
+        }
+    }
+
+    fn set_other(&mut self, tx: &[u8], standing: Standing)
+        requires { IsSome (other_at self.old tx.now) }
+        ensures { SetsOther self.old self.new tx.now (Some standing) }
+    {
+        if let Some(place) = self.others.get_mut(tx) {
             *place = standing;
         }
     }
 
-    fn remove(&mut self, tx: &[u8])
-        ensures { Sets self.old self.new tx.now None }
+    // The transaction has the place among the others then, if it has one there.
+    fn remove_first(&mut self, tx: &[u8])
+        ensures apart { is_first (first_with self.new (mark tx.now)) tx.now ≡ false }
+        ensures is { Sets self.old self.new tx.now (other_at self.old tx.now) }
     {
-        let _ = self.by_tx.remove(tx);
+        let mark = mark_of(tx);
+        if self.is_first(mark, tx) {
+            let _ = self.by_mark.remove(&mark);
+        }
+    }
+
+    fn remove_other(&mut self, tx: &[u8])
+        ensures { SetsOther self.old self.new tx.now None }
+    {
+        let _ = self.others.remove(tx);
     }
 }
