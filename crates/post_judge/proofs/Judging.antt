@@ -1,6 +1,5 @@
 -- Whether a post may follow a history. The letters: actor x of node i.
 use Rattle.std.proofs.Common.{◌≡◌, ℕ, ◌<◌, ◌≤◌, nat_lt, Bool, true, false, inl, inr, List, [], ◌∷◌, ◌++◌, Contains, None, Some, refl, sym, ap, ◌∙◌, subst, arith}
-use Rattle.std.specs.BTreeMap.{BTreeMap}
 use Rattle.std.specs.List.{list_any}
 use Rattle.std.proofs.lemmas.Bool.{and_from, eq-eqb, lt-ltb, both_ways}
 use Rattle.hb_base.specs.NodeSet.{is_in}
@@ -27,10 +26,8 @@ use Rattle.hb_rules.proofs.SameRules.{cast_same}
 use Rattle.hb_rules.proofs.LaneVotes.{correct_is}
 use Rattle.hb_rules.specs.Apart.{IsHeardApart}
 use Rattle.history_verdict.specs.Verdicts.{Judges}
-use Rattle.post_judge.specs.declared.told.Bucket.{Bucket}
-use Rattle.post_judge.specs.declared.place.Place.{Place}
 use Rattle.post_judge.specs.Places.{casts, is_cast_ever, looked_at}
-use Rattle.post_judge.specs.Tables.{own_votes, told_from, AreTold}
+use Rattle.post_judge.specs.Tables.{Table, own_votes, told_from, AreTold}
 use Rattle.post_judge.proofs.Epochs.{next_in_run}
 use Rattle.post_judge.proofs.Heard.{own_right, own_all, own_lane, own_desk, heard_among, heard_kept}
 use Rattle.post_judge.proofs.OwnEpoch.{AreAlike, in_part_alike}
@@ -90,34 +87,34 @@ cast_own c i x vote own other heard are (inr may) = cast_same own other (are.des
 
 -- ---- by a table
 
-table_own : (c : Numbers) (seen : List Post) (table : BTreeMap Place Bucket) → AreTold c seen table → (i x : ℕ) (vote : Vote) → is_correct c i ≡ true
-    → AreOwn c x vote (own_votes c.n i x vote table) (own_in c i x seen)
+table_own : (c : Numbers) (seen : List Post) (table : Table) → AreTold c seen table → (i x : ℕ) (vote : Vote) → is_correct c i ≡ true
+    → AreOwn c x vote (own_votes c i x vote seen table) (own_in c i x seen)
 table_own c seen table are i x vote known = record {
   lane = λ lane. own_lane c seen table are i x known lane vote;
   desk = λ last. own_desk c seen table are i x known (omega (arith, last)) vote;
 }
 
-module _ (c : Numbers) (seen : List Post) (table : BTreeMap Place Bucket) (are : AreTold c seen table) (i x : ℕ) (vote : Vote)
+module _ (c : Numbers) (seen : List Post) (table : Table) (are : AreTold c seen table) (i x : ℕ) (vote : Vote)
     (known : is_correct c i ≡ true) (such : casts c.n x vote ≡ true) where
   -- what may be cast by what the table has may be cast
-  pub cast_sound : MayCast c i x (own_votes c.n i x vote table) (told_from c i x table (looked_at c i x vote)) vote
+  pub cast_sound : MayCast c i x (own_votes c i x vote seen table) (told_from c i x seen table (looked_at c i x vote)) vote
       → MayCast c i x (own_in c i x seen) (heard_in c i x seen) vote
   cast_sound may =
-      cast_own c i x vote (own_votes c.n i x vote table) (own_in c i x seen) (heard_in c i x seen) (table_own c seen table are i x vote known)
-      (MayCast-among c i x (own_votes c.n i x vote table) (told_from c i x table (looked_at c i x vote)) (heard_in c i x seen) vote
+      cast_own c i x vote (own_votes c i x vote seen table) (own_in c i x seen) (heard_in c i x seen) (table_own c seen table are i x vote known)
+      (MayCast-among c i x (own_votes c i x vote seen table) (told_from c i x seen table (looked_at c i x vote)) (heard_in c i x seen) vote
       (heard_among c seen table are i x (looked_at c i x vote) (looked_at-listens c i x vote such)) may)
 
   -- and the other way
   pub cast_complete : is_in c.liars i ≡ false → IsLegal c seen → MayCast c i x (own_in c i x seen) (heard_in c i x seen) vote
-      → MayCast c i x (own_votes c.n i x vote table) (told_from c i x table (looked_at c i x vote)) vote
+      → MayCast c i x (own_votes c i x vote seen table) (told_from c i x seen table (looked_at c i x vote)) vote
   cast_complete correct legal may =
-      may_by_part c i x (heard_in c i x seen) (told_from c i x table (looked_at c i x vote)) (own_votes c.n i x vote table) vote
+      may_by_part c i x (heard_in c i x seen) (told_from c i x seen table (looked_at c i x vote)) (own_votes c i x vote seen table) vote
       (λ p among. heard_kept c seen table are i x (legal_addressed c seen legal) correct (looked_at c i x vote) p among)
-      (cast_own c i x vote (own_in c i x seen) (own_votes c.n i x vote table) (heard_in c i x seen)
-      (own_back c x vote (own_votes c.n i x vote table) (own_in c i x seen) (table_own c seen table are i x vote known)) may)
+      (cast_own c i x vote (own_in c i x seen) (own_votes c i x vote seen table) (heard_in c i x seen)
+      (own_back c x vote (own_votes c i x vote seen table) (own_in c i x seen) (table_own c seen table are i x vote known)) may)
 
   -- what it has for a lane was heard apart
-  pub told_apart : IsLegal c seen → NoCollision c seen → x < c.n → IsHeardApart c i x (told_from c i x table (looked_at c i x vote))
+  pub told_apart : IsLegal c seen → NoCollision c seen → x < c.n → IsHeardApart c i x (told_from c i x seen table (looked_at c i x vote))
   told_apart legal apart lane = record {
     history = seen;
     legal = legal;
@@ -128,20 +125,20 @@ module _ (c : Numbers) (seen : List Post) (table : BTreeMap Place Bucket) (are :
   }
 
 -- a vote that the actor has cast before
-pub cast_before : (c : Numbers) (seen : List Post) (table : BTreeMap Place Bucket) (i x : ℕ) (vote : Vote) → AreTold c seen table
-    → list_any (same_vote vote) (own_votes c.n i x vote table) ≡ true → Contains (own_in c i x seen) vote
+pub cast_before : (c : Numbers) (seen : List Post) (table : Table) (i x : ℕ) (vote : Vote) → AreTold c seen table
+    → list_any (same_vote vote) (own_votes c i x vote seen table) ≡ true → Contains (own_in c i x seen) vote
 cast_before c seen table i x vote are h =
-    let found = any_stands (same_vote vote) (own_votes c.n i x vote table) h in
+    let found = any_stands (same_vote vote) (own_votes c i x vote seen table) h in
     own_right c seen table are i x vote vote
-    (subst (λ (v : Vote). Contains (own_votes c.n i x vote table) v) (sym ((one_vote vote found.0).0 found.2)) found.1)
+    (subst (λ (v : Vote). Contains (own_votes c i x vote seen table) v) (sym ((one_vote vote found.0).0 found.2)) found.1)
 
 -- and one that it has not
-pub not_cast_before : (c : Numbers) (seen : List Post) (table : BTreeMap Place Bucket) (i x : ℕ) (vote : Vote) → AreTold c seen table
-    → is_correct c i ≡ true → list_any (same_vote vote) (own_votes c.n i x vote table) ≡ false → IsAllowed c i x seen vote
+pub not_cast_before : (c : Numbers) (seen : List Post) (table : Table) (i x : ℕ) (vote : Vote) → AreTold c seen table
+    → is_correct c i ≡ true → list_any (same_vote vote) (own_votes c i x vote seen table) ≡ false → IsAllowed c i x seen vote
     → MayCast c i x (own_in c i x seen) (heard_in c i x seen) vote
 not_cast_before c seen table i x vote are known new (inl before) =
-    absurd (both_ways (list_any (same_vote vote) (own_votes c.n i x vote table)) new
-    (list_any-from (same_vote vote) (own_votes c.n i x vote table) vote (own_all c seen table are i x known vote vote refl before)
+    absurd (both_ways (list_any (same_vote vote) (own_votes c i x vote seen table)) new
+    (list_any-from (same_vote vote) (own_votes c i x vote seen table) vote (own_all c seen table are i x known vote vote refl before)
     ((one_vote vote vote).1 refl)))
 not_cast_before c seen table i x vote are known new (inr may) = may
 

@@ -5,7 +5,6 @@ mod Judging
 mod Kept
 mod Next
 mod OwnEpoch
-mod Pairs
 mod Places
 mod Rounds
 mod Same

@@ -102,12 +102,12 @@ pub share_lane : (n i x a y e r share : ℕ) (salt : List ℕ) (branch : Branch)
     → ListensAt n i x p → y ≡ x
 share_lane n i x a y e r share salt branch p at there = (at_place n i x (place topics.Shared y e r) p at there).1
 
+abbrev is_own_topic : Topic → Bool
+is_own_topic topics.Own = true
+is_own_topic _ = false
+
 abbrev is_own : Place → Bool
-is_own p = by p.topic
-  where
-    by : Topic → Bool
-    by topics.Own = true
-    by _ = false
+is_own p = is_own_topic p.topic
 
 no_own : (a y : ℕ) (vote : Vote) (p : Place) → heard_place a y vote ≡ Some p → is_own p ≡ false
 no_own a y (Val e m root shard branch) p h = ap is_own (sym (same_Some _ p h))

@@ -1,4 +1,3 @@
-pub mod Pairs
 pub mod Places
 pub mod Tables
 pub mod Views

@@ -16,8 +16,8 @@ ghost use Rattle.post_judge.specs.Places.{casts, is_cast_ever, looked_at};
 ghost use Rattle.post_judge.specs.Tables.{own_votes, told_from, AreTold};
 
 use crate::casting::{Caster, casts, may_cast};
-use crate::gathering::told_from;
-use crate::placing::{looked_at, own_place};
+use crate::gathering::{own_votes, told_from};
+use crate::placing::looked_at;
 use crate::table::Table;
 use hb_rules::Heard;
 use hb_wire::{Post, Vote, equality_laws};
@@ -37,14 +37,13 @@ fn heard_for(table: &Table, node: u8, actor: u8, vote: &Vote) -> Result<Vec<Hear
     requires told { AreTold table.now.config table.now.posts.items table.now.buckets.by_place }
     requires casts { casts table.now.config.n actor vote.now ≡ true }
     ensures exact { IfOk result (λ heard. heard.items
-        ≡ told_from table.now.config node actor table.now.buckets.by_place (looked_at table.now.config node actor vote.now)) }
+        ≡ told_from table.now.config node actor table.now.posts.items table.now.buckets.by_place (looked_at table.now.config node actor vote.now)) }
     ensures checked { IfOk result (λ heard. actor < table.now.config.n → AreChecked table.now.config.n heard.items) }
     ensures shares { IfOk result (λ heard. actor < table.now.config.n → AreSharesChecked table.now.config actor heard.items) }
     ensures spelled { IfOk result (λ heard. AreHeardSpelled table.now.config heard.items) }
 {
-    let alloc = table.alloc;
-    let places = looked_at(alloc, &table.config, node, actor, vote)?;
-    let heard = told_from(alloc, &table.config, node, actor, &table.buckets, &places)?;
+    let places = looked_at(table.alloc, &table.config, node, actor, vote)?;
+    let heard = told_from(table, node, actor, &places)?;
     Ok(heard)
 }
 
@@ -59,7 +58,7 @@ fn may_cast_now(
 ) -> Result<bool, AllocError>
     requires deal { table.now.deal ≡ table.now.config }
     requires told { AreTold table.now.config table.now.posts.items table.now.buckets.by_place }
-    requires own { own.now ≡ own_votes table.now.config.n node actor vote.now table.now.buckets.by_place }
+    requires own { own.now ≡ own_votes table.now.config node actor vote.now table.now.posts.items table.now.buckets.by_place }
     requires node { node < table.now.config.n }
     requires correct { is_in table.now.config.liars node ≡ false }
     requires vote { HasSpelling table.now.config vote.now }
@@ -100,8 +99,7 @@ fn is_allowed(
     ensures complete { IfOk result (λ may. IsLegal table.now.config table.now.posts.items → NoCollision table.now.config table.now.posts.items
         → IsAllowed table.now.config node actor table.now.posts.items vote.now → may ≡ true) }
 {
-    let place = own_place(table.config.n(), node, actor, vote);
-    let (_, own) = table.buckets.at(place);
+    let own = own_votes(table, node, actor, vote);
     if is_among(vote, own) {
         return Ok(true);
     }

@@ -1,15 +1,44 @@
 //! Posts by their places.
-ghost use Rattle.std.specs.Prelude.{◌≡◌, [], ◌∷◌, ◌++◌, map, OnOk, if◌then◌else◌};
+ghost use Rattle.std.specs.Prelude.{◌≡◌, [], ◌∷◌, ◌++◌, IfOk, OnOk, if◌then◌else◌};
 ghost use Rattle.post_judge.specs.declared.place.Place.{Place};
-ghost use Rattle.post_judge.specs.Tables.{same_place, told_at, Adds};
+ghost use Rattle.post_judge.specs.Tables.{same_place, numbers_at, votes_at, Adds};
 
 use crate::place::Place;
-use crate::told::{Bucket, Told, keep};
-use hb_wire::{Post, Vote};
+use hb_wire::Vote;
 use std::alloc::{AllocError, Global};
 use std::collections::BTreeMap;
 
-// The posts at each place, in order. A look-up takes time logarithmic in the number of places.
+// The numbers of the posts at one place, in order, and beside them the vote of each, so that the votes can be lent as they lie.
+#[derive(Drop)]
+pub(crate) struct Bucket {
+    numbers: Vec<u32>,
+    votes: Vec<Vote>,
+}
+
+impl Bucket {
+    // No post, and room for one: many places never have more.
+    fn new(alloc: Global) -> Result<Bucket, AllocError>
+        ensures numbers { IfOk result (λ bucket. bucket.numbers.items ≡ []) }
+        ensures votes { IfOk result (λ bucket. bucket.votes.items ≡ []) }
+    {
+        Ok(Bucket {
+            numbers: Vec::with_capacity(alloc, 1)?,
+            votes: Vec::with_capacity(alloc, 1)?,
+        })
+    }
+
+    // Puts a number behind the others, and the vote of its post.
+    fn push(&mut self, number: u32, vote: Vote) -> Result<(), AllocError>
+        ensures numbers { OnOk result (self.new.numbers.items ≡ self.old.numbers.items ++ number ∷ []) }
+        ensures votes { OnOk result (self.new.votes.items ≡ self.old.votes.items ++ vote ∷ []) }
+    {
+        self.numbers.push(number)?;
+        self.votes.push(vote)?;
+        Ok(())
+    }
+}
+
+// The posts at each place. A look-up takes time logarithmic in the number of places.
 #[derive(Drop)]
 pub(crate) struct Buckets {
     pub(crate) by_place: BTreeMap<Place, Bucket>,
@@ -18,57 +47,66 @@ pub(crate) struct Buckets {
 impl Buckets {
     // No post. It takes no memory.
     pub(crate) fn new(alloc: Global) -> Buckets
-        ensures { (place : Place) → told_at result.by_place place ≡ [] }
+        ensures numbers { (place : Place) → numbers_at result.by_place place ≡ [] }
+        ensures votes { (place : Place) → votes_at result.by_place place ≡ [] }
     {
         Buckets {
             by_place: BTreeMap::new(alloc),
         }
     }
 
-    // The posts at a place and their votes, lent.
-    pub(crate) fn at(&self, place: Place) -> (&[Post], &[Vote])
-        ensures posts { result.0.now ≡ map (λ t. t.post) (told_at self.now.by_place place) }
-        ensures votes { result.1.now ≡ map (λ t. t.vote) (told_at self.now.by_place place) }
+    // The numbers of the posts at a place and their votes, lent.
+    pub(crate) fn at(&self, place: Place) -> (&[u32], &[Vote])
+        ensures numbers { result.0.now ≡ numbers_at self.now.by_place place }
+        ensures votes { result.1.now ≡ votes_at self.now.by_place place }
     {
         match self.by_place.get(&place) {
-            Some(bucket) => (bucket.posts(), bucket.votes()),
+            Some(bucket) => (bucket.numbers.as_slice(), bucket.votes.as_slice()),
             None => (&[], &[]),
         }
     }
 
-    // Puts a post behind those at a place.
-    pub(crate) fn add(&mut self, alloc: Global, place: Place, told: Told) -> Result<(), AllocError>
-        ensures { OnOk result ((other : Place) → told_at self.new.by_place other
-            ≡ (if same_place place other then told_at self.old.by_place place ++ told ∷ [] else told_at self.old.by_place other)) }
+    // Puts a number behind those at a place, and the vote of its post.
+    fn add(
+        &mut self,
+        alloc: Global,
+        place: Place,
+        number: u32,
+        vote: Vote,
+    ) -> Result<(), AllocError>
+        ensures numbers { OnOk result ((other : Place) → numbers_at self.new.by_place other
+            ≡ (if same_place place other then numbers_at self.old.by_place place ++ number ∷ [] else numbers_at self.old.by_place other)) }
+        ensures votes { OnOk result ((other : Place) → votes_at self.new.by_place other
+            ≡ (if same_place place other then votes_at self.old.by_place place ++ vote ∷ [] else votes_at self.old.by_place other)) }
     {
         match self.by_place.get_mut(&place) {
             Some(bucket) => {
-                bucket.push(told)?;
+                bucket.push(number, vote)?;
                 Ok(())
             }
             None => {
                 let mut bucket = Bucket::new(alloc)?;
-                bucket.push(told)?;
+                bucket.push(number, vote)?;
                 self.by_place.insert(place, bucket)?;
                 Ok(())
             }
         }
     }
 
-    // Puts a post behind those at a place, if there is one.
+    // The same, if there is a place. The vote is cloned, and no byte string is copied.
     pub(crate) fn add_at(
         &mut self,
         alloc: Global,
         place: Option<Place>,
-        post: &Post,
+        number: u32,
         vote: &Vote,
     ) -> Result<(), AllocError>
-        ensures { OnOk result (Adds self.old.by_place self.new.by_place place (record { post = post.now; vote = vote.now })) }
+        ensures { OnOk result (Adds self.old.by_place self.new.by_place place number vote.now) }
     {
         match place {
             Some(place) => {
-                let told = keep(post, vote)?;
-                self.add(alloc, place, told)?;
+                let kept = vote.clone()?;
+                self.add(alloc, place, number, kept)?;
                 Ok(())
             }
             None => Ok(()),

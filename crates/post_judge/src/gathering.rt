@@ -1,25 +1,35 @@
-//! What an actor hears, by the places of posts.
-ghost use Rattle.std.specs.Prelude.{◌≡◌, ◌++◌, length, filter_map, IfOk, OnOk};
-ghost use Rattle.std.specs.Option.{option_to_list};
-ghost use Rattle.post_judge.specs.Pairs.{pairs};
-ghost use Rattle.post_judge.specs.Tables.{told_to, told_from};
+//! What an actor has cast, and what it hears, by the places of posts.
+ghost use Rattle.std.specs.Prelude.{◌≡◌, ◌++◌, length, map, filter_map, slice_get, Some, IfOk, OnOk};
+ghost use Rattle.std.specs.Option.{option_to_list, option_and_then};
+ghost use Rattle.post_judge.specs.Tables.{spelled_at, posts_of, own_votes, told_as, told_to, told_from, AreTold};
 
-use crate::buckets::Buckets;
 use crate::place::Place;
+use crate::placing::own_place;
+use crate::table::Table;
 use hb_base::Config;
 use hb_rules::Heard;
 use hb_wire::{Post, Vote, reaches};
 use std::alloc::{AllocError, Global};
 
-// What an actor of a node hears of a post at a place where it listens, if the post reaches it.
-fn told_to(
+// The votes that an actor has cast at the place of a vote, lent.
+pub(crate) fn own_votes<'a>(table: &'a Table, node: u8, actor: u8, vote: &Vote) -> &'a [Vote]
+    requires { AreTold table.now.config table.now.posts.items table.now.buckets.by_place }
+    ensures { result.now ≡ own_votes table.now.config node actor vote.now table.now.posts.items table.now.buckets.by_place }
+{
+    let place = own_place(table.config.n(), node, actor, vote);
+    let (_, votes) = table.buckets.at(place);
+    votes
+}
+
+// What an actor of a node hears of a post that spells this vote, if the post reaches it. The vote is cloned, and no byte is read.
+fn told_as(
     config: &Config,
     node: u8,
     actor: u8,
     post: &Post,
     vote: &Vote,
 ) -> Result<Option<Heard>, AllocError>
-    ensures { IfOk result (λ heard. heard ≡ told_to config.now node actor (record { post = post.now; vote = vote.now })) }
+    ensures { IfOk result (λ heard. heard ≡ told_as config.now node actor post.now (Some vote.now)) }
 {
     let n = config.n();
     if !reaches(n, post, node, actor) {
@@ -28,6 +38,24 @@ fn told_to(
     let from = if actor == n { post.actor } else { post.from };
     let vote = vote.clone()?;
     Ok(Some(Heard::new(from, vote)))
+}
+
+// The same of the post of a number, which spells this vote.
+fn told_of(
+    config: &Config,
+    node: u8,
+    actor: u8,
+    posts: &[Post],
+    number: u32,
+    vote: &Vote,
+) -> Result<Option<Heard>, AllocError>
+    requires { spelled_at config.now posts.now number ≡ Some vote.now }
+    ensures { IfOk result (λ heard. heard ≡ option_and_then (told_to config.now node actor) (slice_get posts.now number)) }
+{
+    match posts.get(number as usize) {
+        Some(post) => told_as(config, node, actor, post, vote),
+        None => Ok(None),
+    }
 }
 
 // Puts a hearing, if there is one, behind what was heard.
@@ -43,21 +71,23 @@ fn push_some(heard: &mut Vec<Heard>, said: Option<Heard>) -> Result<(), AllocErr
     }
 }
 
-// Puts what it hears of posts at a place behind what it has heard.
+// Puts what it hears of the posts of these numbers, which spell these votes, behind what it has heard.
 fn hear_told(
-    config: &Config,
+    table: &Table,
     node: u8,
     actor: u8,
-    posts: &[Post],
+    numbers: &[u32],
     votes: &[Vote],
     heard: &mut Vec<Heard>,
 ) -> Result<(), AllocError>
-    requires { length posts.now ≡ length votes.now }
-    ensures { OnOk result (heard.new.items
-        ≡ heard.old.items ++ filter_map (told_to config.now node actor) (pairs posts.now votes.now)) }
+    requires size { length numbers.now ≡ length votes.now }
+    requires votes { map Some votes.now ≡ map (spelled_at table.now.config table.now.posts.items) numbers.now }
+    ensures { OnOk result (heard.new.items ≡ heard.old.items
+        ++ filter_map (told_to table.now.config node actor) (posts_of table.now.posts.items numbers.now)) }
 {
-    for k in 0..posts.len() {
-        let said = told_to(config, node, actor, &posts[k], &votes[k])?;
+    for k in 0..numbers.len() {
+        let number = numbers[k];
+        let said = told_of(&table.config, node, actor, &table.posts, number, &votes[k])?;
         push_some(heard, said)?;
     }
     Ok(())
@@ -65,19 +95,19 @@ fn hear_told(
 
 // What it hears of the posts at some places.
 pub(crate) fn told_from(
-    alloc: Global,
-    config: &Config,
+    table: &Table,
     node: u8,
     actor: u8,
-    buckets: &Buckets,
     places: &[Place],
 ) -> Result<Vec<Heard>, AllocError>
-    ensures { IfOk result (λ heard. heard.items ≡ told_from config.now node actor buckets.now.by_place places.now) }
+    requires { AreTold table.now.config table.now.posts.items table.now.buckets.by_place }
+    ensures { IfOk result (λ heard. heard.items
+        ≡ told_from table.now.config node actor table.now.posts.items table.now.buckets.by_place places.now) }
 {
-    let mut heard = Vec::new(alloc);
+    let mut heard = Vec::new(table.alloc);
     for place in places {
-        let (posts, votes) = buckets.at(*place);
-        hear_told(config, node, actor, posts, votes, &mut heard)?;
+        let (numbers, votes) = table.buckets.at(*place);
+        hear_told(table, node, actor, numbers, votes, &mut heard)?;
     }
     Ok(heard)
 }

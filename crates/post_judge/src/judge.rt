@@ -10,18 +10,18 @@ use rbc_judge::Known;
 use std::alloc::{AllocError, Global};
 use std::marker::Model;
 
-/// Judges the posts of a history one after another, by the rules of the whole protocol (CCS 2016, figures 2 to 4; PODC 2014, figure 2),
-/// and keeps them, by their places those at which later judgements look. After want of memory it judges no more. Clauses see a
-/// `JudgeView`.
+/// Judges the posts of a history one after another, by the rules of the whole protocol (CCS 2016, figures 2 to 4; PODC 2014,
+/// figure 2), and keeps them, and by their places the numbers and the votes of those at which later judgements look. After want
+/// of memory, or of a number below 2 ^ 32 for the next post, it judges no more. Clauses see a `JudgeView`.
 ///
-/// The vote of a post is read once, and the branch of an Echo or a share of a coin is checked as it comes in, and by no look at
-/// it later; that of a correct node's Echo is also checked as it is judged. That of a share is checked only if it is not the one
-/// that was dealt. A post of a correct node is compared with the votes that its actor has cast in the epoch, a desk's with all of the
-/// desk. If it is new, its rule goes through the posts at the places at which it looks: a lane's Echoes and Readies of the epoch,
-/// the claims of a round, the shares of a round, or of each round for a decision, or what its own node's desk or lanes have said.
-/// What it encodes or rebuilds for a lane is kept until the lane's next is another. So a post is looked at by 5n judgements at
-/// most, and a history is judged in time linear in its posts, but for look-ups in a table of places. A vote that is kept has its
-/// shard or its value in common with its post; the batches of a Closed are copies.
+/// The vote of a post is read once, and kept beside its number. The branch of an Echo or a share of a coin is checked as it comes
+/// in, and by no look at it later; that of a correct node's Echo is also checked as it is judged. That of a share is checked only
+/// if it is not the one that was dealt. A post of a correct node is compared with the votes that its actor has cast in the epoch,
+/// a desk's with all of the desk. If it is new, its rule goes through the posts at the places at which it looks: a lane's Echoes
+/// and Readies of the epoch, the claims of a round, the shares of a round, or of each round for a decision, or what its own
+/// node's desk or lanes have said. What it encodes or rebuilds for a lane is kept until the lane's next is another. So a post is
+/// looked at by 5n judgements at most, and a history is judged in time linear in its posts, but for look-ups in a table of
+/// places. A vote that is kept has its shard or its value in common with its post; the batches of a Closed are copies.
 #[derive(Drop)]
 pub struct HistoryJudge {
     table: Table,

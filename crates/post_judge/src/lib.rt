@@ -9,6 +9,5 @@ mod judge;
 mod place;
 mod placing;
 mod table;
-mod told;
 
 pub use judge::HistoryJudge;

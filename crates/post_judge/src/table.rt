@@ -1,8 +1,9 @@
 //! What is kept of the posts that were judged.
-ghost use Rattle.std.specs.Prelude.{◌≡◌, [], ◌∷◌, ◌++◌, true, Some, Contains, IfOk, IfSome, OnOk};
+ghost use Rattle.std.specs.Prelude.{◌≡◌, [], ◌∷◌, ◌++◌, true, length, Some, Contains, IfOk, IfSome, OnOk};
+ghost use Rattle.std.specs.List.{list_any};
 ghost use Rattle.hb_rules.specs.Hearing.{spelled};
 ghost use Rattle.hb_rules.specs.History.{HasSpelling};
-ghost use Rattle.post_judge.specs.Tables.{has_post, AreTold};
+ghost use Rattle.post_judge.specs.Tables.{is_post, AreTold};
 
 use crate::buckets::Buckets;
 use crate::placing::{cast_place, own_place, told_place};
@@ -11,8 +12,8 @@ use hb_base::Config;
 use hb_wire::{Post, Vote, WireFault, equality_laws, read_shared};
 use std::alloc::{AllocError, Global};
 
-// The posts of a run with this config, in order, and by their places those that may count. A vote has its shard or its value in common
-// with its post.
+// The posts of a run with this config, in order, and by their places the numbers of those that may count, and their votes. A vote
+// has its shard or its value in common with its post.
 #[derive(Drop)]
 pub(crate) struct Table {
     pub(crate) alloc: Global,
@@ -38,11 +39,21 @@ pub(crate) fn vote_of(
     }
 }
 
-// Whether a post is among these.
-fn has_post(posts: &[Post], post: &Post) -> bool
-    ensures { result ≡ has_post post.now posts.now }
+// Whether the post of a number is this one.
+fn is_post(posts: &[Post], number: u32, post: &Post) -> bool
+    ensures { result ≡ is_post posts.now post.now number }
 {
-    posts.iter().any(|one| *one == *post)
+    match posts.get(number as usize) {
+        Some(one) => *one == *post,
+        None => false,
+    }
+}
+
+// Whether a post is among those of these numbers.
+fn has_post(posts: &[Post], numbers: &[u32], post: &Post) -> bool
+    ensures { result ≡ list_any (is_post posts.now post.now) numbers.now }
+{
+    numbers.iter().any(|number| is_post(posts, *number, post))
 }
 
 impl Table {
@@ -71,8 +82,18 @@ impl Table {
         equality_laws();
         let n = self.config.n();
         let place = own_place(n, post.from, post.actor, vote);
-        let (posts, _) = self.buckets.at(place);
-        has_post(posts, post)
+        let (numbers, _) = self.buckets.at(place);
+        has_post(&self.posts, numbers, post)
+    }
+
+    // The number of the next post. Where 32 bits don't hold it, it is as where there is no memory.
+    fn next_number(&self) -> Result<u32, AllocError>
+        ensures { IfOk result (λ number. number ≡ length self.now.posts.items) }
+    {
+        match u32::try_from(self.posts.len()) {
+            Ok(number) => Ok(number),
+            Err(_) => Err(AllocError),
+        }
     }
 
     // Puts a post that spells a vote at its places. One that was judged before is there: an actor that is started again says again
@@ -91,8 +112,9 @@ impl Table {
         }
         let cast = cast_place(&self.config, post, vote);
         let told = told_place(&self.config, &self.deal, post, vote);
-        self.buckets.add_at(self.alloc, cast, post, vote)?;
-        self.buckets.add_at(self.alloc, told, post, vote)?;
+        let number = self.next_number()?;
+        self.buckets.add_at(self.alloc, cast, number, vote)?;
+        self.buckets.add_at(self.alloc, told, number, vote)?;
         Ok(())
     }
 

@@ -13,7 +13,7 @@ pub returns-clause-exact : goal.returns-clause-exact
 returns-clause-exact c =
     let t = c.args.table.now in
     c.in_ok-heard.ensures
-    ∙ ap (λ (ps : List Place). told_from t.config c.args.node c.args.actor t.buckets.by_place ps) (c.deref.ensures.value ∙ c.in_ok-places.ensures)
+    ∙ ap (λ (ps : List Place). told_from t.config c.args.node c.args.actor t.posts.items t.buckets.by_place ps) (c.deref.ensures.value ∙ c.in_ok-places.ensures)
 
 pub returns-clause-checked : goal.returns-clause-checked
 returns-clause-checked c =

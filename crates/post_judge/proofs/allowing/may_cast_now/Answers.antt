@@ -29,7 +29,7 @@ returns-clause-sound c =
     IfOk-weaker c.may_cast.result _ _
     (λ may told yes.
     cast_sound t.config t.posts.items t.buckets.by_place c.requires.told i x vote (correct_node t.config i c.requires.node c.requires.correct) such
-    (subst (λ (own : List Vote). MayCast t.config i x own (told_from t.config i x t.buckets.by_place (looked_at t.config i x vote)) vote) c.requires.own
+    (subst (λ (own : List Vote). MayCast t.config i x own (told_from t.config i x t.posts.items t.buckets.by_place (looked_at t.config i x vote)) vote) c.requires.own
     (subst (λ (hs : List Hearing). MayCast t.config i x c.args.own.now hs vote) (c.deref.ensures.value ∙ c.in_ok-heard.ensures.exact) (told yes))))
     c.may_cast.ensures.sound
 
@@ -41,7 +41,7 @@ returns-clause-complete c =
     let vote : Vote = c.args.vote.now in
     let such : casts t.config.n x vote ≡ true =
     (and_parts (casts t.config.n x vote) (nat_lt (epoch_of vote) t.config.epochs) (sym c.is_cast_ever.ensures ∙ c.if-not-is_cast_ever.false)).0 in
-    let heard : c.deref.result.now ≡ told_from t.config i x t.buckets.by_place (looked_at t.config i x vote) =
+    let heard : c.deref.result.now ≡ told_from t.config i x t.posts.items t.buckets.by_place (looked_at t.config i x vote) =
     c.deref.ensures.value ∙ c.in_ok-heard.ensures.exact in
     let known = correct_node t.config i c.requires.node c.requires.correct in
     IfOk-weaker c.may_cast.result _ _
@@ -50,6 +50,6 @@ returns-clause-complete c =
     (λ lane. subst (IsHeardApart t.config i x) (sym heard)
     (told_apart t.config t.posts.items t.buckets.by_place c.requires.told i x vote known such legal apart lane))
     (subst (λ (hs : List Hearing). MayCast t.config i x c.args.own.now hs vote) (sym heard)
-    (subst (λ (own : List Vote). MayCast t.config i x own (told_from t.config i x t.buckets.by_place (looked_at t.config i x vote)) vote) (sym c.requires.own)
+    (subst (λ (own : List Vote). MayCast t.config i x own (told_from t.config i x t.posts.items t.buckets.by_place (looked_at t.config i x vote)) vote) (sym c.requires.own)
     (cast_complete t.config t.posts.items t.buckets.by_place c.requires.told i x vote known such c.requires.correct legal allowed))))
     c.may_cast.ensures.complete

@@ -1,28 +1,33 @@
-use Rattle.std.proofs.Common.{List, ◌++◌, length, take, filter_map, sym, ap, ap₂, ◌∙◌, arith}
+use Rattle.std.proofs.Common.{ℕ, List, ◌++◌, length, map, take, filter_map, Option, Some, sym, ap, ◌∙◌, arith}
 use Rattle.std.proofs.lemmas.List.{length-map}
-use Rattle.hb_wire.specs.declared.post.Post.{Post}
 use Rattle.hb_wire.specs.declared.vote.Vote.{Vote}
 use Rattle.hb_rules.specs.Hearing.{Hearing}
 use Rattle.post_judge.specs.declared.place.Place.{Place}
-use Rattle.post_judge.specs.declared.told.Told.{Told}
-use Rattle.post_judge.specs.Pairs.{pairs}
-use Rattle.post_judge.specs.Tables.{told_to, told_at, told_from}
+use Rattle.post_judge.specs.Tables.{spelled_at, told_to, posts_of, posts_at, told_from}
 use Rattle.post_judge.proofs.Next.{joined_next}
-use Rattle.post_judge.proofs.Pairs.{pairs_back}
 use Rattle.post_judge.proofs.gathering.told_from.Goals as goal
 
-pub hear_told-requires : goal.hear_told-requires
-hear_told-requires c =
-    ap (λ (ps : List Post). length ps) c.at.ensures.posts ∙ length-map _ (λ (t : Told). t.post)
-    ∙ sym (ap (λ (vs : List Vote). length vs) c.at.ensures.votes ∙ length-map _ (λ (t : Told). t.vote))
+pub hear_told-requires-clause-votes : goal.hear_told-requires-clause-votes
+hear_told-requires-clause-votes c =
+    let t = c.args.table.now in
+    ap (λ (vs : List Vote). map Some vs) c.at.ensures.votes
+    ∙ c.requires.votes _
+    ∙ sym (ap (λ (ks : List ℕ). map (spelled_at t.config t.posts.items) ks) c.at.ensures.numbers)
+
+pub hear_told-requires-clause-size : goal.hear_told-requires-clause-size
+hear_told-requires-clause-size c =
+    let t = c.args.table.now in
+    sym (length-map c.at.result.0.now (spelled_at t.config t.posts.items))
+    ∙ sym (ap (λ (os : List (Option Vote)). length os) (hear_told-requires-clause-votes c)) ∙ length-map c.at.result.1.now Some
 
 pub loop-place-preserved : goal.loop-place-preserved
 loop-place-preserved c =
+    let t = c.args.table.now in
     let k = c.loop-place.place-index in
     let places : List Place = c.args.places.now in
-    let told = told_to c.args.config.now c.args.node c.args.actor in
+    let told = told_to t.config c.args.node c.args.actor in
     c.in_ok-hear_told.ensures
-    ∙ ap (λ (hs : List Hearing). hs ++ filter_map told (pairs c.at.result.0.now c.at.result.1.now)) c.loop-place.invariant
-    ∙ ap (λ (ts : List Told). told_from c.args.config.now c.args.node c.args.actor c.args.buckets.now.by_place (take k places) ++ filter_map told ts)
-    (ap₂ (λ (ps : List Post) (vs : List Vote). pairs ps vs) c.at.ensures.posts c.at.ensures.votes ∙ pairs_back _)
-    ∙ joined_next (λ (p : Place). filter_map told (told_at c.args.buckets.now.by_place p)) places k _ (omega (arith, c.loop-place-test.true))
+    ∙ ap (λ (hs : List Hearing). hs ++ filter_map told (posts_of t.posts.items c.at.result.0.now)) c.loop-place.invariant
+    ∙ ap (λ (ks : List ℕ). told_from t.config c.args.node c.args.actor t.posts.items t.buckets.by_place (take k places) ++ filter_map told (posts_of t.posts.items ks))
+    c.at.ensures.numbers
+    ∙ joined_next (λ (p : Place). filter_map told (posts_at t.posts.items t.buckets.by_place p)) places k _ (omega (arith, c.loop-place-test.true))
