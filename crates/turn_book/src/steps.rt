@@ -1,5 +1,5 @@
 //! The steps of a book on its table, which several of its calls make.
-ghost use Rattle.std.specs.Prelude.{◌≡◌, ℕ, ◌<◌, [], false, Some, Contains};
+ghost use Rattle.std.specs.Prelude.{◌≡◌, ℕ, ◌<◌, [], true, false, Some, Contains};
 ghost use Rattle.turn_book.specs.Kept.{IsTable};
 ghost use Rattle.turn_book.specs.Told.{Settles, Takes, left_of, right_of};
 
@@ -34,9 +34,32 @@ pub(crate) fn settle<S: History>(top: &Top<S>, place: &mut Place<S>)
     top.load::<Settle>(place, LOCK);
 }
 
+// How often a thread looks at a held lock before it sleeps on it: a turn takes no longer, and a sleep costs more.
+const LOOKS: u32 = 100;
+
+// Takes the slot, if it is free at one of some looks. Whether it took it.
+fn takes_soon<S: History>(top: &Top<S>, place: &mut Place<S>) -> bool
+    requires table { (place.old.table_id ≡ top.now.table_id) × IsTable top.now.table_id }
+    requires number { (n : ℕ) × (place.old.me.0.number ≡ Some n) }
+    requires out { (place.old.me.0.in_turn ≡ false) × (place.old.me.1 ≡ []) }
+    ensures table { place.new.table_id ≡ place.old.table_id }
+    ensures takes { result ≡ true → Takes S.entries S.names place.old.me place.new.me }
+    ensures same { result ≡ false → place.new.me ≡ place.old.me }
+{
+    for _ in 0..LOOKS {
+        if top.peek(LOCK) == FREE {
+            if top.compare_exchange::<Look>(place, LOCK, FREE, HELD) == FREE {
+                return true;
+            }
+        }
+    }
+    false
+}
+
 // Waits until no other seat has the slot, and takes it.
 //
-// A thread that finds the lock held marks it as awaited, and sleeps. It holds the lock with that mark too, since others may sleep.
+// A thread that finds the lock held looks again for about as long as a turn takes. Then it marks the lock as awaited, and sleeps. It
+// holds the lock with that mark too, since others may sleep.
 pub(crate) fn wait<S: History, R: Wait>(rt: &R, top: &Top<S>, place: &mut Place<S>)
     requires table { (place.old.table_id ≡ top.now.table_id) × IsTable top.now.table_id }
     requires number { (n : ℕ) × (place.old.me.0.number ≡ Some n) }
@@ -44,7 +67,7 @@ pub(crate) fn wait<S: History, R: Wait>(rt: &R, top: &Top<S>, place: &mut Place<
     ensures table { place.new.table_id ≡ place.old.table_id }
     ensures takes { Takes S.entries S.names place.old.me place.new.me }
 {
-    if top.compare_exchange::<Look>(place, LOCK, FREE, HELD) == FREE {
+    if takes_soon(top, place) {
         return;
     }
     for _ in rt.forever() {

@@ -1,21 +1,11 @@
-use Rattle.std.proofs.Common.{arith, ap, ◌∙◌, eqb}
-use prog.Atomic.{either}
-use Rattle.turn_book.proofs.Turning.{sees, held_from_then}
+use Rattle.std.proofs.Common.{arith, ap, ◌∙◌}
+use Rattle.turn_book.proofs.Turning.{sees}
 use Rattle.turn_book.proofs.steps.wait.Goals as goal
-
-pub compare_exchange-requires : goal.compare_exchange-requires
-compare_exchange-requires g c = (
-  c.requires.table.0,
-  omega arith,
-  sees g.S.History.entries g.S.History.names c.requires.number.0 _ _ 0 1 (λ x. either (eqb x 0) 1 x) c.args.place.now.me
-      c.requires.number.1 c.requires.out.0 c.requires.out.1 held_from_then,
-)
 
 pub swap-requires : goal.swap-requires
 swap-requires g c =
-    let tried = c.compare_exchange.ensures in
-    let same = c.loop.invariant.1 ∙ tried.2.1 c.if-compare_exchange-eq-FREE.false in (
-      c.loop.invariant.0 ∙ (tried.0 ∙ c.requires.table.0),
+    let same = c.loop.invariant.1 ∙ c.takes_soon.ensures.same c.if-takes_soon.false in (
+      c.loop.invariant.0 ∙ (c.takes_soon.ensures.table ∙ c.requires.table.0),
       omega arith,
       sees g.S.History.entries g.S.History.names c.requires.number.0 _ _ 2 0 (λ x. 2) c.loop.place.me
           (ap (λ m. m.0.number) same ∙ c.requires.number.1)
