@@ -8,7 +8,7 @@ use Rattle.merkle_branch.proofs.Tested.{is_branch-from}
 use Rattle.hb_wire.specs.declared.vote.Vote.{Vote}
 use Rattle.hb_wire.specs.declared.vote.Vote.TheVariants.{Echo}
 use Rattle.hb_wire.specs.declared.post.Post.{Post}
-use Rattle.hb_rules.specs.Echoes.{IsEchoValid}
+use Rattle.hb_rules.specs.Echoes.{HasValidBranchIfCorrect}
 use Rattle.hb_rules.specs.Hearing.{Hearing, own_in, heard_in}
 use Rattle.hb_rules.specs.History.{IsAllowed, IsLegal}
 use Rattle.hb_rules.specs.Rules.{MayCast}
@@ -30,6 +30,6 @@ echo_of c i x correct history legal e root shard branch (inl stands) =
 
 -- what is allowed after a legal history is a valid Echo, if it is an Echo of a correct node
 pub valid_echo : (c : Numbers) (i x : ℕ) (history : List Post) → IsLegal c history → (vote : Vote) → IsAllowed c i x history vote
-    → IsEchoValid c i vote
+    → HasValidBranchIfCorrect c i vote
 valid_echo c i x history legal (Echo e root shard branch) allowed = λ correct. echo_of c i x correct history legal e root shard branch allowed
 valid_echo c i x history legal vote allowed = tt

@@ -6,7 +6,7 @@ use Rattle.merkle_branch.specs.Branches.{is_branch}
 use Rattle.hb_wire.specs.declared.vote.Vote.{Vote}
 use Rattle.hb_wire.specs.declared.vote.Vote.TheVariants.{Echo}
 
--- an Echo of node i, if it is correct, has a branch that leads from its shard, as leaf i, to its root
-abbrev pub IsEchoValid : Numbers → ℕ → Vote → Type 0
-IsEchoValid c i (Echo e root shard branch) = is_in c.liars i ≡ false → is_branch root c.n i shard branch ≡ true
-IsEchoValid c i _ = Unit {0}
+-- a vote of node i that is an Echo, if the node is correct, has a branch that leads from its shard, as leaf i, to its root
+abbrev pub HasValidBranchIfCorrect : Numbers → ℕ → Vote → Type 0
+HasValidBranchIfCorrect c i (Echo e root shard branch) = is_in c.liars i ≡ false → is_branch root c.n i shard branch ≡ true
+HasValidBranchIfCorrect c i _ = Unit {0}

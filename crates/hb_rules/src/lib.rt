@@ -33,6 +33,6 @@ pub use laws::{
 pub use outbox::Outbox;
 pub use plain_book::{PlainBook, plain_book_laws};
 pub use plain_seat::PlainSeat;
-pub use posts::{Posts, speak, spell};
+pub use posts::{Posts, spell, spell_for};
 pub use report::{End, Fate, Report, running, works};
 pub use voters::Voters;

@@ -102,7 +102,7 @@ impl Book for PlainBook {
 
     fn post(&mut self, seat: &mut PlainSeat, vote: &Vote) -> Result<u32, BookFault> {
         let (node, actor) = (seat.node(), seat.actor());
-        let bytes = self.posts.speak(node, actor, vote);
+        let bytes = self.posts.spell_for(node, actor, vote);
         let posted = self.posts.add_vote(node, actor, vote, bytes);
         seat.look(&self.posts);
         posted

@@ -4,7 +4,7 @@ ghost use Rattle.hb_base.specs.Limits.{most_posts};
 ghost use Rattle.hb_base.specs.NodeSet.{is_in};
 ghost use Rattle.hb_wire.specs.Votes.{Spells};
 ghost use Rattle.hb_rules.specs.History.{HasSpelling, IsAllowed, MayFollow, IsLegal};
-ghost use Rattle.hb_rules.specs.Echoes.{IsEchoValid};
+ghost use Rattle.hb_rules.specs.Echoes.{HasValidBranchIfCorrect};
 ghost use Rattle.hb_rules.specs.Book.{post_of, lie_of, AreKept};
 
 use crate::book::BookFault;
@@ -24,9 +24,14 @@ pub fn spell(alloc: Global, config: &Config, vote: &Vote) -> Result<Bytes, Alloc
 
 /// The bytes of a vote that a node posts in a run of this config. An Echo of a correct node is marked as valid, as the rules ask
 /// for it. Err where there is no memory.
-pub fn speak(alloc: Global, config: &Config, node: u8, vote: &Vote) -> Result<PostBytes, AllocError>
+pub fn spell_for(
+    alloc: Global,
+    config: &Config,
+    node: u8,
+    vote: &Vote,
+) -> Result<PostBytes, AllocError>
     requires spelled { HasSpelling config.now vote.now }
-    requires valid { IsEchoValid config.now node vote.now }
+    requires valid { HasValidBranchIfCorrect config.now node vote.now }
     ensures { IfOk result (λ b. Spells config.now.n config.now.version b vote.now) }
 {
     let bytes = spell(alloc, config, vote)?;
@@ -126,16 +131,16 @@ impl Posts {
         }
     }
 
-    /// The bytes of a vote that the rules allow to this actor of this node, as `speak` gives them. Err where there is no memory.
-    pub fn speak(&self, node: u8, actor: u8, vote: &Vote) -> Result<PostBytes, AllocError>
+    /// The bytes of a vote that the rules allow to this actor of this node, as `spell_for` gives them. Err where there is no memory.
+    pub fn spell_for(&self, node: u8, actor: u8, vote: &Vote) -> Result<PostBytes, AllocError>
         requires spelled { HasSpelling self.now.config vote.now }
         requires allowed { IsAllowed self.now.config node actor self.now.posts vote.now }
         ensures { IfOk result (λ b. Spells self.now.config.n self.now.config.version b vote.now) }
     {
-        speak(self.alloc(), &self.config, node, vote)
+        spell_for(self.alloc(), &self.config, node, vote)
     }
 
-    /// Adds the post of a vote that the rules allow to this actor of this node, and answers its number. `bytes` is what `speak`
+    /// Adds the post of a vote that the rules allow to this actor of this node, and answers its number. `bytes` is what `spell_for`
     /// gave for the vote, so that nothing is spelled where a book is locked. `Full` comes exactly where there are 2^22
     /// posts, and a refusal adds nothing.
     pub fn add_vote(

@@ -70,6 +70,7 @@ impl PostBytes {
     pub fn vote(&self, alloc: Global, n: u8, version: u8) -> Result<Spoken, WireFault>
         requires some { 1 ≤ n }
         requires few { n ≤ most_nodes }
+        ensures found { IfOk result (λ vote. Spells n version self.now vote) }
         ensures meant { IfOk result (λ vote. vote_at n version self.now ≡ Some vote) }
 
         // Bytes are refused exactly where they spell no vote.

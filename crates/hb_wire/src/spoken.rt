@@ -1,6 +1,7 @@
 //! Votes as they are heard.
 
 ghost use Rattle.std.specs.Prelude.{◌≡◌, ◌≤◌, ◌<◌, true};
+ghost use Rattle.hb_base.specs.Limits.{most_nodes};
 ghost use Rattle.hb_wire.specs.Echoes.{is_valid_echo};
 ghost use Rattle.hb_wire.specs.Votes.{epoch_of};
 
@@ -70,7 +71,7 @@ impl Spoken {
     /// hashed.
     pub fn is_valid_echo(&self, n: u8, m: u8) -> bool
         requires leaf { m < n }
-        requires few { n ≤ 16 }
+        requires few { n ≤ most_nodes }
         ensures { result ≡ is_valid_echo n m self.now }
     {
         match &self.valid {
@@ -83,7 +84,7 @@ impl Spoken {
 // The same, found by hashing.
 fn has_valid_branch(vote: &Vote, n: u8, m: u8) -> bool
     requires leaf { m < n }
-    requires few { n ≤ 16 }
+    requires few { n ≤ most_nodes }
     ensures { result ≡ is_valid_echo n m vote.now }
 {
     match vote {

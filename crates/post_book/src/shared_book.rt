@@ -5,7 +5,7 @@ use crate::book::PostBook;
 use crate::naming::Naming;
 use crate::seat::SharedSeat;
 use hb_base::Bytes;
-use hb_rules::{Book, BookFault, speak};
+use hb_rules::{Book, BookFault, spell_for};
 use hb_wire::{Post, To, Vote};
 use std::alloc::AllocError;
 use std::sync::Wait;
@@ -67,7 +67,7 @@ impl<'a, R: Wait, J: Naming> Book for SharedBook<'a, R, J> {
     fn post(&mut self, seat: &mut SharedSeat<J>, vote: &Vote) -> Result<u32, BookFault> {
         let (node, actor) = (seat.node, seat.actor);
         let book = self.book;
-        let bytes = speak(book.alloc, &book.config, node, vote);
+        let bytes = spell_for(book.alloc, &book.config, node, vote);
         let mut posts = book.begin(self.rt, &mut seat.seat, node, actor);
         let posted = posts.add_vote(node, actor, vote, bytes);
         book.pass(&mut seat.seat, posts);

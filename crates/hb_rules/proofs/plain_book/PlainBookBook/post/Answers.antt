@@ -3,8 +3,8 @@ use Rattle.hb_rules.specs.Book.{SeatView, post_of}
 use Rattle.hb_rules.proofs.Seats.{IsAllowed-seat, Posted-seen}
 use Rattle.hb_rules.proofs.plain_book.PlainBookBook.post.Goals as goal
 
-pub speak-bytes-requires-clause-allowed : goal.speak-bytes-requires-clause-allowed
-speak-bytes-requires-clause-allowed c =
+pub spell_for-bytes-requires-clause-allowed : goal.spell_for-bytes-requires-clause-allowed
+spell_for-bytes-requires-clause-allowed c =
     rw (c.node-node.ensures, c.actor-actor.ensures, c.self.view_is)
     (IsAllowed-seat c.args.self.now c.args.seat.now c.args.vote.now c.requires.seat c.requires.allowed)
 

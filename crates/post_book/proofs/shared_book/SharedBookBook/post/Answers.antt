@@ -4,7 +4,7 @@ use Rattle.hb_base.specs.Limits.{most_posts}
 use Rattle.hb_base.specs.Numbers.{Numbers}
 use Rattle.hb_wire.specs.declared.post.Post.{Post}
 use Rattle.hb_rules.specs.Book.{Watched, Posted, post_of}
-use Rattle.hb_rules.specs.Echoes.{IsEchoValid}
+use Rattle.hb_rules.specs.Echoes.{HasValidBranchIfCorrect}
 use Rattle.hb_rules.specs.History.{HasSpelling, IsAllowed}
 use Rattle.hb_rules.proofs.Seats.{IsAllowed-watched}
 use Rattle.hb_rules.proofs.ValidEchoes.{valid_echo}
@@ -13,16 +13,16 @@ use Rattle.post_book.specs.SharedSeats.{SharedView}
 use Rattle.post_book.proofs.Turns.{posted, refused}
 use Rattle.post_book.proofs.shared_book.SharedBookBook.post.Goals as goal
 
-pub speak-bytes-requires-clause-spelled : goal.speak-bytes-requires-clause-spelled
-speak-bytes-requires-clause-spelled g c =
+pub spell_for-bytes-requires-clause-spelled : goal.spell_for-bytes-requires-clause-spelled
+spell_for-bytes-requires-clause-spelled g c =
     let config : c.args.seat.now.seat.config ≡ c.book.inside.config =
     sym (ap (λ (s : SharedView). s.seat.config) c.seat.view_is) ∙ sym c.book.invariant in
     subst (λ (config : Numbers). HasSpelling config c.args.vote.now) config c.requires.spelled
 
-pub speak-bytes-requires-clause-valid : goal.speak-bytes-requires-clause-valid
-speak-bytes-requires-clause-valid g c =
+pub spell_for-bytes-requires-clause-valid : goal.spell_for-bytes-requires-clause-valid
+spell_for-bytes-requires-clause-valid g c =
     let seat = c.seat.inside in
-    subst (λ (config : Numbers). IsEchoValid config seat.node c.args.vote.now) (sym c.book.invariant)
+    subst (λ (config : Numbers). HasValidBranchIfCorrect config seat.node c.args.vote.now) (sym c.book.invariant)
     (valid_echo g.J.Naming.config seat.node seat.actor seat.seat.seen c.seat.invariant.4 c.args.vote.now
     (subst (λ (s : SharedView). IsAllowed s.seat.config s.seat.node s.seat.actor s.seat.seen c.args.vote.now) (sym c.seat.view_is)
     c.requires.allowed))
