@@ -74,17 +74,17 @@ impl Round {
         share: u8,
         salt: &[u8; 16],
         branch: &Branch,
-        is_dealt: bool,
+        is_known_good: bool,
     ) -> bool
         requires from { from < self.old.shares.n }
-        requires dealt { is_dealt ≡ true → IsGood self.old.shares.root self.old.shares.n (heard_share from share salt.now branch.now) }
+        requires dealt { is_known_good ≡ true → IsGood self.old.shares.root self.old.shares.n (heard_share from share salt.now branch.now) }
         ensures same { result ≡ false → self.new.coin ≡ self.old.coin }
         ensures exact { self.new ≡ after_share self.old (heard_share from share salt.now branch.now) }
     {
         if self.coin.is_some() {
             return false;
         }
-        take_in(&mut self.shares, from, share, salt, branch, is_dealt);
+        take_in(&mut self.shares, from, share, salt, branch, is_known_good);
         self.coin = self.shares.coin();
         self.coin.is_some()
     }
@@ -100,20 +100,20 @@ impl Round {
     }
 }
 
-// Takes in a share of a node: unless it is one that was dealt, its branch is checked.
+// Takes in a share of a node: unless it is known to be good, its branch is checked.
 fn take_in(
     shares: &mut Shares,
     from: u8,
     share: u8,
     salt: &[u8; 16],
     branch: &Branch,
-    is_dealt: bool,
+    is_known_good: bool,
 )
     requires from { from < shares.old.n }
-    requires dealt { is_dealt ≡ true → IsGood shares.old.root shares.old.n (heard_share from share salt.now branch.now) }
+    requires dealt { is_known_good ≡ true → IsGood shares.old.root shares.old.n (heard_share from share salt.now branch.now) }
     ensures { shares.new ≡ with_offered shares.old (heard_share from share salt.now branch.now) }
 {
-    if is_dealt {
+    if is_known_good {
         shares.add_checked(from, share, salt, branch);
     } else {
         shares.offer(from, share, salt, branch);

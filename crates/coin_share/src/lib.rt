@@ -82,21 +82,6 @@ impl Shares {
         }
     }
 
-    /// How many nodes there are.
-    pub fn n(&self) -> u8
-        ensures exact { result ≡ self.now.n }
-        ensures few { result ≤ most_nodes }
-    {
-        self.n
-    }
-
-    /// The published root of the coin.
-    pub fn root(&self) -> &[u8; 32]
-        ensures { result.now ≡ self.now.root }
-    {
-        &self.root
-    }
-
     /// Offers the share of node m. The first that holds is answered: `Known` where a share of m was added,
     /// `Wrong` where the branch does not lead from the share and its salt to the published root, else `Added`.
     /// Only `Added` changes the value.

@@ -245,7 +245,7 @@ impl Rbc {
         if self.is_echo_cast {
             return Ok(());
         }
-        if !self.is_valid(self.node, root, shard, branch) {
+        if !self.is_own_shard(root, shard, branch) {
             return Ok(());
         }
         due.push(Vote::Echo {
@@ -333,14 +333,12 @@ impl Rbc {
         Ok(())
     }
 
-    // Whether the branch of a shard leads from it, as the leaf of node m, to the root.
-    fn is_valid(&self, m: u8, root: &[u8; 32], shard: &Bytes, branch: &Branch) -> bool
-        requires { m < (place_of self.now).config.n }
-        ensures value { result ≡ is_branch root.now (place_of self.now).config.n m shard.now branch.now }
-        ensures few { (place_of self.now).config.n ≤ most_nodes }
+    // Whether the branch of a shard leads from it, as the leaf of the own node, to the root.
+    fn is_own_shard(&self, root: &[u8; 32], shard: &Bytes, branch: &Branch) -> bool
+        ensures { result ≡ is_branch root.now (place_of self.now).config.n self.now.node shard.now branch.now }
     {
         let n = self.roots.config().n();
-        is_branch(root, n, m, shard.as_slice(), branch)
+        is_branch(root, n, self.node, shard.as_slice(), branch)
     }
 
     // Whether a Ready for a root becomes due, and a delivery, where so many nodes echoed it validly, so many are ready for

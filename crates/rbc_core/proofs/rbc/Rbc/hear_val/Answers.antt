@@ -19,16 +19,16 @@ returns-then-self-clause-ok c =
     rw (← c.self.view_is, c.if-from-self.false, c.if-target-self.false) (Hears-val_cast _ c.args.root.now c.args.shard.now c.args.branch.now c.args.due.now.votes
     (rw (← c.self.view_is, c.if-from-self.false) at c.requires) c.if-self.true)
 
-pub returns-then-not-is_valid-clause-ok : goal.returns-then-not-is_valid-clause-ok
-returns-then-not-is_valid-clause-ok c =
+pub returns-then-not-is_own_shard-clause-ok : goal.returns-then-not-is_own_shard-clause-ok
+returns-then-not-is_own_shard-clause-ok c =
     rw (← c.self.view_is, c.if-from-self.false, c.if-target-self.false) (Hears-val_bad _ c.args.root.now c.args.shard.now c.args.branch.now c.args.due.now.votes
     (rw (← c.self.view_is, c.if-from-self.false) at c.requires)
-    (sym (rw (← c.self.view_is) at c.is_valid.ensures.value) ∙ c.if-not-is_valid.true))
+    (sym (rw (← c.self.view_is) at c.is_own_shard.ensures) ∙ c.if-not-is_own_shard.true))
 
 pub returns-clause-ok : goal.returns-clause-ok
 returns-clause-ok c =
     rw (← c.self.view_is, c.if-from-self.false, c.if-target-self.false) (Hears-val _ c.args.root.now c.args.shard.now c.args.branch.now c.args.due.now.votes
     c.push.new.self.votes (rw (← c.self.view_is, c.if-from-self.false) at c.requires)
-    (sym (rw (← c.self.view_is) at c.is_valid.ensures.value) ∙ c.if-not-is_valid.false)
+    (sym (rw (← c.self.view_is) at c.is_own_shard.ensures) ∙ c.if-not-is_own_shard.false)
     c.if-self.false
     (c.in_ok-push.ensures.ok ∙ ap (λ (s : List ℕ). c.args.due.now.votes ++ Echo c.self.inside.epoch c.args.root.now s c.args.branch.now ∷ []) c.in_ok-clone.ensures.cases))
