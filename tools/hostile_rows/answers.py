@@ -1,19 +1,21 @@
-"""What a node that lies posts, by workers, where it hears 0, 1, 3, 50 and 100 posts, and where it hears all.
+"""What a node that lies posts, on one thread and by workers, where it hears 0, 1, 3, 50 and 100 posts, and where it hears all.
 
-Workers choose in which order a liar hears, but no schedule changes how much it may say. What each kind says is told in
-docs/SCENARIOS.md. Where it hears all that reaches its node, its answers are as many as what others post calls for. That shows
-too that the workers have carried each post, since a liar hears nothing of what the last deliveries bring about.
+Workers choose in which order a liar hears, but no schedule changes how much it may say. On one thread, first in first out, it
+hears the first posts of the history that reach it, so there its answers are those that these call for. What each kind says is
+told in docs/SCENARIOS.md. Where a liar hears all that reaches its node, its answers are as many as what others post calls for.
+That shows too that the workers have carried each post, since a liar hears nothing of what the last deliveries bring about.
 """
 import collections
 import functools
 import json
 
-from hostile_rows.calls import ENDS, read, read_legal
+from hostile_rows import four_nodes
+from hostile_rows.calls import ENDS, compare, read, read_legal
 from hostile_rows.texts import Wrong
 
 ALL, SPENT = 4194304, 4096
 HEARS = (0, 1, 3, 50, 100, ALL)
-WORKERS = (1, 4)
+WORKERS = (0, 1, 4)
 VAL, BVAL, COIN = "01", "06", "09"
 FALSE_ROOT = "ff" * 32
 
@@ -30,13 +32,13 @@ def scenario(name, hears, workers, nodes=4, epochs=1):
 
 
 class History:
-    """The posts of a run in which the last node lies: its own, those of others, and which of them reach it."""
+    """The posts of a run in which the last node lies: its own, and the first that reach it, with those of others among them."""
 
-    def __init__(self, posts, nodes, epochs):
+    def __init__(self, posts, nodes, epochs, most=ALL):
         posts = [Post(*post) for post in posts]
         self.nodes, self.epochs, self.liar = nodes, epochs, nodes - 1
         self.own = [post for post in posts if post.node == self.liar]
-        self.reaching = [post for post in posts if post.to in ("all", f"node {self.liar}")]
+        self.reaching = [post for post in posts if post.to in ("all", f"node {self.liar}")][:most]
         self.heard = [post for post in self.reaching if post.node != self.liar]
 
     def rounds(self, kind):
@@ -137,7 +139,7 @@ CHECKS = {"silent": check_silent, "equivocate": check_equivocate, "echo_split": 
 def check(bench, name, hears, workers):
     """What a liar among four nodes says that hears so much."""
     posts = read_legal(bench, scenario(name, hears, workers))
-    CHECKS[name](History(posts, 4, 1), hears)
+    CHECKS[name](History(posts, 4, 1, ALL if workers else hears), hears)
     return None
 
 
@@ -148,11 +150,35 @@ def check_large(bench, name, workers):
     return None
 
 
+def check_text(bench, name, liar, workers):
+    """No kind broadcasts a value that a correct node delivers, so the others agree on the batches of the three of them."""
+    given = four_nodes.scenario(workers=workers, liars=[{"node": liar, "name": name}])
+    return compare(bench.ask(["run"], given), 0, four_nodes.text_beside(liar))
+
+
+def check_two(bench, sender, babbler):
+    """Two liars among seven nodes: each speaks at its own node, in whichever order the scenario names them. What reaches the one
+    that babbles first is a shard."""
+    liars = [{"node": sender, "name": "equivocate", "hears": 0}, {"node": babbler, "name": "babble", "hears": 1}]
+    posts = read_legal(bench, json.dumps({"nodes": 7, "faulty": 2, "epochs": 1, "liars": liars}).encode())
+    for node, want in ((sender, [VAL] * 7), (babbler, ["ff", VAL])):
+        said = [code[:2] for other, _, _, code in posts if other == node]
+        if said != want:
+            return f"node {node} has {len(said)} posts, of the kinds {said[:8]} first, in the place of {want}"
+    return None
+
+
 def cases(bench):
-    """Each kind with each of these numbers, and two kinds in a large run."""
+    """Each kind with each of these numbers, the text of a run beside it at the last and at the first node, two kinds in a large
+    run, and two liars."""
     for workers in WORKERS:
         for name in CHECKS:
             for hears in HEARS:
                 yield f"{name} hears {hears}, {workers} workers", functools.partial(check, bench, name, hears, workers)
-        for name in ("bval_both", "false_share"):
+            for liar in (3, 0):
+                case = functools.partial(check_text, bench, name, liar, workers)
+                yield f"the text beside {name} at {liar}, {workers} workers", case
+        for name in ("bval_both", "false_share") if workers else ():
             yield f"{name} among sixteen, {workers} workers", functools.partial(check_large, bench, name, workers)
+    for sender, babbler in ((5, 6), (6, 5)):
+        yield f"two liars, {sender} equivocates", functools.partial(check_two, bench, sender, babbler)

@@ -2,13 +2,19 @@
 import functools
 import json
 
-from hostile_rows.calls import compare, read
+from hostile_rows.calls import compare, read, read_legal
 from hostile_rows.program import tell
 from hostile_rows.texts import Wrong
 
 FOUR = {"nodes": 4, "faulty": 1, "epochs": 1}
 MOST_BYTES, MOST_LINKS, MOST_NUMBER = 1048576, 256, 2**64 - 1
 MOST_SUBMITTED, MOST_BATCH, MOST_EPOCHS, MOST_TX = 20000, 64, 32, 256
+# How long votes of the largest epoch are, by kind. A batch has its count in 2 bytes, and 64 transactions of 256 with their
+# lengths in 2: 2 + 64 * 258 = 16,514. Its frame has its length in 4 bytes before it, and k = 16 - 2 * 5 = 6 shards make it up:
+# 16,518 / 6 = 2,753, and nothing is left. A branch over 16 leaves has 4 digests of 32: 128. A Val has kind, epoch and target, the
+# root, the length in 4, the shard, and the branch: 3 + 32 + 4 + 2,753 + 128. An Echo has no target. A Delivered has kind and
+# epoch, the length in 4, and the batch: 2 + 4 + 16,514. In each of 16 lanes there is one of each for each node.
+LENGTHS = {"01": 2920, "02": 2919, "04": 16520}
 
 
 def text_of(told):
@@ -40,7 +46,17 @@ def check_largest_epoch(bench):
     batches = [[(bytes([node, place]) + bytes(MOST_TX - 2)).hex() for place in range(MOST_BATCH)] for node in range(16)]
     submit = [{"node": node, "tx": tx} for node, batch in enumerate(batches) for tx in batch]
     given = text_of({"nodes": 16, "faulty": 5, "epochs": 1, "submit": submit})
-    return compare(bench.ask(["run"], given), 0, whole_text(16, 5, ledger_of([batches]), 1))
+    wrong = compare(bench.ask(["run"], given), 0, whole_text(16, 5, ledger_of([batches]), 1))
+    return wrong or check_lengths(read_legal(bench, given, (0,)))
+
+
+def check_lengths(posts):
+    """How long the Vals, the Echoes and the Delivereds of the largest epoch are, and how many."""
+    for kind, length in LENGTHS.items():
+        found = [len(code) // 2 for _, _, _, code in posts if code[:2] == kind]
+        if found != [length] * 256:
+            return f"{len(found)} posts of kind {kind} have the lengths {sorted(set(found))[:5]} in the place of 256 of {length}"
+    return None
 
 
 def check_most_submitted(bench):

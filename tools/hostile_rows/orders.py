@@ -1,9 +1,9 @@
 """The mixed order: it goes by the seed, is the same each time, and another than first in first out."""
 import functools
 import itertools
-import json
 
-from hostile_rows.calls import compare, read_legal
+from hostile_rows import four_nodes
+from hostile_rows.calls import compare, read, read_legal
 from hostile_rows.texts import Wrong
 
 SEEDS = (0, 7, 18446744073709551615)
@@ -11,9 +11,8 @@ SEEDS = (0, 7, 18446744073709551615)
 ALWAYS = ("01", "02")
 
 
-def scenario(order, seed):
-    submit = [{"node": node, "tx": f"613{node}"} for node in range(4)]
-    return json.dumps({"nodes": 4, "faulty": 1, "epochs": 1, "order": order, "seed": seed, "submit": submit}).encode()
+def scenario(order, seed, **keys):
+    return four_nodes.scenario(order=order, seed=seed, **keys)
 
 
 def broadcasts(bench, order, seed):
@@ -40,9 +39,15 @@ def check_stored(bench):
     return compare(bench.ask(["trace"], bench.scenario("mixed_small.json")), 0, bench.scenario("mixed_small.trace.out"))
 
 
+def check_doubled(bench, seed):
+    """Each second post comes twice. Whatever the order, the nodes agree, or a lane has gone through its rounds."""
+    read(bench, "run", scenario("mixed", seed, links=[{"every": 2, "at": 0, "shape": "twice"}]), (0, 5))
+
+
 def cases(bench):
     """Cases over seeds and orders."""
     yield "the stored history", functools.partial(check_stored, bench)
+    yield "seed 7, each second post twice", functools.partial(check_doubled, bench, 7)
     for seed in SEEDS:
         yield f"seed {seed} twice", functools.partial(check_again, bench, seed)
         yield f"seed {seed}, mixed and not", functools.partial(check_two, bench, ("mixed", seed), ("fifo", seed))

@@ -21,6 +21,7 @@ FAULTS = (
     ("orders", "fifo", "seed 7, mixed and not"),
     ("orders", "fifo", "seeds 0 and 7"),
     ("orders", "restless", "seed 7 twice"),
+    ("orders", "parted", "seed 7, each second post twice"),
     ("starts", "exchanged", "4 nodes"),
     ("starts", "mixed", "7 nodes, silent at 3"),
     ("hears", "all_ears", "node 3 hears 0"),
@@ -31,6 +32,16 @@ FAULTS = (
     ("stops", "no_stops_with_workers", "stops at 18 and 19 that leave torn and torn, 4 workers"),
     ("stops", "no_stops_with_workers", "a lane, stops at 11 and 12 that leave old and old, 4 workers"),
     ("stops", "bent", "stops at 1 and 2 that leave old and old, one thread"),
+    ("disks", "no_stops", "four nodes, actor 1 stops at 11"),
+    ("disks", "no_stops", "four nodes, actor 4 stops at 18"),
+    ("disks", "no_stops", "alone, actor 0 stops at 263"),
+    ("disks", "no_faults", "four nodes, call 1 of actor 1 fails"),
+    ("disks", "no_faults", "four nodes, call 42 of actor 1 fails"),
+    ("disks", "no_faults", "alone, call 60 of actor 0 fails"),
+    ("disks", "no_faults", "alone, how often the disk of actor 1 is called"),
+    ("disks", "accuser", "four nodes, actor 1 stops at 1"),
+    ("disks", "bent", "four nodes, actor 4 stops at 40"),
+    ("disks", "half_by_memory", "alone, its votes"),
     ("streams", "one_read", "run, 7 bytes at a read"),
     ("streams", "one_read", "audit, 4095 bytes at a read"),
     ("streams", "content_with_less", "observe, a read that fails behind 189 bytes"),
@@ -66,14 +77,17 @@ FAULTS = (
     ("answers", "eager", "babble hears 50, 4 workers"),
     ("answers", "hard_of_hearing", "echo_split hears 4194304, 1 workers"),
     ("answers", "tired", "bval_both among sixteen, 4 workers"),
+    ("answers", "eager", "echo_split hears 1, 0 workers"),
+    ("answers", "parted", "the text beside silent at 0, 0 workers"),
+    ("answers", "all_ears", "two liars, 6 equivocates"),
 )
 
 # Ways of false_program that are no faults, and the faults that take the same way: they too hand on a text, or a scenario. The
 # case that notices such a fault has to be silent here. So it notices the fault, and not that a program stands in between.
 CONTROLS = {
     "same_text": {"half_by_memory", "parted", "bent", "accuser", "exchanged", "content", "lenient", "falls", "shifted", "deaf"},
-    "same_keys": {"one_thread", "one_less", "fifo", "mixed", "restless", "no_stops", "no_stops_with_workers", "few_links",
-                  "few_submitted", "all_ears", "soon_spent", "eager", "tired", "hard_of_hearing"},
+    "same_keys": {"one_thread", "one_less", "fifo", "mixed", "restless", "no_stops", "no_stops_with_workers", "no_faults",
+                  "few_links", "few_submitted", "all_ears", "soon_spent", "eager", "tired", "hard_of_hearing"},
 }
 
 

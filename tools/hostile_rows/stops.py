@@ -5,8 +5,8 @@ And the same of a lane with workers, at calls that the lane's disk has in every 
 import collections
 import functools
 import itertools
-import json
 
+from hostile_rows import four_nodes
 from hostile_rows.calls import compare, read_legal
 from hostile_rows.texts import Wrong
 
@@ -20,24 +20,11 @@ LAST = 18
 # The first entry of a node's own lane has its four shards, so these are sent with call 10. At least those of Echo, Delivered,
 # Aux and Pick come later in every schedule, so each lane's disk has the calls up to 26.
 SHARDS, LANE_CALLS = 4, range(11, 23)
-LEDGER = "epoch 0 batches {}\n" + "batch 0 txs 1\ntx 6130\nbatch 1 txs 1\ntx 6131\nbatch 2 txs 1\ntx 6132\n"
-
-
-def scenario(actor, stops, workers, liars):
-    return json.dumps({
-        "nodes": 4, "faulty": 1, "epochs": 1, "workers": workers, "liars": liars,
-        "submit": [{"node": node, "tx": f"613{node}"} for node in range(4)],
-        "stops": [{"node": NODE, "actor": actor, "call": call, "leave": leave} for call, leave in stops],
-    }).encode()
 
 
 def text(is_lying):
     """What every schedule prints beside a liar that says nothing, and one thread without a liar."""
-    ledger = LEDGER.format(3) if is_lying else LEDGER.format(4) + "batch 3 txs 1\ntx 6133\n"
-    nodes = [f"node {node} running\n{ledger}" for node in range(4)]
-    if is_lying:
-        nodes[3] = "node 3 liar\n"
-    return f"run nodes 4 faulty 1 version 1 epochs 1\n{''.join(nodes)}end 0\n".encode()
+    return four_nodes.text_beside(3) if is_lying else four_nodes.text(*[four_nodes.ALL] * 4)
 
 
 def check_posts(posts, first):
@@ -68,7 +55,8 @@ def check_lane_posts(posts):
 def check(bench, actor, stops, workers, is_lying):
     """One pair of stops."""
     liars = [{"node": 3, "name": "silent"}] if is_lying else []
-    given = scenario(actor, stops, workers, liars)
+    planned = [{"node": NODE, "actor": actor, "call": call, "leave": leave} for call, leave in stops]
+    given = four_nodes.scenario(workers=workers, liars=liars, stops=planned)
     wrong = compare(bench.ask(["run"], given), 0, text(is_lying))
     if wrong:
         return f"run: {wrong}"

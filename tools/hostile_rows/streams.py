@@ -15,7 +15,7 @@ from hostile_rows.calls import compare
 from hostile_rows.program import Limits, tell
 from hostile_rows.texts import WORDS
 
-PIECES = (1, 7, 4095)
+PIECES = (1, 2, 3, 7, 16, 4095)
 READ_FAILED, WRITE_FAILED = (6, b"", b"read failed\n"), b"write failed\n"
 SCENARIO = "four_nodes.json"
 # What a pipe is made to hold, in bytes, and the number of the call that does this on Linux.
@@ -152,7 +152,8 @@ def few(places, most=40):
 
 def reading_cases(bench, words, given):
     name = words[0]
-    for size in PIECES:
+    whole = {size for size in range(len(given) - 1, len(given) + 2) if size <= PAGE}
+    for size in sorted({*PIECES, *whole}):
         yield f"{name}, {size} bytes at a read", functools.partial(check_pieces, bench, words, given, size)
     for count in sorted({0, 1, 100, len(given) // 2, len(given)}):
         call = functools.partial(check_failing_read, bench, words, given[:count])

@@ -1,12 +1,17 @@
 """What lanes, agreements and desks cast. Each check yields a place, what the test wants, and what is made here."""
+import ast
+
 import codes
 import coins
+import rust_values
+import trees
 import votes
 from desk_rules import Desk
 from lane_rules import Agreement, Lane, Numbers
 
 LANES = "crates/lane_cases/src/"
 DESKS = "crates/epoch_cases/src/"
+DISKS = "tools/hostile_rows/disks.py"
 CORRECT, LIAR, SEED, EPOCH, LANE, ROUNDS = 3, 3, 7, 1, 2, 3
 
 
@@ -252,19 +257,67 @@ def calls_of(entries):
     return calls, folds
 
 
+def python_value(text, name):
+    """The value of a constant of a source in Python."""
+    for part in ast.parse(text).body:
+        if isinstance(part, ast.Assign) and isinstance(part.targets[0], ast.Name) and part.targets[0].id == name:
+            return ast.literal_eval(part.value)
+    raise rust_values.Unreadable(f"there is no constant {name}")
+
+
 def journals_of_one(sources):
-    text = sources.text("crates/app_cases/src/alone.rt").split("use crate", 1)[0].replace("\n//! ", " ")
-    numbers = sources.constant("crates/app_cases/src/alone.rt", "COINS")
+    source = sources.text(DISKS)
+    text, numbers = source.split('"""')[1].replace("\n", " "), python_value(source, "ALONE")
     counts = run_of_one(numbers["epochs"], numbers["rounds"], numbers["seed"])
     (lane_votes, lane_entries), (desk_votes, desk_entries) = counts["lane"], counts["desk"]
     calls, folds = calls_of(lane_entries)
+    desk_calls = calls_of(desk_entries)[0]
     told_here = (f"its lane casts {lane_votes} votes, in {lane_entries} entries of its journal, and its desk {desk_votes} votes, "
                  f"in {desk_entries} entries.")
     yield "what is said of votes and entries", True, told_here in text
     (first, first_end), (second, second_end) = folds
     told_calls = (f"is called {calls} times, with folds at calls {first} to {first_end} and {second} to {second_end}, "
-                  f"and the desk's {calls_of(desk_entries)[0]} times.")
+                  f"and the desk's {desk_calls} times.")
     yield "what is said of calls and folds", True, told_calls in text
+    yield "how many votes there are", python_value(source, "VOTES"), (lane_votes, desk_votes)
+    yield "how many calls there are", python_value(source, "TIMES"), (calls, desk_calls)
+    deal = coins.Deal(0, 4, 1, 1, 32)
+    told_coins = f"its coins of rounds 0 and 1 are {deal.coin(0, 1, 0)} and {deal.coin(0, 1, 1)}"
+    yield "what is said of coins", True, told_coins in text
 
 
-CHECKS = [splits_1_low, splits_1_high, splits_2_low, splits_2_high, fronts, alone, lanes, desks, subsets, journals_of_one]
+def posts_of_one(tx, rounds, deal):
+    """The posts of a node alone that proposes this transaction and decides in its last round, or never: actor, address, vote."""
+    value = votes.batch([tx])
+    shard = votes.counted(value)
+    root = trees.root_of([shard])
+    yield 1, "home", votes.vote("Propose", 0, value=value)
+    yield 0, "node 0", votes.vote("Val", 0, target=0, root=root, shard=shard, branch=())
+    yield 0, "all", votes.vote("Echo", 0, root=root, shard=shard, branch=())
+    yield 0, "all", votes.vote("Ready", 0, root=root)
+    yield 0, "home", votes.vote("Delivered", 0, value=value)
+    for at in range(rounds):
+        yield 0, "book", votes.vote("Est", 0, round=at, bit=1)
+        yield 0, "all", votes.vote("Bval", 0, round=at, bit=1)
+        yield 0, "all", votes.vote("Aux", 0, round=at, bit=1)
+        yield 0, "book", votes.vote("Pick", 0, round=at, set=2)
+        share, salt = deal.share(0, 0, at, 0), deal.salt(0, 0, at, 0)
+        yield 0, "all", votes.vote("Coin", 0, round=at, share=share, salt=salt, branch=())
+    if deal.coin(0, 0, rounds - 1):
+        yield 0, "home", votes.vote("Decided", 0, bit=1)
+        yield 1, "home", votes.vote("NoMore", 0)
+        yield 1, "book", votes.vote("Closed", 0, list=((0, value),))
+
+
+def histories_of_one(sources):
+    """The stored histories of the node alone whose coins are 0 up to the last round that it has."""
+    for name, rounds in (("last_round", 3), ("spent_rounds", 2)):
+        text = f"trace nodes 1 faulty 0 version 1 epochs 1 rounds {rounds} batch 64 seed 0 liars 0\n"
+        posts = list(posts_of_one(b"hi", rounds, coins.Deal(0, 1, 0, 1, rounds)))
+        for number, (actor, to, vote) in enumerate(posts):
+            text += f"post {number} from 0 actor {actor} to {to} {votes.spelled(vote).hex()}\n"
+        yield f"the history of {name}", sources.text(f"scenarios/{name}.trace.out"), f"{text}end {len(posts)}\n"
+
+
+CHECKS = [splits_1_low, splits_1_high, splits_2_low, splits_2_high, fronts, alone, lanes, desks, subsets, journals_of_one,
+          histories_of_one]

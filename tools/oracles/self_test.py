@@ -1,5 +1,5 @@
 """For each check a change of the test that it reads, in one place, which it has to notice: the crate and the file, what stands
-there, and what is put in its place. The file is a source, or the output of a stored run."""
+there, and what is put in its place. The file is a source, the output of a stored run, or a path where no crate is named."""
 
 SOURCE = "crates/{}/src/{}.rt"
 LIBRARIES, LANES, DESKS = "library_calls", "lane_cases", "epoch_cases"
@@ -25,7 +25,8 @@ CHANGES = {
     "lanes": (LANES, "lanes", "P32S33D01\"", "P32S34D01\""),
     "desks": (DESKS, "cases", "+P1de+P2ef", "+P1de+P2eg"),
     "subsets": (DESKS, "subsets", '"1g2f3d"', '"1g2f3e"'),
-    "journals_of_one": ("app_cases", "alone", "in 15 entries", "in 16 entries"),
+    "journals_of_one": ("", "tools/hostile_rows/disks.py", "VOTES = (260, 42)", "VOTES = (260, 43)"),
+    "histories_of_one": ("", "scenarios/spent_rounds.trace.out", "post 5 from 0 actor 0", "post 5 from 0 actor 1"),
     "whole_texts": (SCRIPTS, "rows", "refused 8 TooFewNodes n=15 f=5", "refused 8 TooFewNodes n=15 f=4"),
     "keys_and_lists": (SCRIPTS, "rows", "refused 14 BadWord links 1", "refused 14 BadWord links 0"),
     "bounds_and_kinds": (SCRIPTS, "rows", "| 4194304", "| 4194305"),
@@ -51,5 +52,7 @@ CHANGES = {
 def change_of(check):
     """The path of the test, and the two texts."""
     crate, name, old, new = CHANGES[check]
+    if not crate:
+        return name, old, new
     path = f"crates/{crate}/stdout" if name == "stdout" else SOURCE.format(crate, name)
     return path, old, new

@@ -7,7 +7,7 @@
 
 use crate::CountingGate;
 use crate::calls::{Answer, Host, Request, call_through, cast_of};
-use crate::texts::four;
+use crate::four::four_nodes;
 use hb_rules::Report;
 use hb_wire::{Post, To};
 use std::alloc::{AllocError, Global};
@@ -18,7 +18,7 @@ fn scenario(alloc: Global, nodes: u8, keys: &str) -> Result<String, AllocError> 
     if nodes == 1 {
         return format!(in alloc; "{{\"nodes\":1,\"faulty\":0,\"epochs\":1{keys}}}");
     }
-    four(alloc, keys)
+    four_nodes(alloc, keys)
 }
 
 // Runs it. How often the gate was entered, and what the run left.
@@ -30,7 +30,7 @@ fn run_counted(
 ) -> Result<(u64, Answer), AllocError> {
     let gate = CountingGate::new(0, 0);
     let scenario = scenario(alloc, nodes, keys)?;
-    let given = Request::new(&["run"], scenario.as_str());
+    let given = Request::new("run", scenario.as_str());
     let answer = call_through(rt, alloc, &given, cast_of(alloc)?, &gate)?;
     let entered = gate.of_actor().saturating_add(gate.of_others());
     Ok((entered, answer))

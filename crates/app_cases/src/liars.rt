@@ -1,44 +1,18 @@
-//! Runs with a liar. The correct nodes agree on the batches of the three of them, and on one of the liar's where it has broadcast
-//! one.
+//! Runs with liars of the tests' own: what is printed of them, and whom they give away.
+
+ghost use Rattle.std.specs.Prelude.{codes};
 
 use crate::FalseFrame;
-use crate::calls::Host;
-use crate::four::{check_four, check_with_liar};
-use crate::texts::{FIRST_THREE, FOUR_FRONT, LAST_THREE, Node, check_four_coins, liar_at, text};
+use crate::four::check_with_liar;
+use hb_base::LiarName;
+use hb_wire::{Post, To};
+use liar_cast::{Liar, LiarSeat, Lies};
 use std::alloc::Global;
 use std::test::Fail;
 
-const KINDS: [&str; 6] = [
-    "silent",
-    "equivocate",
-    "echo_split",
-    "bval_both",
-    "false_share",
-    "babble",
-];
-
-// Runs the four nodes with a liar of each of the six kinds at this node. None of them broadcasts a value that a correct node
-// delivers.
-fn check_kinds(rt: &impl Host, alloc: Global, node: u8, nodes: &[Node<'_>]) -> Result<(), Fail> {
-    let want = text(alloc, FOUR_FRONT, nodes, 0)?;
-    for &name in &KINDS {
-        let keys = liar_at(alloc, node, name)?;
-        check_four(rt, alloc, "run", keys.as_str(), (0, want.as_str()))?;
-    }
-    Ok(())
-}
-
-#[test]
-fn six_kinds(rt: HostRuntime) -> Result<(), Fail> {
-    check_four_coins(&rt, rt.alloc())?;
-    let liar = ("liar", "");
-    let first = ("running", FIRST_THREE);
-    check_kinds(&rt, rt.alloc(), 3, &[first, first, first, liar])?;
-    let last = ("running", LAST_THREE);
-    check_kinds(&rt, rt.alloc(), 0, &[liar, last, last, last])
-}
-
-const WITH_NOTHING: &str = "epoch 0 batches 4
+const WITH_NOTHING: &str = "run nodes 4 faulty 1 version 1 epochs 1
+node 0 running
+epoch 0 batches 4
 batch 0 txs 1
 tx 6130
 batch 1 txs 1
@@ -46,29 +20,72 @@ tx 6131
 batch 2 txs 1
 tx 6132
 batch 3 txs 0
+node 1 running
+epoch 0 batches 4
+batch 0 txs 1
+tx 6130
+batch 1 txs 1
+tx 6131
+batch 2 txs 1
+tx 6132
+batch 3 txs 0
+node 2 running
+epoch 0 batches 4
+batch 0 txs 1
+tx 6130
+batch 1 txs 1
+tx 6131
+batch 2 txs 1
+tx 6132
+batch 3 txs 0
+node 3 liar
+end 0
 ";
 
-// A frame that is false stands for no bytes, and they for no transaction.
+// What is printed of four nodes where nobody is accused, and where the liar is.
+const NOBODY: &str = "accuse nodes 4 faulty 1 version 1 epochs 1\nend 0\n";
+
+const THE_LIAR: &str = "accuse nodes 4 faulty 1 version 1 epochs 1\naccused 3 posts 3 4\nend 0\n";
+
+// A frame that is false stands for no bytes, and they for no transaction. All its pieces have one root, and each node is sent one,
+// so that it contradicts nothing.
 #[test]
 fn false_frames(rt: HostRuntime) -> Result<(), Fail> {
-    let alloc = rt.alloc();
-    check_four_coins(&rt, alloc)?;
-    let correct = ("running", WITH_NOTHING);
-    let want = text(
-        alloc,
-        FOUR_FRONT,
-        &[correct, correct, correct, ("liar", "")],
-        0,
-    )?;
-    let liar = Box::new(alloc, FalseFrame)?;
-    check_with_liar(
-        &rt,
-        alloc,
-        "run",
-        "false_frame",
-        liar,
-        want.as_str(),
-        "false_frame",
-    )?;
+    for &(word, text) in &[("run", WITH_NOTHING), ("accuse", NOBODY)] {
+        let liar = Box::new(rt.alloc(), FalseFrame)?;
+        check_with_liar(&rt, rt.alloc(), word, "false_frame", liar, text)?;
+    }
+    Ok(())
+}
+
+// A liar that says two votes at its start, which differ in their last byte.
+#[derive(Drop)]
+struct Doubtful {
+    kind: u8,
+}
+
+impl Liar for Doubtful {
+    ghost called = { λ _. codes "doubtful" };
+
+    fn name(&self) -> LiarName {
+        LiarName::of("doubtful").unwrap()
+    }
+
+    fn start(&mut self, alloc: Global, _me: &LiarSeat, lies: &mut Lies) {
+        lies.say(alloc, 0, To::All, &[self.kind, 0, 0, 0]);
+        lies.say(alloc, 0, To::All, &[self.kind, 0, 0, 1]);
+    }
+
+    fn hear(&mut self, _alloc: Global, _me: &LiarSeat, _post: &Post, _lies: &mut Lies) {}
+}
+
+// The three correct nodes propose first, so the two votes are posts 3 and 4. A node may support both bits of a round (kind 6),
+// and may vote for one of them (kind 7).
+#[test]
+fn two_votes_of_a_liar(rt: HostRuntime) -> Result<(), Fail> {
+    for &(kind, text) in &[(7u8, THE_LIAR), (6, NOBODY)] {
+        let liar = Box::new(rt.alloc(), Doubtful { kind })?;
+        check_with_liar(&rt, rt.alloc(), "accuse", "doubtful", liar, text)?;
+    }
     Ok(())
 }

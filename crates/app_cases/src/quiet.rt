@@ -8,36 +8,40 @@ use quiet_check::is_quiet;
 use std::alloc::{AllocError, Global};
 use std::test::Fail;
 
-// Whether the report of a run of four nodes, with these keys besides, is quiet.
-fn is_quiet_with(rt: &impl Host, alloc: Global, keys: &str) -> Result<bool, AllocError> {
+// Checks that the report of a run of four nodes, with these keys besides, is quiet, and has so many epochs in common.
+fn check_quiet(rt: &impl Host, alloc: Global, keys: &str, epochs: u32) -> Result<(), AllocError> {
     let answer = run_four(rt, alloc, keys)?;
-    is_quiet(alloc, &answer.report)
-}
-
-// A run that ended left nothing to do, whatever was lost, doubled, lied or stopped on the way.
-#[test]
-fn reports_of_runs(rt: HostRuntime) -> Result<(), Fail> {
-    let alloc = rt.alloc();
-    for &keys in &[
-        "",
-        r#","version":2"#,
-        r#","links":[{"to":2,"every":1,"at":0,"shape":"drop"}]"#,
-        r#","links":[{"from":3,"every":1,"at":0,"shape":"late"},{"every":2,"at":0,"shape":"twice"}]"#,
-        r#","order":"mixed","seed":7,"liars":[{"node":3,"name":"bval_both"}]"#,
-        r#","faults":[{"node":1,"actor":1,"call":9}]"#,
-        r#","stops":[{"node":1,"actor":4,"call":9,"leave":"torn"}]"#,
-    ] {
-        assert!(rt; is_quiet_with(&rt, alloc, keys)?, "{keys}");
-    }
+    assert!(rt;
+        is_quiet(alloc, &answer.report)? && common_epochs(&answer.report) == epochs,
+        "{keys}"
+    );
     Ok(())
 }
 
-// What was dropped nobody misses, though the node that runs without it has closed no epoch.
+// A run that ended left nothing to do, whatever was lost, doubled, lied or stopped on the way. What was dropped nobody misses,
+// though the node that runs without it has closed no epoch.
 #[test]
-fn a_lost_node(rt: HostRuntime) -> Result<(), Fail> {
-    let keys = r#","links":[{"to":2,"every":1,"at":0,"shape":"drop"}]"#;
-    let answer = run_four(&rt, rt.alloc(), keys)?;
-    assert!(rt; is_quiet(rt.alloc(), &answer.report)? && common_epochs(&answer.report) == 0);
+fn reports_of_runs(rt: HostRuntime) -> Result<(), Fail> {
+    for &(keys, epochs) in &[
+        ("", 1u32),
+        (r#","version":2"#, 1),
+        (r#","links":[{"to":2,"every":1,"at":0,"shape":"drop"}]"#, 0),
+        (
+            r#","links":[{"from":3,"every":1,"at":0,"shape":"late"},{"every":2,"at":0,"shape":"twice"}]"#,
+            1,
+        ),
+        (
+            r#","order":"mixed","seed":7,"liars":[{"node":3,"name":"bval_both"}]"#,
+            1,
+        ),
+        (r#","faults":[{"node":1,"actor":1,"call":9}]"#, 1),
+        (
+            r#","stops":[{"node":1,"actor":4,"call":9,"leave":"torn"}]"#,
+            1,
+        ),
+    ] {
+        check_quiet(&rt, rt.alloc(), keys, epochs)?;
+    }
     Ok(())
 }
 

@@ -1,8 +1,7 @@
-//! Takes and puts that fail.
+//! Puts that fail. Takes that fail, and other streams, `tools/hostile` and `tools/statuses` show.
 
-use crate::accusing::ALONE;
-use crate::calls::{Host, Request, call, check_no_run, check_run};
-use crate::texts::check_one_coins;
+use crate::calls::{Host, Request, call, check_run};
+use crate::four::ALONE;
 use std::alloc::{AllocError, Global};
 use std::test::Fail;
 
@@ -25,46 +24,6 @@ const OBSERVED: [&str; 6] = [
     "tx 6869\n",
     "end 0\n",
 ];
-
-fn joined(alloc: Global, lines: &[&str]) -> Result<String, AllocError> {
-    let mut text = String::new(alloc);
-    for line in lines {
-        text.push_str(line)?;
-    }
-    Ok(text)
-}
-
-// The scenario comes in six pieces, of 16 bytes but the last, and a take more finds its end.
-#[test]
-fn takes_that_fail(rt: HostRuntime) -> Result<(), Fail> {
-    for take in 1..8u32 {
-        for (tell, status, told) in [(0, 6, "read failed\n"), (1, 7, "")] {
-            let given = Request {
-                piece: 16,
-                take,
-                tell,
-                ..Request::new(&["run"], ALONE)
-            };
-            check_no_run(&rt, rt.alloc(), &given, (status, "", told), told)?;
-        }
-    }
-    Ok(())
-}
-
-#[test]
-fn pieces(rt: HostRuntime) -> Result<(), Fail> {
-    check_one_coins(&rt, rt.alloc())?;
-    let text = joined(rt.alloc(), &LINES)?;
-    for piece in [1, 2, 3, 16, 86, 87, 88] {
-        let given = Request {
-            piece,
-            take: 100,
-            ..Request::new(&["run"], ALONE)
-        };
-        check_run(&rt, rt.alloc(), &given, (0, text.as_str()), "pieces")?;
-    }
-    Ok(())
-}
 
 // The run itself came to its end: its status is in the report.
 fn check_cut(
@@ -92,7 +51,6 @@ fn check_puts(
     word: &str,
     lines: [&str; 6],
 ) -> Result<(), AllocError> {
-    let words = [word];
     let mut put = 0u32;
     let mut front = String::new(alloc);
     for line in lines {
@@ -101,7 +59,7 @@ fn check_puts(
             let given = Request {
                 put,
                 tell,
-                ..Request::new(&words, ALONE)
+                ..Request::new(word, ALONE)
             };
             check_cut(rt, alloc, &given, front.as_str(), told)?;
         }
@@ -109,14 +67,13 @@ fn check_puts(
     }
     let given = Request {
         put: 7,
-        ..Request::new(&words, ALONE)
+        ..Request::new(word, ALONE)
     };
     check_run(rt, alloc, &given, (0, front.as_str()), "seventh put")
 }
 
 #[test]
 fn puts_that_fail(rt: HostRuntime) -> Result<(), Fail> {
-    check_one_coins(&rt, rt.alloc())?;
     check_puts(&rt, rt.alloc(), "run", LINES)?;
     check_puts(&rt, rt.alloc(), "observe", OBSERVED)?;
     Ok(())
