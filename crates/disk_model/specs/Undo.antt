@@ -1,5 +1,5 @@
 -- Bytes that can be put back to what they were.
-use Rattle.std.specs.Prelude.{◌≤◌, ◌+◌, ℕ, List, [], ◌∷◌, length}
+use Rattle.std.specs.Prelude.{◌≤◌, ◌+◌, ◌/◌, ◌^◌, ◌||◌, ℕ, List, [], ◌∷◌, length, max, nat_lt, nat_le, if◌then◌else◌}
 use Rattle.disk_model.specs.declared.undo.Saved.{Saved}
 use Rattle.disk_model.specs.Disk.{overwritten}
 
@@ -17,3 +17,8 @@ put_back (first ∷ later) bytes = overwritten first.at first.bytes.items (put_b
 abbrev pub AreWithin : ℕ → List Saved → Type 0
 AreWithin n [] = Unit {0}
 AreWithin n (first ∷ later) = (first.at + length first.bytes.items ≤ n) × AreWithin n later
+
+-- The room of bytes that are to take so many more. Where it does not do and they are 64 KiB or more, it becomes room for
+-- a quarter of them more, or for those where they are more.
+abbrev pub room_made : ℕ → ℕ → ℕ → ℕ
+room_made room len more = if nat_lt len (2 ^ 16) || nat_le (len + more) room then room else len + max more (len / 4)

@@ -131,7 +131,7 @@ impl Area {
         self.bytes.settle(self.len);
         self.written.clear();
         // What is left is copied into a smaller block: fewer bytes than were cut off. A half that grows again asks for the
-        // room again, in blocks that double.
+        // room again.
         if self.len < most / 2 {
             self.bytes.shrink();
         }

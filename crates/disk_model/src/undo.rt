@@ -1,10 +1,14 @@
 //! Bytes that can be put back to what they were.
 ghost use Rattle.std.specs.Prelude.{◌≡◌, ◌≤◌, ◌<◌, ◌+◌, ◌^◌, [], length, take, IfOk, OnOk, OnErr};
 ghost use Rattle.disk_model.specs.Disk.{overwritten};
-ghost use Rattle.disk_model.specs.Undo.{put_back, AreWithin};
+ghost use Rattle.std.specs.Vec.{vec_capacity};
+ghost use Rattle.disk_model.specs.Undo.{put_back, AreWithin, room_made};
 
 use std::alloc::{AllocError, Global};
 use std::marker::Model;
+
+/// Bytes that are so many, or more, grow by a quarter.
+const LARGE: usize = 1 << 16;
 
 /// What stood in a range before it was written over.
 #[derive(Drop)]
@@ -122,9 +126,24 @@ fn overwrite(target: &mut Vec<u8>, at: usize, bytes: &[u8]) -> Result<(), AllocE
     ensures err { OnErr result (target.new.items ≡ target.old.items) }
 {
     let over = bytes.len().min(target.len() - at);
+    make_room(target, bytes.len() - over)?;
     target.extend_from_slice(&bytes[over..])?;
     target[at..at + over].copy_from_slice(&bytes[..over]);
     Ok(())
+}
+
+// Makes room for so many bytes more, where there is none and the bytes are large: for a quarter of them at least, so that
+// all appends together copy few bytes, and for no more than that. Others grow by doubling as they are appended to.
+fn make_room(target: &mut Vec<u8>, more: usize) -> Result<(), AllocError>
+    ensures items { target.new.items ≡ target.old.items }
+    ensures exact { OnOk result (vec_capacity target.new ≡ room_made (vec_capacity target.old) (length target.old.items) more) }
+    ensures full { OnErr result (vec_capacity target.old < length target.old.items + more) }
+{
+    let len = target.len();
+    if len < LARGE || more <= target.capacity() - len {
+        return Ok(());
+    }
+    target.reserve_exact(more.max(len / 4))
 }
 
 // Puts back what was saved, the last first.
