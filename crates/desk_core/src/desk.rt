@@ -116,7 +116,7 @@ fn pool_of(alloc: Global, submitted: &[Bytes]) -> Result<Pool, AllocError>
 {
     let mut pool = Pool::new(alloc);
     for tx in submitted {
-        pool.submit(tx.as_slice())?;
+        pool.submit(tx)?;
     }
     Ok(pool)
 }

@@ -108,7 +108,7 @@ fn batch_from(alloc: Global, first: u16) -> Result<Bytes, AllocError> {
 fn full_pool(alloc: Global) -> Result<Pool, AllocError> {
     let mut pool = Pool::new(alloc);
     for number in 0..SUBMITTED {
-        pool.submit(&number.to_be_bytes())?;
+        pool.submit(&Bytes::copy(alloc, &number.to_be_bytes())?)?;
     }
     Ok(pool)
 }

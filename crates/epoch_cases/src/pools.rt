@@ -23,7 +23,7 @@ fn told(alloc: Global, script: &[u8]) -> Result<(Vec<u8>, Vec<u8>), AllocError> 
         if letter.is_ascii_uppercase() {
             settle_one(alloc, &mut pool, &tx)?;
         } else {
-            let answer = match pool.submit(&tx)? {
+            let answer = match pool.submit(&Bytes::copy(alloc, &tx)?)? {
                 Submitted::Added => b'A',
                 Submitted::Known => b'K',
             };
@@ -71,7 +71,7 @@ fn oldest_by_count(rt: HostRuntime) -> Result<(), Fail> {
     let alloc = rt.alloc();
     let mut pool = Pool::new(alloc);
     for tx in [b"cc".as_slice(), b"a", b"bbb"] {
-        pool.submit(tx)?;
+        pool.submit(&Bytes::copy(alloc, tx)?)?;
     }
     for &(count, wanted) in &[
         (0, ""),
@@ -90,10 +90,15 @@ fn oldest_by_count(rt: HostRuntime) -> Result<(), Fail> {
 }
 
 // Whether each of the numbers below this one, as four bytes, is answered so.
-fn are_answered(pool: &mut Pool, numbers: u32, wanted: Submitted) -> Result<bool, AllocError> {
+fn are_answered(
+    alloc: Global,
+    pool: &mut Pool,
+    numbers: u32,
+    wanted: Submitted,
+) -> Result<bool, AllocError> {
     let mut all = true;
     for number in 0..numbers {
-        let answer = pool.submit(&number.to_be_bytes())?;
+        let answer = pool.submit(&Bytes::copy(alloc, &number.to_be_bytes())?)?;
         all &= answer == wanted;
     }
     Ok(all)
@@ -136,7 +141,7 @@ fn settle_numbered(
 // A pool of so many numbers.
 fn full(alloc: Global, numbers: u32) -> Result<Option<Pool>, AllocError> {
     let mut pool = Pool::new(alloc);
-    if are_answered(&mut pool, numbers, Submitted::Added)? {
+    if are_answered(alloc, &mut pool, numbers, Submitted::Added)? {
         Ok(Some(pool))
     } else {
         Ok(None)
@@ -145,9 +150,10 @@ fn full(alloc: Global, numbers: u32) -> Result<Option<Pool>, AllocError> {
 
 #[test]
 fn ten_thousand_submitted(rt: HostRuntime) -> Result<(), Fail> {
-    let mut pool = full(rt.alloc(), 10_000)?.ok_or("a fresh one was known")?;
+    let alloc = rt.alloc();
+    let mut pool = full(alloc, 10_000)?.ok_or("a fresh one was known")?;
     let are_pooled = are_numbered(pool.pooled(), 10_000, 0, 1);
-    let are_known = are_answered(&mut pool, 10_000, Submitted::Known)?;
+    let are_known = are_answered(alloc, &mut pool, 10_000, Submitted::Known)?;
     let oldest = pool.oldest(255)?;
     assert!(rt; are_pooled && are_known && are_numbered(oldest.as_slice(), 255, 0, 1));
     Ok(())
@@ -160,7 +166,7 @@ fn ten_thousand_settled(rt: HostRuntime) -> Result<(), Fail> {
     // The even ones, and as many that were never submitted.
     settle_numbered(alloc, &mut pool, 0, 2, 10_000)?;
     let are_odd = are_numbered(pool.pooled(), 5_000, 1, 2);
-    let are_known = are_answered(&mut pool, 10_000, Submitted::Known)?;
+    let are_known = are_answered(alloc, &mut pool, 10_000, Submitted::Known)?;
     settle_numbered(alloc, &mut pool, 1, 2, 5_000)?;
     assert!(rt; are_odd && are_known && pool.pooled().is_empty());
     Ok(())

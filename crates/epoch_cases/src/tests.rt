@@ -16,7 +16,7 @@ use tx_pool::Pool;
 fn pool_of(alloc: Global, letters: &str) -> Result<Pool, AllocError> {
     let mut pool = Pool::new(alloc);
     for letter in letters.as_bytes() {
-        pool.submit(&[*letter])?;
+        pool.submit(&Bytes::copy(alloc, &[*letter])?)?;
     }
     Ok(pool)
 }

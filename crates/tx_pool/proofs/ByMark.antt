@@ -18,7 +18,7 @@ chosen-apart (Some first) tx o apart = ap (λ (b : Bool). if b then Some first.s
 -- one that has no standing is not the first with its mark
 pub apart_from_none : (first : Option First) (tx : List ℕ) (o : Option Standing) → chosen first tx o ≡ None → is_first first tx ≡ false
 apart_from_none None tx o none = refl
-apart_from_none (Some first) tx o none = by (bytes_eq tx first.tx.items) none
+apart_from_none (Some first) tx o none = by (bytes_eq tx first.tx) none
   where
     by : (b : Bool) → (if b then Some first.standing else o) ≡ None → b ≡ false
     by true h = absurd (cc (h))

@@ -29,14 +29,14 @@ both false b e = e
 
 -- a transaction that is the first with its mark is among the firsts
 first_among : (test : ℕ → Bool) (es : List (ℕ × First)) (tx : List ℕ) → is_first (lookup test es) tx ≡ true
-    → is_among (map (λ e. e.1.tx.items) es) tx ≡ true
+    → is_among (map (λ e. e.1.tx) es) tx ≡ true
 first_among test [] tx is = is
 first_among test (e ∷ es) tx is = by (test e.0) (first_among test es tx) is
   where
-    by : (b : Bool) → (is_first (lookup test es) tx ≡ true → is_among (map (λ e. e.1.tx.items) es) tx ≡ true)
-        → is_first (if b then Some e.1 else lookup test es) tx ≡ true → (bytes_eq tx e.1.tx.items || is_among (map (λ e. e.1.tx.items) es) tx) ≡ true
-    by true later h = ap (λ (b : Bool). b || is_among (map (λ e. e.1.tx.items) es) tx) h
-    by false later h = both (bytes_eq tx e.1.tx.items) (is_among (map (λ e. e.1.tx.items) es) tx) (later h)
+    by : (b : Bool) → (is_first (lookup test es) tx ≡ true → is_among (map (λ e. e.1.tx) es) tx ≡ true)
+        → is_first (if b then Some e.1 else lookup test es) tx ≡ true → (bytes_eq tx e.1.tx || is_among (map (λ e. e.1.tx) es) tx) ≡ true
+    by true later h = ap (λ (b : Bool). b || is_among (map (λ e. e.1.tx) es) tx) h
+    by false later h = both (bytes_eq tx e.1.tx) (is_among (map (λ e. e.1.tx) es) tx) (later h)
 
 -- one that stands among the others is one of them
 other_among : (es : List (Vec ℕ Global × Standing)) (tx : List ℕ) → is_some (lookup (is_at (query_cmp tx)) es) ≡ true
@@ -53,7 +53,7 @@ other_among (e ∷ es) tx some = by (is_eq (slice_cmp nat_cmp tx e.0.items)) (is
 -- a transaction that has a standing is in the table
 among_all : (table : Table) (tx : List ℕ) → is_settled (standing_of table tx) ≡ true → is_among (all_of table) tx ≡ true
 among_all table tx settled =
-    is_among-append (map (λ e. e.1.tx.items) table.firsts) (map (λ e. e.0.items) table.others) tx
+    is_among-append (map (λ e. e.1.tx) table.firsts) (map (λ e. e.0.items) table.others) tx
     ∙ by (is_first (first_with table (mark tx)) tx) refl
   where
     some : (o : Option Standing) → is_settled o ≡ true → is_some o ≡ true
@@ -61,10 +61,10 @@ among_all table tx settled =
     some (Some standing) h = refl
 
     by : (b : Bool) → is_first (first_with table (mark tx)) tx ≡ b
-        → (is_among (map (λ e. e.1.tx.items) table.firsts) tx || is_among (map (λ e. e.0.items) table.others) tx) ≡ true
+        → (is_among (map (λ e. e.1.tx) table.firsts) tx || is_among (map (λ e. e.0.items) table.others) tx) ≡ true
     by true is = ap (λ (b : Bool). b || is_among (map (λ e. e.0.items) table.others) tx) (first_among (is_at (nat_cmp (mark tx))) table.firsts tx is)
     by false apart =
-        both (is_among (map (λ e. e.1.tx.items) table.firsts) tx) (is_among (map (λ e. e.0.items) table.others) tx)
+        both (is_among (map (λ e. e.1.tx) table.firsts) tx) (is_among (map (λ e. e.0.items) table.others) tx)
         (other_among table.others tx
         (some (other_at table tx) (ap is_settled (sym (chosen-apart (first_with table (mark tx)) tx (other_at table tx) apart)) ∙ settled)))
 

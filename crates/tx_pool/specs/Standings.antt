@@ -34,12 +34,12 @@ other_at table tx = lookup (is_at (query_cmp tx)) table.others
 -- whether the first with its mark is this transaction
 abbrev pub is_first : Option First → List ℕ → Bool
 is_first None tx = false
-is_first (Some first) tx = bytes_eq tx first.tx.items
+is_first (Some first) tx = bytes_eq tx first.tx
 
 -- the standing of the first, where that is this transaction, and else the one among the others
 abbrev pub chosen : Option First → List ℕ → Option Standing → Option Standing
 chosen None tx other = other
-chosen (Some first) tx other = if bytes_eq tx first.tx.items then Some first.standing else other
+chosen (Some first) tx other = if bytes_eq tx first.tx then Some first.standing else other
 
 -- the same transaction with this standing
 abbrev pub with_standing : Standing → First → First
@@ -79,7 +79,7 @@ is_reserved (Some Reserved) = true
 
 -- all transactions that have a place
 abbrev pub all_of : Table → List (List ℕ)
-all_of table = map (λ e. e.1.tx.items) table.firsts ++ map (λ e. e.0.items) table.others
+all_of table = map (λ e. e.1.tx) table.firsts ++ map (λ e. e.0.items) table.others
 
 -- the settled transactions, in the order of their bytes, each once
 abbrev pub settled_of : Table → List (List ℕ)

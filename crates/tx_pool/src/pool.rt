@@ -24,8 +24,8 @@ pub enum Submitted {
 /// The transactions that were submitted to a node and are not settled, in the order in which they came, and those that
 /// are settled. Clauses see a `PoolView`.
 ///
-/// The pool owns the bytes of a pooled transaction twice, in the list that it lends and in the ordered map that finds it,
-/// and those of a settled one once, in the map.
+/// The list that it lends and the ordered map that finds a transaction share the bytes with whoever gave them. Only where the
+/// marks of two transactions are equal is the later one copied.
 #[derive(Drop)]
 pub struct Pool {
     pooled: Vec<Bytes>,
@@ -58,8 +58,8 @@ impl Pool {
     /// Pools a transaction of 1 to 256 bytes behind the others, unless the same bytes are pooled or settled.
     ///
     /// It takes one look-up, in time logarithmic in the number of transactions that the pool was told of. Where the bytes
-    /// are new it takes one insertion besides, and copies them twice. The list doubles where it is full.
-    pub fn submit(&mut self, tx: &[u8]) -> Result<Submitted, AllocError>
+    /// are new it takes one insertion besides, and shares them. The list doubles where it is full.
+    pub fn submit(&mut self, tx: &Bytes) -> Result<Submitted, AllocError>
         requires { IsTransaction tx.now }
         ensures answer { IfOk result (λ answer. answer ≡ (if is_known self.old tx.now then Submitted.Known else Submitted.Added)) }
         ensures pooled { OnOk result (self.new.pooled ≡ (if is_known self.old tx.now then self.old.pooled else self.old.pooled ++ tx.now ∷ [])) }
@@ -67,14 +67,14 @@ impl Pool {
         ensures told { OnOk result ((calls : List Call) → IsPoolOf calls self.old → IsPoolOf (calls ++ Submit tx.now ∷ []) self.new) }
         ensures err { OnErr result (self.new ≡ self.old) }
     {
-        if self.standings.get(tx).is_some() {
+        if self.standings.get(tx.as_slice()).is_some() {
             return Ok(Submitted::Known);
         }
         let alloc = *self.pooled.allocator();
-        let copy = Bytes::copy(alloc, tx)?;
+        let shared = tx.clone()?;
         self.pooled.reserve(1)?;
         self.standings.insert(alloc, tx, Standing::Pooled)?;
-        push_within(&mut self.pooled, copy);
+        push_within(&mut self.pooled, shared);
         Ok(Submitted::Added)
     }
 
@@ -91,7 +91,7 @@ impl Pool {
     /// Settles these transactions, also those that were never submitted: they are no longer pooled, and never will be.
     ///
     /// For each of them it takes two look-ups, and an insertion if the pool was not told of it before; then one look-up for
-    /// each that is pooled, in one pass. Bytes are copied where they are inserted.
+    /// each that is pooled, in one pass. Bytes are shared where they are inserted.
     pub fn settle(&mut self, txs: &[Bytes]) -> Result<(), AllocError>
         ensures pooled { OnOk result (self.new.pooled ≡ without txs.now self.old.pooled) }
         ensures settled { OnOk result ((tx : List ℕ) → is_among self.new.settled tx ≡ (is_among self.old.settled tx || is_among txs.now tx)) }

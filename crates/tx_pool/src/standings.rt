@@ -22,10 +22,10 @@ pub enum Standing {
     Reserved,
 }
 
-// The first transaction that came with its mark.
+// The first transaction that came with its mark. It shares the bytes that were given.
 #[derive(Drop)]
 struct First {
-    tx: Vec<u8>,
+    tx: Bytes,
     standing: Standing,
 }
 
@@ -71,17 +71,24 @@ impl Standings {
         self.others.get(tx).copied()
     }
 
-    /// Gives a standing to a transaction that has none. It copies the bytes.
-    pub fn insert(&mut self, alloc: Global, tx: &[u8], standing: Standing) -> Result<(), AllocError>
+    /// Gives a standing to a transaction that has none. It shares the bytes where they are the first with their mark, and
+    /// else copies them.
+    pub fn insert(
+        &mut self,
+        alloc: Global,
+        tx: &Bytes,
+        standing: Standing,
+    ) -> Result<(), AllocError>
         requires { standing_of self.old tx.now ≡ None }
         ensures ok { OnOk result (Sets self.old self.new tx.now (Some standing)) }
         ensures err { OnErr result (self.new ≡ self.old) }
     {
-        let mark = mark_of(tx);
-        let tx = Vec::from_slice(alloc, tx)?;
+        let mark = mark_of(tx.as_slice());
         if self.by_mark.contains_key(&mark) {
-            self.others.insert(tx, standing)?;
+            let copy = Vec::from_slice(alloc, tx.as_slice())?;
+            self.others.insert(copy, standing)?;
         } else {
+            let tx = tx.clone()?;
             self.by_mark.insert(mark, First { tx, standing })?;
         }
         Ok(())
@@ -111,7 +118,7 @@ impl Standings {
         ensures room { OnOk result (HaveRoom self.new txs.now) }
     {
         for tx in txs {
-            self.reserve(alloc, tx.as_slice())?;
+            self.reserve(alloc, tx)?;
         }
         Ok(())
     }
@@ -136,11 +143,11 @@ impl Standings {
     }
 
     // Reserves a place for a transaction that has none.
-    fn reserve(&mut self, alloc: Global, tx: &[u8]) -> Result<(), AllocError>
+    fn reserve(&mut self, alloc: Global, tx: &Bytes) -> Result<(), AllocError>
         ensures ok { OnOk result (Sets self.old self.new tx.now (Some (unwrap_or (standing_of self.old tx.now) Standing.Reserved))) }
         ensures err { OnErr result (self.new ≡ self.old) }
     {
-        match self.get(tx) {
+        match self.get(tx.as_slice()) {
             Some(_) => Ok(()),
             None => self.insert(alloc, tx, Standing::Reserved),
         }

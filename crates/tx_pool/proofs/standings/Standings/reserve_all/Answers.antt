@@ -1,4 +1,3 @@
-use Rattle.std.proofs.Common.{◌≡◌, get_or}
 use Rattle.tx_pool.proofs.Tables.{reserves_more, reserves_all, have_room_more}
 use Rattle.tx_pool.proofs.standings.Standings.reserve_all.Goals as goal
 
@@ -8,10 +7,9 @@ returns-in_err-reserve-clause-reserves c =
 
 pub loop-tx-preserved : goal.loop-tx-preserved
 loop-tx-preserved c =
-    let item : c.as_slice.result.now ≡ get_or c.args.txs.now c.loop-tx.tx-index c.as_slice.result.now = rw c.as_slice.ensures c.tx-item.is in
     record {
-      reserves = reserves_more c.args.self.now c.loop-tx.self c.reserve.new.self c.args.txs.now c.loop-tx.tx-index c.as_slice.result.now
-          c.loop-tx-test.true item c.loop-tx.invariant.reserves c.in_ok-reserve.ensures.ok;
-      room = have_room_more c.loop-tx.self c.reserve.new.self c.args.txs.now c.loop-tx.tx-index c.as_slice.result.now c.loop-tx-test.true item
+      reserves = reserves_more c.args.self.now c.loop-tx.self c.reserve.new.self c.args.txs.now c.loop-tx.tx-index c.tx-item.result
+          c.loop-tx-test.true c.tx-item.is c.loop-tx.invariant.reserves c.in_ok-reserve.ensures.ok;
+      room = have_room_more c.loop-tx.self c.reserve.new.self c.args.txs.now c.loop-tx.tx-index c.tx-item.result c.loop-tx-test.true c.tx-item.is
           c.loop-tx.invariant.room c.in_ok-reserve.ensures.ok;
     }
