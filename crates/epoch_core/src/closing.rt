@@ -19,7 +19,7 @@ fn add_batches(alloc: Global, list: &[Item], gone: &mut Vec<Bytes>) -> Result<()
     ensures { OnOk result (gone.new.items ≡ gone.old.items ++ transactions_in list.now) }
 {
     for item in list {
-        let mut batch = read_batch(alloc, item.value.as_slice())?;
+        let mut batch = read_batch(alloc, &item.value)?;
         gone.append(&mut batch)?;
     }
     Ok(())

@@ -321,7 +321,50 @@ stands (suc count) (suc t) bytes x e inside =
       is = λ d. ap (λ (w : List (List ℕ) × List ℕ). get_or w.0 (suc t) d) (sym same) ∙ s.is d;
     }
 
--- ---- a loop that copies them
+-- ---- a loop that takes them as parts
+
+-- a transaction that is read from the bytes behind a place is a part of the bytes
+pub record IsPart (at : ℕ) (bytes text : List ℕ) : Type 0 where
+  pub within : at + (2 + length text) ≤ length bytes
+  pub is : take (length text) (drop (at + 2) bytes) ≡ text
+  pub read : transaction_at (drop at bytes) ≡ Some (text, drop (at + (2 + length text)) bytes)
+
+part_here : (bytes text rest : List ℕ) → transaction_at bytes ≡ Some (text, rest)
+    → (2 + length text ≤ length bytes) × (take (length text) (drop 2 bytes) ≡ text) × (drop (2 + length text) bytes ≡ rest)
+unfolding transaction_at
+part_here bytes text rest e =
+    let a = bind_some (short_at bytes) (λ n. cond (ltb n.0 1 || ltb longest_transaction n.0) None (block_at n.0 n.1)) (text, rest) e in
+    let s = guard_some (ltb (length bytes) 2) (Some (from_be_bytes w16 (take 2 bytes), drop 2 bytes)) a.0 a.1 in
+    let short : (from_be_bytes w16 (take 2 bytes), drop 2 bytes) ≡ a.0 = some_is (from_be_bytes w16 (take 2 bytes), drop 2 bytes) a.0 s.1 in
+    let behind : drop 2 bytes ≡ a.0.1 = ap (λ (p : ℕ × List ℕ). p.1) short in
+    let g = guard_some (ltb a.0.0 1 || ltb longest_transaction a.0.0) (block_at a.0.0 a.0.1) (text, rest) a.2 in
+    let b = guard_some (ltb (length a.0.1) a.0.0) (Some (take a.0.0 a.0.1, drop a.0.0 a.0.1)) (text, rest) g.1 in
+    let inside : a.0.0 ≤ length a.0.1 = ltb-false (length a.0.1) a.0.0 b.0 in
+    let parts : List ℕ × List ℕ = (take a.0.0 a.0.1, drop a.0.0 a.0.1) in
+    let read : List ℕ × List ℕ = (text, rest) in
+    let block : parts ≡ read = some_is parts read b.1 in
+    let front : take a.0.0 a.0.1 ≡ text = ap (λ (p : List ℕ × List ℕ). p.0) block in
+    let len : length text ≡ a.0.0 = ap length (sym front) ∙ length-take-le a.0.0 a.0.1 inside in
+    let long : 2 ≤ length bytes = ltb-false (length bytes) 2 s.0 in
+    let room : 2 + length text ≤ length bytes = omega (arith, len, inside, ap length behind, length-drop 2 bytes) in (
+      room,
+      ap (λ k. take k (drop 2 bytes)) len ∙ ap (take a.0.0) behind ∙ front,
+      ap (λ k. drop (2 + k) bytes) len ∙ sym (drop-drop a.0.0 2 bytes) ∙ ap (drop a.0.0) behind ∙ ap (λ (p : List ℕ × List ℕ). p.1) block,
+    )
+
+behind_is : (at : ℕ) (bytes lent : List ℕ) → lent ≡ bytes → take (length lent - at) (drop at lent) ≡ drop at bytes
+behind_is at bytes lent same = take_rest lent at ∙ ap (drop at) same
+
+pub part_at : (at : ℕ) (bytes lent text rest : List ℕ) → lent ≡ bytes → at ≤ length bytes
+    → transaction_at (take (length lent - at) (drop at lent)) ≡ Some (text, rest) → IsPart at bytes text
+part_at at bytes lent text rest same inside e =
+    let read : transaction_at (drop at bytes) ≡ Some (text, rest) = ap transaction_at (sym (behind_is at bytes lent same)) ∙ e in
+    let p = part_here (drop at bytes) text rest read in
+    record {
+      within = omega (arith, p.0, length-drop at bytes, inside);
+      is = ap (take (length text)) (sym (drop-drop 2 at bytes)) ∙ p.1;
+      read = read ∙ ap (λ (r : List ℕ). some (text, r)) (sym p.2 ∙ drop-drop (2 + length text) at bytes);
+    }
 
 pub walk_step : (count i : ℕ) (left text after end : List ℕ) (texts items : List (List ℕ)) → i < count → transaction_at left ≡ Some (text, after)
     → transactions_at (count - i) left ≡ Some (drop i texts, end) → items ≡ take i texts
@@ -346,6 +389,10 @@ walk_step count i left text after end texts items inside read rest front =
       b.1 ∙ ap (λ (xs : List (List ℕ)). some (xs, b.0.1)) others ∙ ap (λ (r : List ℕ). some (drop (i + 1) texts, r)) ends,
       ap (λ xs. xs ++ text ∷ []) front ∙ ap (λ y. take i texts ++ y ∷ []) (sym at) ∙ sym (take_more texts i [] below),
     )
+
+pub none_at : (at : ℕ) (bytes lent : List ℕ) → lent ≡ bytes → transaction_at (take (length lent - at) (drop at lent)) ≡ None
+    → transaction_at (drop at bytes) ≡ None
+none_at at bytes lent same e = ap transaction_at (sym (behind_is at bytes lent same)) ∙ e
 
 pub walk_stop : (count i : ℕ) (left : List ℕ) (y : List (List ℕ) × List ℕ) → i < count → transaction_at left ≡ None
     → transactions_at (count - i) left ≡ Some y → ⊥
@@ -393,10 +440,6 @@ found_there bytes left text after t inside at read d =
     let other : List ℕ × List ℕ = (text, after) in
     let both : one ≡ other = some_is one other (sym s.read ∙ ap transaction_at same ∙ read) in
     s.is d ∙ ap (λ (p : List ℕ × List ℕ). p.0) both
-
-pub body_reads : (bytes : List ℕ) → 0 < length (batch_of bytes)
-    → transactions_at (length (batch_of bytes)) (take (length bytes - 2) (drop 2 bytes)) ≡ Some (batch_of bytes, [])
-body_reads bytes some = ap (transactions_at (length (batch_of bytes))) (body_is bytes) ∙ (lies bytes some).body
 
 -- ---- what is written
 

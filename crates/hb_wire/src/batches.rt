@@ -1,6 +1,6 @@
 //! Batches of transactions as bytes.
 
-ghost use Rattle.std.specs.Prelude.{◌≡◌, ℕ, ◌++◌, ◌≤◌, ◌<◌, ◌^◌, List, length, slice_index_or, IfOk, OnOk, IfSome};
+ghost use Rattle.std.specs.Prelude.{◌≡◌, ℕ, ◌++◌, ◌≤◌, ◌<◌, ◌^◌, List, length, drop, slice_index_or, IfOk, OnOk, IfSome};
 ghost use Rattle.std.specs.List.{flat_map};
 ghost use Rattle.std.specs.Int.{w16, to_be_bytes};
 ghost use Rattle.hb_base.specs.Limits.{most_batch, longest_value};
@@ -93,30 +93,34 @@ pub fn batch_at(bytes: &[u8], t: u8) -> &[u8]
     }
 }
 
-// A copy of each of so many transactions, which stand there.
-fn transactions_of(alloc: Global, count: u8, bytes: &[u8]) -> Result<Vec<Bytes>, AllocError>
-    ensures { (x : List (List ℕ) × List ℕ) → transactions_at count bytes.now ≡ Some x → IfOk result (λ batch. batch.items ≡ x.0) }
+// Each of so many transactions, which stand behind the count, as a part of the bytes.
+fn transactions_of(alloc: Global, count: u8, bytes: &Bytes) -> Result<Vec<Bytes>, AllocError>
+    requires { 2 ≤ length bytes.now }
+    ensures { (x : List (List ℕ) × List ℕ) → transactions_at count (drop 2 bytes.now) ≡ Some x → IfOk result (λ batch. batch.items ≡ x.0) }
 {
     let mut batch = Vec::with_capacity(alloc, count as usize)?;
-    let mut left = bytes;
+    let mut at = 2;
     'transactions: for _ in 0..count {
-        let Some((transaction, after)) = transaction_of(left) else {
+        let left = &bytes.as_slice()[at..];
+        let Some((transaction, _)) = transaction_of(left) else {
             return Ok(batch);
         };
-        batch.push(Bytes::copy(alloc, transaction)?)?;
-        left = after;
+        let len = transaction.len();
+        let part = bytes.part(at + 2, len)?;
+        batch.push(part)?;
+        at += 2 + len;
     }
     Ok(batch)
 }
 
-/// The transactions of the batch that the bytes are: none where they are no batch. Err where there is no memory for
-/// their copies.
-pub fn read_batch(alloc: Global, bytes: &[u8]) -> Result<Vec<Bytes>, AllocError>
+/// The transactions of the batch that the bytes are: none where they are no batch. They are parts of the bytes, and no
+/// copies. Err where there is no memory for the list.
+pub fn read_batch(alloc: Global, bytes: &Bytes) -> Result<Vec<Bytes>, AllocError>
     ensures { IfOk result (λ batch. batch.items ≡ batch_of bytes.now) }
 {
-    match batch_len(bytes) {
+    match batch_len(bytes.as_slice()) {
         0 => Ok(Vec::new(alloc)),
-        count => transactions_of(alloc, count, &bytes[2..]),
+        count => transactions_of(alloc, count, bytes),
     }
 }
 

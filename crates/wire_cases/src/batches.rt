@@ -19,8 +19,9 @@ fn written(alloc: Global, first: &[u8], second: &[u8]) -> Result<Bytes, Fail> {
 }
 
 // Whether two transactions are read: `first` as the first of the whole batch, and `second` as the second by its number.
-fn is_read(alloc: Global, bytes: &[u8], first: &[u8], second: &[u8]) -> Result<bool, AllocError> {
+fn is_read(alloc: Global, bytes: &Bytes, first: &[u8], second: &[u8]) -> Result<bool, AllocError> {
     let batch = read_batch(alloc, bytes)?;
+    let bytes = bytes.as_slice();
     let count = batch_len(bytes);
     Ok(
         count == 2
@@ -35,7 +36,7 @@ fn two(rt: HostRuntime) -> Result<(), Fail> {
     let bytes = written(rt.alloc(), b"a", b"bc")?;
     let expected = hex::decode(rt.alloc(), "000200016100026263")?;
     assert!(rt; bytes.as_slice() == expected.as_slice());
-    assert!(rt; is_read(rt.alloc(), &expected, b"a", b"bc")?);
+    assert!(rt; is_read(rt.alloc(), &bytes, b"a", b"bc")?);
     Ok(())
 }
 
@@ -54,9 +55,9 @@ const EMPTY: &str = "\
 
 // Whether no transaction is read from the bytes.
 fn is_empty(alloc: Global, text: &str) -> Result<bool, Fail> {
-    let bytes = hex::decode(alloc, text)?;
+    let bytes = Bytes::from_vec(hex::decode(alloc, text)?)?;
     let batch = read_batch(alloc, &bytes)?;
-    Ok(batch.is_empty() && batch_len(&bytes) == 0)
+    Ok(batch.is_empty() && batch_len(bytes.as_slice()) == 0)
 }
 
 #[test]
@@ -77,9 +78,9 @@ fn put_transaction(out: &mut Vec<u8>, size: u16) -> Result<(), AllocError> {
 }
 
 // The bytes of the batch that is read from the bytes.
-fn again(alloc: Global, bytes: &[u8]) -> Result<Bytes, Fail> {
+fn again(alloc: Global, bytes: &Bytes) -> Result<Bytes, Fail> {
     let batch = read_batch(alloc, bytes)?;
-    if batch_len(bytes) == 0 {
+    if batch_len(bytes.as_slice()) == 0 {
         return Err("no batch".into());
     }
     Ok(write_batch(alloc, batch.as_slice())?)
@@ -92,7 +93,9 @@ fn is_batch(alloc: Global, count: u16, size: u16) -> Result<bool, Fail> {
     for _ in 0..count {
         put_transaction(&mut bytes, size)?;
     }
-    Ok(batch_len(&bytes) > 0 && again(alloc, &bytes)?.as_slice() == bytes.as_slice())
+    let bytes = Bytes::from_vec(bytes)?;
+    let bytes_are_batch = batch_len(bytes.as_slice()) > 0;
+    Ok(bytes_are_batch && again(alloc, &bytes)?.as_slice() == bytes.as_slice())
 }
 
 #[test]

@@ -91,9 +91,10 @@ fn is_carried(alloc: Global, config: &Config, batch: &[u8]) -> Result<bool, Fail
     if batch_len(batch) == 0 || batch.len() > 16_514 {
         return Ok(false);
     }
-    let transactions = read_batch(alloc, batch)?;
+    let bytes = Bytes::copy(alloc, batch)?;
+    let transactions = read_batch(alloc, &bytes)?;
     let proposed = propose(alloc, config, 1, transactions.as_slice())?;
-    let delivered = deliver(alloc, config, 1, Bytes::copy(alloc, batch)?)?;
+    let delivered = deliver(alloc, config, 1, bytes)?;
     let alike = proposed.as_slice()[1..] == delivered.as_slice()[1..];
     Ok(alike && is_spelled(alloc, &proposed, "100100000009000200016100026263")?)
 }
