@@ -1,5 +1,5 @@
 -- The inputs of a state: that its lane has delivered, and that its own desk wants no more lanes.
-use Rattle.std.proofs.Common.{◌≡◌, ℕ, ◌<◌, ◌≤◌, Bool, true, false, ◌||◌, inl, List, [], ◌∷◌, ◌++◌, None, Some, refl, sym, ap, ◌∙◌, subst, append-nil, arith}
+use Rattle.std.proofs.Common.{◌≡◌, ℕ, ◌<◌, ◌≤◌, Bool, true, false, ◌||◌, inl, inr, List, [], ◌∷◌, ◌++◌, None, Some, refl, sym, ap, ◌∙◌, subst, append-nil, arith}
 use Rattle.std.specs.List.{list_any, list_all}
 use Rattle.std.proofs.Math.Bool.{or-false}
 use Rattle.std.proofs.lemmas.Bool.{eq-eqb, and_parts}
@@ -223,12 +223,14 @@ no_more_shown : (a : AbaView) (from : ℕ) → IsAba a → from ≡ a.node → (
 no_more_shown a from sound is own heard shows =
     zero_shown a sound.node own heard (hearing from (NoMore a.epoch)) shows is (eq-eqb a.epoch a.epoch refl)
 
-pub Notes-no_more : (a : AbaView) (from : ℕ) → IsAba a → from ≡ a.node → Notes a (with_input false a) (hearing from (NoMore a.epoch)) (Some 0)
-Notes-no_more a from sound is = record {
+pub Notes-no_more : (a : AbaView) (from : ℕ) → IsAba a → from ≡ a.node → mark_at a (any_est 0) ≡ false
+    → Notes a (with_input false a) (hearing from (NoMore a.epoch)) (Some 0)
+Notes-no_more a from sound is waits = record {
   place = refl;
   known = omega (arith, sound.sound.rounds.0);
   shows = no_more_shown a from sound is;
   resting = λ resting. resting_at_0 (with_input false a);
+  wakes = inr (inr (record { first = refl; own = is; no_more = eq-eqb a.epoch a.epoch refl; waits = waits }));
 }
 
 pub Notes-no_more_begun : (a : AbaView) (from : ℕ) → IsAba a → from ≡ a.node → mark_at a (any_est 0) ≡ true
@@ -238,6 +240,7 @@ Notes-no_more_begun a from sound is begun = record {
   known = tt;
   shows = no_more_shown a from sound is;
   resting = spares_resting a.config.rounds a (with_input false a) (input_spares false a a.config.rounds begun);
+  wakes = tt;
 }
 
 -- an input casts nothing

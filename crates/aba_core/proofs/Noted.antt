@@ -62,8 +62,10 @@ claim_sound a r from vote y x is made =
     (λ h. ap (λ (z : Round). z.marks) made.rest ∙ ap (λ (z : Round). z.marks) is.read ∙ is.sound.above r h)
 
 pub claim_noted : (a : AbaView) (r from : ℕ) (vote : Vote) (y x : Round) → IsRead a r y → MadeOf a.config from vote y x → from < a.config.n
-    → epoch_of vote ≡ a.epoch → IsClaim r vote → Notes a (with_round a r x) (hearing from vote) (Some r)
-claim_noted a r from vote y x is made inside epoch kind = Notes-claim a r from vote x inside epoch kind (has_claim a r from vote y x is made)
+    → epoch_of vote ≡ a.epoch → IsClaim r vote → (x.levels ≡ y.levels → ⊥) → Notes a (with_round a r x) (hearing from vote) (Some r)
+claim_noted a r from vote y x is made inside epoch kind other =
+    Notes-claim a r from vote x inside epoch kind (has_claim a r from vote y x is made)
+    (λ same. other (same ∙ sym (ap (λ (z : Round). z.levels) is.read)))
 
 pub claim_noted_less : (a : AbaView) (r from : ℕ) (vote : Vote) (y x : Round) → IsRead a r y → MadeOf a.config from vote y x → from < a.config.n
     → epoch_of vote ≡ a.epoch → IsClaim r vote → x.levels ≡ y.levels → Notes a (with_round a r x) (hearing from vote) None
@@ -104,9 +106,10 @@ share_sound a r share y x is after =
     (omega arith) is.sound.top (λ h. has.heard.marks ∙ is.sound.above r h)
 
 pub share_noted : (a : AbaView) (r from share : ℕ) (salt : List ℕ) (branch : Branch) (y x : Round) → IsRead a r y → x ≡ after_share y (heard_share from share salt branch)
-    → from < a.config.n → Notes a (with_round a r x) (hearing from (Coin a.epoch r share salt branch)) (Some r)
-share_noted a r from share salt branch y x is after inside =
-    Notes-share a r from share salt branch x inside (has_share a r (heard_share from share salt branch) y x is after)
+    → from < a.config.n → is_some x.coin ≡ true → y.coin ≡ None → Notes a (with_round a r x) (hearing from (Coin a.epoch r share salt branch)) (Some r)
+share_noted a r from share salt branch y x is after inside known unknown =
+    Notes-share a r from share salt branch x inside (has_share a r (heard_share from share salt branch) y x is after) known
+    (sym (ap (λ (z : Round). z.coin) is.read) ∙ unknown)
 
 pub share_noted_less : (a : AbaView) (r from share : ℕ) (salt : List ℕ) (branch : Branch) (y x : Round) → IsRead a r y → x ≡ after_share y (heard_share from share salt branch)
     → from < a.config.n → x.coin ≡ y.coin → Notes a (with_round a r x) (hearing from (Coin a.epoch r share salt branch)) None

@@ -58,6 +58,7 @@ Notes-none a h unheard = record {
     few = shows.few;
   };
   resting = λ resting. resting;
+  wakes = tt;
 }
 
 -- ---- one round
@@ -173,12 +174,13 @@ claim_shown a r from vote x inside epoch is has own heard shows = record {
 
 -- a claim that changed a level, and one that changed none
 pub Notes-claim : (a : AbaView) (r from : ℕ) (vote : Vote) (x : Round) → from < a.config.n → epoch_of vote ≡ a.epoch → IsClaim r vote → HasClaim a r from vote x
-    → Notes a (with_round a r x) (hearing from vote) (Some r)
-Notes-claim a r from vote x inside epoch is has = record {
+    → (x.levels ≡ (round_in a r).levels → ⊥) → Notes a (with_round a r x) (hearing from vote) (Some r)
+Notes-claim a r from vote x inside epoch is has other = record {
   place = refl;
   known = has.heard.inside;
   shows = claim_shown a r from vote x inside epoch is has;
   resting = spares_resting r a (with_round a r x) (spared a r r x has.heard (λ low. absurd (omega (arith, low))) (λ low. absurd (omega (arith, low))));
+  wakes = inl (λ same. other (sym (ap (λ (y : Round). y.levels) (at_round a r x has.heard)) ∙ same));
 }
 
 pub Notes-claim_less : (a : AbaView) (r from : ℕ) (vote : Vote) (x : Round) → from < a.config.n → epoch_of vote ≡ a.epoch → IsClaim r vote → HasClaim a r from vote x
@@ -191,6 +193,7 @@ Notes-claim_less a r from vote x inside epoch is has levels = record {
   resting =
       spares_resting a.config.rounds a (with_round a r x)
       (spared a r a.config.rounds x has.heard (λ low. levels) (λ low. ap (λ (y : Round). y.coin) has.rest));
+  wakes = tt;
 }
 
 -- ---- a share
@@ -301,12 +304,13 @@ share_shown a r from share salt branch x inside has own heard shows = record {
     ]
 
 pub Notes-share : (a : AbaView) (r from share : ℕ) (salt : List ℕ) (branch : Branch) (x : Round) → from < a.config.n → HasShare a r (heard_share from share salt branch) x
-    → Notes a (with_round a r x) (hearing from (Coin a.epoch r share salt branch)) (Some r)
-Notes-share a r from share salt branch x inside has = record {
+    → is_some x.coin ≡ true → (round_in a r).coin ≡ None → Notes a (with_round a r x) (hearing from (Coin a.epoch r share salt branch)) (Some r)
+Notes-share a r from share salt branch x inside has known unknown = record {
   place = refl;
   known = has.heard.inside;
   shows = share_shown a r from share salt branch x inside has;
   resting = spares_resting r a (with_round a r x) (spared a r r x has.heard (λ low. absurd (omega (arith, low))) (λ low. absurd (omega (arith, low))));
+  wakes = inr (inl (ap (λ (y : Round). is_some y.coin) (at_round a r x has.heard) ∙ known, unknown));
 }
 
 pub Notes-share_less : (a : AbaView) (r from share : ℕ) (salt : List ℕ) (branch : Branch) (x : Round) → from < a.config.n → HasShare a r (heard_share from share salt branch) x
@@ -321,6 +325,7 @@ Notes-share_less a r from share salt branch x inside has coin = record {
       (spared a r a.config.rounds x has.heard
       (λ low. ap (λ t. levels_of a.config (count_in t) 0) (ap (λ (y : Round). y.tables) has.after ∙ after_tables (round_in a r) (heard_share from share salt branch)))
       (λ low. coin));
+  wakes = tt;
 }
 
 -- ---- hearings that the agreement does not take in

@@ -1,4 +1,4 @@
-ghost use Rattle.std.specs.Prelude.{◌≡◌, true, ◌||◌};
+ghost use Rattle.std.specs.Prelude.{◌≡◌, ◌↔◌, true, ◌||◌};
 ghost use Rattle.aba_core.specs.Bits.{holds, no_bits, with_bit};
 
 // A set of bits.
@@ -25,7 +25,7 @@ impl Bits {
     }
 
     pub(crate) fn are(self, other: Bits) -> bool
-        ensures { result ≡ true → self ≡ other }
+        ensures { (result ≡ true) ↔ (self ≡ other) }
     {
         self.zero == other.zero && self.one == other.one
     }

@@ -1,4 +1,4 @@
-ghost use Rattle.std.specs.Prelude.{◌≡◌, true};
+ghost use Rattle.std.specs.Prelude.{◌≡◌, ◌↔◌, true};
 ghost use Rattle.aba_core.specs.Levels.{bits_with, levels_of};
 ghost use Rattle.aba_core.specs.Tables.{count_in};
 
@@ -46,7 +46,7 @@ impl Levels {
 
     // Whether they are these.
     pub(crate) fn are(&self, other: &Levels) -> bool
-        ensures { result ≡ true → self.now ≡ other.now }
+        ensures { (result ≡ true) ↔ (self.now ≡ other.now) }
     {
         let by_bvals = self.backed.are(other.backed) && self.supported.are(other.supported);
         let by_auxes = self.accepted.are(other.accepted) && self.gathered.are(other.gathered);

@@ -1,4 +1,4 @@
-ghost use Rattle.std.specs.Prelude.{◌≡◌, ℕ, ◌<◌, ◌==◌, ◌&&◌, ◌||◌, true, false};
+ghost use Rattle.std.specs.Prelude.{◌≡◌, ◌↔◌, ℕ, ◌<◌, ◌==◌, ◌&&◌, ◌||◌, true, false, None, is_some};
 ghost use Rattle.hb_base.specs.NodeSet.{is_in};
 ghost use Rattle.hb_base.specs.Limits.{most_nodes};
 ghost use Rattle.hb_rules.specs.Marks.{Claim};
@@ -55,7 +55,7 @@ impl Round {
     // Hears a claim of a node: whether a count then is at another level.
     pub(crate) fn hear(&mut self, config: &Config, from: u8, vote: &Vote) -> bool
         requires { from < most_nodes }
-        ensures same { result ≡ false → self.new.levels ≡ self.old.levels }
+        ensures same { (result ≡ false) ↔ (self.new.levels ≡ self.old.levels) }
         ensures claims { (claim : Claim) (node : ℕ) → is_in (voters_in self.new.tables claim) node
             ≡ ((claims claim vote.now && (node == from)) || is_in (voters_in self.old.tables claim) node) }
         ensures levels { self.new.levels ≡ levels_of config.now (count_in self.new.tables) 0 }
@@ -79,6 +79,7 @@ impl Round {
         requires from { from < self.old.shares.n }
         requires dealt { is_known_good ≡ true → IsGood self.old.shares.root self.old.shares.n (heard_share from share salt.now branch.now) }
         ensures same { result ≡ false → self.new.coin ≡ self.old.coin }
+        ensures known { result ≡ true → (is_some self.new.coin ≡ true) × (self.old.coin ≡ None) }
         ensures exact { self.new ≡ after_share self.old (heard_share from share salt.now branch.now) }
     {
         if self.coin.is_some() {

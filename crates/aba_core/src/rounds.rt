@@ -1,11 +1,11 @@
-ghost use Rattle.std.specs.Prelude.{◌≡◌, ℕ, ◌+◌, ◌<◌, ◌≤◌, ◌==◌, ◌&&◌, ◌||◌, true, false, [], length, take, slice_index_or, vec_capacity, IfOk};
+ghost use Rattle.std.specs.Prelude.{◌≡◌, ◌↔◌, ℕ, ◌+◌, ◌<◌, ◌≤◌, ◌==◌, ◌&&◌, ◌||◌, true, false, [], length, take, slice_index_or, vec_capacity, IfOk, None, is_some};
 ghost use Rattle.std.specs.Arc.{arc_value};
 ghost use Rattle.std.specs.List.{list_any};
 ghost use Rattle.hb_base.specs.NodeSet.{is_in};
 ghost use Rattle.hb_base.specs.Limits.{most_nodes};
 ghost use Rattle.merkle_branch.specs.Digests.{leaf_digests};
 ghost use Rattle.merkle_branch.specs.Branches.{branch_of};
-ghost use Rattle.coin_deal.specs.Deal.{share, salt, coin_leaves};
+ghost use Rattle.coin_deal.specs.Deal.{share, salt, share as dealt_share, salt as dealt_salt, coin_leaves};
 ghost use Rattle.coin_deal.specs.Heard.{heard_share, IsGoodShare};
 ghost use Rattle.hb_rules.specs.Claims.{is_bit};
 ghost use Rattle.hb_rules.specs.Marks.{Claim};
@@ -144,7 +144,7 @@ impl Rounds {
         requires round { round < self.old.config.rounds }
         requires from { from < most_nodes }
         ensures replaced { self.new ≡ replaced self.old round (round_of self.new round) }
-        ensures same { result ≡ false → (round_of self.new round).levels ≡ (round_of self.old round).levels }
+        ensures same { (result ≡ false) ↔ ((round_of self.new round).levels ≡ (round_of self.old round).levels) }
         ensures claims { (claim : Claim) (node : ℕ) → is_in (voters_in (round_of self.new round).tables claim) node
             ≡ ((claims claim vote.now && (node == from)) || is_in (voters_in (round_of self.old round).tables claim) node) }
         ensures levels { (round_of self.new round).levels ≡ levels_of config.now (count_in (round_of self.new round).tables) 0 }
@@ -177,6 +177,8 @@ impl Rounds {
         requires is_round { IsRound self.old.config self.old.lane self.old.epoch round (round_of self.old round) }
         ensures same { result ≡ false
             → (after_share (round_of self.old round) (heard_share from share salt.now branch.now)).coin ≡ (round_of self.old round).coin }
+        ensures known { result ≡ true → (is_some (after_share (round_of self.old round) (heard_share from share salt.now branch.now)).coin ≡ true)
+            × ((round_of self.old round).coin ≡ None) }
         ensures exact { self.new ≡ replaced self.old round (after_share (round_of self.old round) (heard_share from share salt.now branch.now)) }
     {
         let is_dealt = self.is_dealt(round, from, share, salt, branch);
@@ -195,7 +197,11 @@ impl Rounds {
     fn is_dealt(&self, round: u8, from: u8, share: u8, salt: &[u8; 16], branch: &Branch) -> bool
         requires round { round < self.now.config.rounds }
         requires from { from < self.now.config.n }
-        ensures { result ≡ true → IsGoodShare self.now.config self.now.epoch self.now.lane round from share salt.now branch.now }
+        ensures good { result ≡ true → IsGoodShare self.now.config self.now.epoch self.now.lane round from share salt.now branch.now }
+        ensures exact { (result ≡ true) ↔ (((round_of self.now round).coin ≡ None)
+            × ((share ≡ dealt_share self.now.config self.now.epoch self.now.lane round from)
+            × (salt.now ≡ dealt_salt self.now.config self.now.epoch self.now.lane round from)
+            × (branch.now ≡ branch_of (leaf_digests (coin_leaves self.now.config self.now.epoch self.now.lane round)) from))) }
     {
         coin_in(self.made.as_slice(), round).is_none()
             && self

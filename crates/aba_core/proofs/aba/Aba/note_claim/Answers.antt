@@ -28,11 +28,11 @@ returns-then-not-hear c =
     rw (c.hear.ensures.replaced, ← c.self.view_is) (claim_noted_less _ c.args.round c.args.from c.args.vote.now _ _
     (record { sound = c.self.invariant.aba; inside = omega (arith, c.if-round-rounds.false, c.rounds.ensures.value); read = refl })
     (record { claims = c.hear.ensures.claims; levels = c.hear.ensures.levels; rest = c.hear.ensures.rest })
-    (rw (← c.self.view_is) at c.requires.from) (rw (← c.self.view_is) at c.requires.epoch) c.requires.kind (c.hear.ensures.same c.if-not-hear.true))
+    (rw (← c.self.view_is) at c.requires.from) (rw (← c.self.view_is) at c.requires.epoch) c.requires.kind (c.hear.ensures.same.0 c.if-not-hear.true))
 
 pub returns : goal.returns
 returns c =
     rw (c.hear.ensures.replaced, ← c.self.view_is) (claim_noted _ c.args.round c.args.from c.args.vote.now _ _
     (record { sound = c.self.invariant.aba; inside = omega (arith, c.if-round-rounds.false, c.rounds.ensures.value); read = refl })
     (record { claims = c.hear.ensures.claims; levels = c.hear.ensures.levels; rest = c.hear.ensures.rest })
-    (rw (← c.self.view_is) at c.requires.from) (rw (← c.self.view_is) at c.requires.epoch) c.requires.kind)
+    (rw (← c.self.view_is) at c.requires.from) (rw (← c.self.view_is) at c.requires.epoch) c.requires.kind (λ same. absurd (cc (c.if-not-hear.false, c.hear.ensures.same.1 same))))

@@ -15,4 +15,6 @@ returns-then-has_begun c =
     (ap (λ (a : AbaView). mark_at a (any_est 0)) (sym (c.take.ensures ∙ ap (with_input false) (sym c.self.view_is))) ∙ sym c.has_begun.ensures ∙ c.if-has_begun.true))
 
 pub returns : goal.returns
-returns c = rw (c.take.ensures, ← c.self.view_is) (Notes-no_more _ c.args.from c.self.invariant.aba c.if-from-self.false)
+returns c =
+    rw (c.take.ensures, ← c.self.view_is) (Notes-no_more _ c.args.from c.self.invariant.aba c.if-from-self.false
+    (ap (λ (a : AbaView). mark_at a (any_est 0)) (sym (c.take.ensures ∙ ap (with_input false) (sym c.self.view_is))) ∙ sym c.has_begun.ensures ∙ c.if-has_begun.false))

@@ -29,7 +29,7 @@ pub returns : goal.returns
 returns c =
     rw (c.hear_share.ensures.exact, ← c.self.view_is) (share_noted _ c.args.round c.args.from c.args.share c.args.salt.now c.args.branch.now _ _
     (record { sound = c.self.invariant.aba; inside = omega (arith, c.if-round-rounds.false, c.rounds.ensures.value); read = refl }) refl
-    (rw (← c.self.view_is) at c.requires))
+    (rw (← c.self.view_is) at c.requires) (c.hear_share.ensures.known c.if-not-hear_share.false).0 (c.hear_share.ensures.known c.if-not-hear_share.false).1)
 
 pub returns-then-not-hear_share : goal.returns-then-not-hear_share
 returns-then-not-hear_share c =

@@ -32,7 +32,10 @@ returns-clause-same c =
     subst (λ (n : Numbers). all_rounds n s.lane s.epoch made ≡ all_rounds n s.lane s.epoch old) (rw (← c.self.view_is) at c.requires.config) c.make.ensures.same in
     let was = made-is s.deal.value s.lane s.epoch made old c.args.round c.index_mut.result.now same c.make.ensures.made c.index_mut.ensures.value in
     let now = set-is s.deal.value s.lane s.epoch made c.args.round c.hear.new.self c.make.ensures.made in
-    rw (← c.self.view_is) (λ h. ap (λ (x : Round). x.levels) now ∙ c.hear.ensures.same h ∙ ap (λ (x : Round). x.levels) was)
+    rw (← c.self.view_is) (
+      λ h. ap (λ (x : Round). x.levels) now ∙ c.hear.ensures.same.0 h ∙ ap (λ (x : Round). x.levels) was,
+      λ e. c.hear.ensures.same.1 (sym (ap (λ (x : Round). x.levels) now) ∙ e ∙ sym (ap (λ (x : Round). x.levels) was)),
+    )
 
 pub returns-clause-claims : goal.returns-clause-claims
 returns-clause-claims c =
