@@ -4,3 +4,4 @@ pub mod Runs
 pub mod Steps
 pub mod Usable
 pub mod Calls
+pub mod Entries

@@ -168,18 +168,19 @@ impl<D: Disk> Journal<D> {
         self.append_entry(built)
     }
 
-    /// Adds an entry behind the others, as `append` does, from where it was built.
+    /// Adds an entry behind the others, as `append` does, from where it was built. It takes no
+    /// memory but the disk's.
     pub fn append_entry(&mut self, entry: Entry) -> Result<(), JournalFault>
         requires usable { IsUsable D.seen D.may_leave self.old }
-        requires short { length entry < 2 ^ 32 }
+        requires short { length entry.payload < 2 ^ 32 }
         ensures usable { OnOk result (IsUsable D.seen D.may_leave self.new) }
-        ensures added { OnOk result (entries_in_journal D.seen self.new ≡ entries_in_journal D.seen self.old ++ entry ∷ []) }
+        ensures added { OnOk result (entries_in_journal D.seen self.new ≡ entries_in_journal D.seen self.old ++ entry.payload ∷ []) }
         ensures spare { OnOk result (spare_bytes D.seen self.new ≡ spare_bytes D.seen self.old) }
-        ensures text { OnOk result (text_of (D.seen (disk_of self.new)) ≡ text_of (D.seen (disk_of self.old)) ++ entry) }
+        ensures text { OnOk result (text_of (D.seen (disk_of self.new)) ≡ text_of (D.seen (disk_of self.old)) ++ entry.payload) }
         ensures step { IsStep D.seen D.may_leave D.moment D.left_since D.faults D.supply D.explains (disk_of self.old) (disk_of self.new)
-            (SaysMaybe (text_of (D.seen (disk_of self.old))) entry (length (live_entries (D.seen (disk_of self.old))) + 1)) result }
+            (SaysMaybe (text_of (D.seen (disk_of self.old))) entry.payload (length (live_entries (D.seen (disk_of self.old))) + 1)) result }
     {
-        let framed = entry.into_framed()?;
+        let framed = entry.into_framed();
         self.add(payload_in(&framed), &framed)
     }
 
