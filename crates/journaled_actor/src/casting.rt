@@ -25,10 +25,10 @@ fn keep<D: Disk>(entry: Entry, journal: &mut Journal<D>) -> Result<(), ActorFaul
     requires ready { IsReady D.seen D.may_leave journal.old }
     ensures ready { OnOk result (IsReady D.seen D.may_leave journal.new) }
     ensures entries { OnOk result (entries_in_journal D.seen journal.new
-        ≡ folded_if_full (entries_in_journal D.seen journal.old) ++ entry ∷ []) }
-    ensures text { OnOk result (text_of (D.seen (disk_of journal.new)) ≡ text_of (D.seen (disk_of journal.old)) ++ entry) }
+        ≡ folded_if_full (entries_in_journal D.seen journal.old) ++ entry.payload ∷ []) }
+    ensures text { OnOk result (text_of (D.seen (disk_of journal.new)) ≡ text_of (D.seen (disk_of journal.old)) ++ entry.payload) }
     ensures images { (image : Image) → D.may_leave (disk_of journal.new) image
-        → SaysMaybe (text_of (D.seen (disk_of journal.old))) entry (most_while (live_entries (D.seen (disk_of journal.old)))) image }
+        → SaysMaybe (text_of (D.seen (disk_of journal.old))) entry.payload (most_while (live_entries (D.seen (disk_of journal.old)))) image }
     ensures disk { DiskGoes D.supply D.faults D.explains (disk_of journal.old) (disk_of journal.new) result }
     ensures other { IsErrOf result ActorFault.Full → ⊥ }
 {

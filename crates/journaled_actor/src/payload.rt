@@ -1,5 +1,5 @@
 //! The bytes of votes in a journal: the votes in order, each by its one spelling with its length before it.
-ghost use Rattle.std.specs.Prelude.{◌≡◌, ◌<◌, ◌^◌, List, ◌++◌, length, IfOk, OnOk};
+ghost use Rattle.std.specs.Prelude.{◌≡◌, ◌+◌, ◌<◌, ◌≤◌, ◌^◌, List, ◌++◌, length, IsOk, IfOk, OnOk, OnErr};
 ghost use Rattle.hb_wire.specs.declared.vote.Vote.{Vote};
 ghost use Rattle.hb_wire.specs.Votes.{Spells, spelling, sized_bytes};
 ghost use Rattle.hb_rules.specs.History.{HasSpelling};
@@ -19,10 +19,12 @@ const LONGEST_SPELLING: usize = 1 << 21;
 // Most entries are of votes that show no shard, and take no more.
 const USUAL_ROOM: usize = 160;
 
-// A length of four bytes, and that many bytes.
+// A length of four bytes, and that many bytes. Want of memory changes nothing.
 fn put_sized(bytes: &[u8], entry: &mut Entry) -> Result<(), AllocError>
     requires { length bytes.now < 2 ^ 32 }
-    ensures { OnOk result (entry.new ≡ entry.old ++ sized_bytes bytes.now) }
+    ensures ok { OnOk result (entry.new.payload ≡ entry.old.payload ++ sized_bytes bytes.now) }
+    ensures enough { 4 + length bytes.now ≤ entry.old.room → IsOk result }
+    ensures err { OnErr result (entry.new ≡ entry.old) }
 {
     entry.reserve(4 + bytes.len())?;
     entry.extend_from_slice(&(bytes.len() as u32).to_be_bytes())?;
@@ -37,7 +39,8 @@ fn put_vote(
     entry: &mut Entry,
 ) -> Result<(), AllocError>
     requires { HasSpelling config.now vote.now }
-    ensures text { OnOk result (entry.new ≡ entry.old ++ vote_bytes vote.now) }
+    ensures text { OnOk result (entry.new.payload ≡ entry.old.payload ++ vote_bytes vote.now) }
+    ensures err { OnErr result (entry.new ≡ entry.old) }
     ensures written { OnOk result (Spells config.now.n config.now.version (spelling vote.now) vote.now) }
 {
     let n = config.n();
@@ -53,7 +56,7 @@ pub(crate) fn write_votes(
     votes: &[Vote],
 ) -> Result<Entry, AllocError>
     requires { AreSpelled config.now votes.now }
-    ensures text { IfOk result (λ entry. entry ≡ payload votes.now) }
+    ensures text { IfOk result (λ entry. entry.payload ≡ payload votes.now) }
     ensures written { OnOk result (AreWritten config.now votes.now) }
 {
     let mut entry = Entry::with_room(alloc, USUAL_ROOM)?;

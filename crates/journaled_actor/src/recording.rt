@@ -38,13 +38,13 @@ fn fold_if_full<D: Disk>(journal: &mut Journal<D>) -> Result<(), JournalFault>
 /// Adds an entry behind the others, which it folds first where there are 64 of them, of fewer than 2^32 bytes together.
 pub(crate) fn record<D: Disk>(journal: &mut Journal<D>, entry: Entry) -> Result<(), JournalFault>
     requires usable { IsUsable D.seen D.may_leave journal.old }
-    requires short { length entry < 2 ^ 32 }
+    requires short { length entry.payload < 2 ^ 32 }
     ensures usable { OnOk result (IsUsable D.seen D.may_leave journal.new) }
     ensures entries { OnOk result (entries_in_journal D.seen journal.new
-        ≡ folded_if_full (entries_in_journal D.seen journal.old) ++ entry ∷ []) }
-    ensures text { OnOk result (text_of (D.seen (disk_of journal.new)) ≡ text_of (D.seen (disk_of journal.old)) ++ entry) }
+        ≡ folded_if_full (entries_in_journal D.seen journal.old) ++ entry.payload ∷ []) }
+    ensures text { OnOk result (text_of (D.seen (disk_of journal.new)) ≡ text_of (D.seen (disk_of journal.old)) ++ entry.payload) }
     ensures step { IsStep D.seen D.may_leave D.moment D.left_since D.faults D.supply D.explains (disk_of journal.old) (disk_of journal.new)
-        (SaysMaybe (text_of (D.seen (disk_of journal.old))) entry (most_while (live_entries (D.seen (disk_of journal.old))))) result }
+        (SaysMaybe (text_of (D.seen (disk_of journal.old))) entry.payload (most_while (live_entries (D.seen (disk_of journal.old))))) result }
 {
     fold_if_full(journal)?;
     journal.append_entry(entry)

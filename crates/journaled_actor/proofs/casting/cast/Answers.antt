@@ -58,7 +58,7 @@ returns-in_err-keep g c =
     let did = c.in_err-keep.ensures in
     rw (p.1, p.2) (record {
       seat = seat_still g.met.B.Book.stays c.requires.seat did.other;
-      safe = safe_maybe t posts (g.D.Disk.may_leave (disk_of c.keep.new.journal)) (text_of (g.D.Disk.seen (disk_of c.args.journal.now))) c.in_ok-entry.entry
+      safe = safe_maybe t posts (g.D.Disk.may_leave (disk_of c.keep.new.journal)) (text_of (g.D.Disk.seen (disk_of c.args.journal.now))) c.in_ok-entry.entry.payload
           _
           c.requires.opened.0 c.args.due.now c.requires.opened.1 c.requires.opened.2 c.in_ok-entry.ensures.text (ready_most c.requires.ready) did.images;
       ready = tt;
@@ -93,7 +93,7 @@ returns g c =
     let kept = c.in_ok-keep.ensures in
     let did = c.post_all.ensures in
     let says_of : (votes : List Vote) → text ≡ payload votes → now ≡ payload (votes ++ due) =
-    λ votes is. kept.text ∙ ap (λ (xs : List ℕ). xs ++ c.in_ok-entry.entry) is
+    λ votes is. kept.text ∙ ap (λ (xs : List ℕ). xs ++ c.in_ok-entry.entry.payload) is
     ∙ ap (λ (xs : List ℕ). payload votes ++ xs) c.in_ok-entry.ensures.text ∙ sym (payload_append votes due) in
     record {
       seat = did.seat;

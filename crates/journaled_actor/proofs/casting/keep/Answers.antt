@@ -17,7 +17,7 @@ returns-in-Ok g c =
     record {
       ready = record {
         usable = did.usable;
-        few = added_few (entries_in_journal d.seen c.args.journal.now) _ _ _ c.args.entry (entries_say c.requires.ready.usable) c.requires.ready.few did.entries did.text;
+        few = added_few (entries_in_journal d.seen c.args.journal.now) _ _ _ c.args.entry.payload (entries_say c.requires.ready.usable) c.requires.ready.few did.entries did.text;
       };
       entries = did.entries;
       text = did.text;
@@ -47,7 +47,7 @@ returns-then-len g c =
       ready = tt;
       entries = tt;
       text = tt;
-      images = λ image may. says_maybe _ c.args.entry _ _ image (omega arith) (usable_says d.seen d.may_leave j c.requires.ready.usable image may);
+      images = λ image may. says_maybe _ c.args.entry.payload _ _ image (omega arith) (usable_says d.seen d.may_leave j c.requires.ready.usable image may);
       disk = disk_still (λ h. cc (h));
       other = λ h. cc (h);
     }

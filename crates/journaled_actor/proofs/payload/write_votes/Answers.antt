@@ -7,7 +7,7 @@ use Rattle.journaled_actor.proofs.payload.write_votes.Goals as goal
 
 pub loop-vote-init : goal.loop-vote-init
 loop-vote-init c =
-    subst (IsWriting c.args.config.now c.args.votes.now 0) (sym c.in_ok-entry.ensures) (writing_begins c.args.config.now c.args.votes.now)
+    subst (IsWriting c.args.config.now c.args.votes.now 0) (sym c.in_ok-entry.ensures.payload) (writing_begins c.args.config.now c.args.votes.now)
 
 pub put_vote-requires : goal.put_vote-requires
 put_vote-requires c =
@@ -15,7 +15,7 @@ put_vote-requires c =
 
 pub loop-vote-preserved : goal.loop-vote-preserved
 loop-vote-preserved c =
-    writing_next c.args.config.now c.args.votes.now c.loop-vote.vote-index c.vote-item.result c.loop-vote.entry c.put_vote.new.entry
+    writing_next c.args.config.now c.args.votes.now c.loop-vote.vote-index c.vote-item.result c.loop-vote.entry.payload c.put_vote.new.entry.payload
     c.loop-vote-test.true c.vote-item.is c.in_ok-put_vote.ensures.text c.in_ok-put_vote.ensures.written c.loop-vote.invariant
 
 pub returns-clause-text : goal.returns-clause-text
