@@ -1,5 +1,5 @@
 //! Byte strings that never change.
-ghost use Rattle.std.specs.Prelude.{◌≡◌, ◌+◌, ◌≤◌, IfOk, nat_eq, refl, Some, length, take, drop};
+ghost use Rattle.std.specs.Prelude.{◌≡◌, ◌+◌, ◌++◌, ◌≤◌, IfOk, IfSome, nat_eq, refl, Some, length, take, drop};
 ghost use Rattle.std.specs.Ordering.{nat_cmp};
 ghost use Rattle.std.specs.Cmp.Lexicographic.{pointwise, slice_cmp, nat_list_eq_equiv, nat_list_cmp_total, texts_ties, texts_po};
 ghost use Rattle.std.specs.Cmp.{partial_equiv_from_equiv};
@@ -70,6 +70,29 @@ impl Bytes {
             from: self.from + from,
             len,
         })
+    }
+
+    /// The longer part that begins with `front`, where `front` stands just before these bytes in the bytes that their owners
+    /// share: one more owner, and no copy. None where something else stands there. Err only where 2 ^ 63 - 1 owners are counted already.
+    pub fn with_front(&self, front: &[u8]) -> Result<Option<Bytes>, AllocError>
+        ensures { IfOk result (λ longer. IfSome longer (λ b. b ≡ front.now ++ self.now)) }
+    {
+        let len = front.len();
+        if self.from < len {
+            return Ok(None);
+        }
+        let from = self.from - len;
+        let before = &self.whole.as_slice()[from..self.from];
+        let stands = before == front;
+        if !stands {
+            return Ok(None);
+        }
+        let whole = self.whole.clone()?;
+        Ok(Some(Bytes {
+            whole,
+            from,
+            len: len + self.len,
+        }))
     }
 
     /// The bytes, lent.

@@ -43,7 +43,7 @@ pub use reading::{read, read_shared, view};
 pub use spoken::Spoken;
 pub use vote::{To, Vals, Vote};
 pub use vote_view::VoteView;
-pub use writing::write;
+pub use writing::{front_of_delivered, write};
 
 /// What is read of a byte string is the one vote that it spells. No spelling goes on as another, and no
 /// bytes spell two votes: where two spellings begin the same bytes they are equal, and so are the votes.

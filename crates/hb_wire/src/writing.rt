@@ -1,6 +1,7 @@
 //! Votes to bytes.
 
-ghost use Rattle.std.specs.Prelude.{◌≡◌, ◌++◌, [], ◌∷◌, Some, ◌<◌, ◌≤◌, ◌^◌, length, OnOk, IfOk};
+ghost use Rattle.std.specs.Prelude.{◌≡◌, ◌++◌, [], ◌∷◌, ℕ, List, Some, ◌<◌, ◌≤◌, ◌^◌, length, OnOk, IfOk, IfSome};
+ghost use Rattle.hb_wire.specs.declared.vote.Vote.TheVariants.{Delivered};
 ghost use Rattle.std.specs.List.{flat_map};
 ghost use Rattle.merkle_branch.specs.Branches.{siblings};
 ghost use Rattle.hb_base.specs.ByteLists.{AreBytes};
@@ -147,12 +148,40 @@ fn put_vote(out: &mut Vec<u8>, n: u8, version: u8, vote: &Vote) -> Result<(), Al
     put_fields(out, n, version, vote)
 }
 
-/// The one spelling of the vote among n nodes under this version of the rules. Err where there is no memory for it.
+/// What begins the spelling of a Delivered of this epoch: its length in four bytes and the value follow.
+pub fn front_of_delivered(epoch: u8) -> [u8; 2]
+    ensures { (value : List ℕ) → spelling (Delivered epoch value) ≡ result ++ sized_bytes value }
+{
+    [0x04, epoch]
+}
+
+// The spelling of a Delivered, without a copy, where it stands in the bytes of which the value is a part.
+fn shared_spelling(n: u8, version: u8, vote: &Vote) -> Result<Option<Bytes>, AllocError>
+    requires { IsVote n version vote.now }
+    ensures spelled { IfOk result (λ found. IfSome found (λ bytes. bytes ≡ spelling vote.now)) }
+    ensures bytes { IfOk result (λ found. IfSome found AreBytes) }
+{
+    match vote {
+        Vote::Delivered { epoch, value } => {
+            let front = front_of_delivered(*epoch);
+            let len = (value.as_slice().len() as u32).to_be_bytes();
+            value.with_front(&[front[0], front[1], len[0], len[1], len[2], len[3]])
+        }
+        _ => Ok(None),
+    }
+}
+
+/// The one spelling of the vote among n nodes under this version of the rules. That of a Delivered shares the bytes
+/// of its value where it stands in these. Err where there is no memory for it.
 pub fn write(alloc: Global, n: u8, version: u8, vote: &Vote) -> Result<Bytes, AllocError>
     requires { IsVote n version vote.now }
     ensures spelled { IfOk result (λ bytes. Spells n version bytes vote.now) }
     ensures meant { IfOk result (λ bytes. vote_at n version bytes ≡ Some vote.now) }
 {
+    if let Some(bytes) = shared_spelling(n, version, vote)? {
+        return Ok(bytes);
+    }
+
     // Adding up the lengths of the fields, of which no byte is read, spares the copies of a vector that grows, and up to
     // as much room again as the vote takes.
     let mut out = Vec::with_capacity(alloc, spelling_len(n, version, vote))?;

@@ -10,13 +10,19 @@ ghost use Rattle.rbc_core.specs.Checking.{check_of, good_value};
 use crate::answer::Check;
 use hb_base::{Bytes, Config};
 use merkle_branch::{Leaves, Tree};
-use rs_shards::{RsFault, rebuild, value_of};
+use rs_shards::{RsFault, rebuild, value_behind};
 use std::alloc::{AllocError, Global};
 
 /// Whether the tree over all the shards of a codeword has this root, and the value that their first k carry (CCS 2016,
-/// figure 2: a node recomputes the root before it is ready or delivers). The shards are 1 to 16, and at least k. Err where
-/// no memory was left.
-pub fn check(alloc: Global, root: &[u8; 32], k: u8, shards: &[Bytes]) -> Result<Check, AllocError>
+/// figure 2: a node recomputes the root before it is ready or delivers). The shards are 1 to 16, and at least k. `front` and the
+/// value's length stand before the value in the bytes that its owners share. Err where no memory was left.
+pub fn check(
+    alloc: Global,
+    front: &[u8],
+    root: &[u8; 32],
+    k: u8,
+    shards: &[Bytes],
+) -> Result<Check, AllocError>
     requires some { 1 ≤ length shards.now }
     requires few { length shards.now ≤ most_nodes }
     requires enough { k ≤ length shards.now }
@@ -24,7 +30,7 @@ pub fn check(alloc: Global, root: &[u8; 32], k: u8, shards: &[Bytes]) -> Result<
 {
     let found = tree_over(alloc, shards)?.root();
     if found == *root {
-        Ok(Check::Good(value_of(alloc, k, shards)?))
+        Ok(Check::Good(value_behind(alloc, front, k, shards)?))
     } else {
         Ok(Check::OtherRoot { found })
     }
@@ -44,9 +50,11 @@ pub fn tree_over(alloc: Global, shards: &[Bytes]) -> Result<Tree, AllocError>
 }
 
 /// The value to which k shards rebuild, each given with its node: none where their lengths differ or the codeword with
-/// these has another root. Err where there is no memory.
+/// these has another root. `front` and the value's length stand before the value in the bytes that its owners share. Err where
+/// there is no memory.
 pub fn value_through(
     alloc: Global,
+    front: &[u8],
     config: &Config,
     root: &[u8; 32],
     got: &[(u8, Bytes)],
@@ -58,7 +66,7 @@ pub fn value_through(
 {
     let k = config.k();
     match rebuild(alloc, config.n(), k, got) {
-        Ok(shards) => good_value(alloc, root, k, &shards),
+        Ok(shards) => good_value(alloc, front, root, k, &shards),
         Err(RsFault::TooFew { .. }) => Ok(None),
         Err(RsFault::Lengths { .. }) => Ok(None),
         Err(RsFault::Memory) => Err(AllocError),
@@ -68,6 +76,7 @@ pub fn value_through(
 // The value of shards whose tree has the root.
 fn good_value(
     alloc: Global,
+    front: &[u8],
     root: &[u8; 32],
     k: u8,
     shards: &[Bytes],
@@ -77,7 +86,7 @@ fn good_value(
     requires enough { k ≤ length shards.now }
     ensures { IfOk result (λ value. value ≡ good_value root.now k shards.now) }
 {
-    match check(alloc, root, k, shards)? {
+    match check(alloc, front, root, k, shards)? {
         Check::Good(value) => Ok(Some(value)),
         Check::OtherRoot { .. } => Ok(None),
     }

@@ -23,7 +23,7 @@ use crate::checking::tree_over;
 use crate::roots::{Roots, copy_of};
 use hb_base::{Bytes, Config, NodeSet};
 use hb_rules::Due;
-use hb_wire::{Spoken, Vote};
+use hb_wire::{Spoken, Vote, front_of_delivered};
 use merkle_branch::{Branch, Tree, is_branch};
 use rs_shards::encode;
 use std::alloc::{AllocError, Global};
@@ -287,7 +287,8 @@ impl Rbc {
             return Ok(());
         }
         let shard = shard.clone()?;
-        let value = self.roots.value_with(alloc, root, from, &shard)?;
+        let front = front_of_delivered(self.epoch);
+        let value = self.roots.value_with(alloc, &front, root, from, &shard)?;
         let (is_ready_due, is_delivery_due) = self.due_by(
             counts.echoes + 1,
             counts.readies,

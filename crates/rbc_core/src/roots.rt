@@ -92,10 +92,12 @@ impl Roots {
         }
     }
 
-    // The value to which the first k shards of a root rebuild once this shard of a node that has not echoed is among them.
+    // The value to which the first k shards of a root rebuild once this shard of a node that has not echoed is among them. It
+    // stands behind `front` and its length.
     pub(crate) fn value_with(
         &self,
         alloc: Global,
+        front: &[u8],
         root: &[u8; 32],
         node: u8,
         shard: &Bytes,
@@ -109,9 +111,9 @@ impl Roots {
             Some(state) => {
                 let state = state.as_ref();
                 let value = state.value.as_ref();
-                value_once(alloc, &self.config, root, &state.shards, value, node, shard)
+                value_once(alloc, front, &self.config, root, &state.shards, value, node, shard)
             }
-            None => value_once(alloc, &self.config, root, &[], None, node, shard),
+            None => value_once(alloc, front, &self.config, root, &[], None, node, shard),
         }
     }
 
@@ -182,6 +184,7 @@ impl Roots {
 // The value to which the first k shards of a root rebuild once there is one more, where they rebuilt to this.
 fn value_once(
     alloc: Global,
+    front: &[u8],
     config: &Config,
     root: &[u8; 32],
     shards: &[(u8, Bytes)],
@@ -203,7 +206,7 @@ fn value_once(
         return Ok(None);
     }
     let got = with_shard(alloc, shards, node, shard)?;
-    value_through(alloc, config, root, &got)
+    value_through(alloc, front, config, root, &got)
 }
 
 // One more owner of the value, if there is one.

@@ -188,7 +188,7 @@ impl Known {
                 return known.value.clone();
             }
         }
-        let value = value_through(alloc, config, root, &shards)?;
+        let value = value_through(alloc, &[], config, root, &shards)?;
         let rebuilding = Rebuilding {
             n: config.n(),
             f: config.f(),

@@ -1,9 +1,10 @@
 -- A frame holds its value, and what is a true frame is the frame of what it holds.
-use Rattle.std.proofs.Common.{◌≡◌, ℕ, zero, suc, ◌+◌, ◌-◌, ◌%◌, ◌<◌, ◌≤◌, ◌^◌, true, ◌==◌, List, [], ◌∷◌, ◌++◌, length, take, drop, replicate, refl, sym, ap, ap₂, ◌∙◌, arith}
+use Rattle.std.proofs.Common.{◌≡◌, ℕ, zero, suc, ◌+◌, ◌-◌, ◌%◌, ◌<◌, ◌≤◌, ◌^◌, true, ◌==◌, List, [], ◌∷◌, ◌++◌, length, take, drop, replicate, refl, sym, ap, ap₂, ◌∙◌, arith, length-append}
 use Rattle.std.proofs.Math.Nat.{mod-lt}
 use Rattle.std.proofs.lemmas.Nat.{from_be_bytes-to_be_bytes_4}
 use Rattle.std.proofs.lemmas.Bool.{eqb-true}
-use Rattle.std.proofs.lemmas.List.{take_at, drop_at, drop-drop}
+use Rattle.std.proofs.lemmas.List.{take_at, take_all, drop_at, drop-drop}
+use Rattle.std.proofs.Math.Seq.{drop-append-add}
 use Rattle.std.specs.List.{list_all}
 use Rattle.hb_base.specs.Limits.{longest_value}
 use Rattle.rs_shards.specs.Frame.{frame, with_length, padding, is_frame, value_in, stated_length}
@@ -46,3 +47,14 @@ value_in-frame k value some short =
     ap (λ n. list_all (λ b. b == 0) (drop (4 + n) bytes)) states ∙ ap (list_all (λ b. b == 0)) (rest-frame k value) ∙ zeros-pass pad in
     let test : is_frame k bytes ≡ true = last_test k bytes (omega arith) (omega arith) (omega arith) (omega arith) ∙ zeros in
     value_in-true k bytes test ∙ ap₂ (λ n xs. take n xs) states (drop-frame k value) ∙ take_at value (replicate pad 0) (length value) refl
+
+-- what stands in the bytes behind a front
+pub behind_front : (front bytes whole : List ℕ) → whole ≡ front ++ bytes → take (length whole - length front) (drop (length front) whole) ≡ bytes
+behind_front front bytes whole is =
+    let rest : drop (length front) whole ≡ bytes = ap (drop (length front)) is ∙ drop_at front bytes (length front) refl in
+    let size : length whole ≡ length front + length bytes = ap length is ∙ length-append front bytes in
+    ap (take (length whole - length front)) rest ∙ take_all (length whole - length front) bytes (omega (arith, size))
+
+pub part_behind_front : (front bytes whole : List ℕ) (at len : ℕ) → whole ≡ front ++ bytes → take len (drop (length front + at) whole) ≡ take len (drop at bytes)
+part_behind_front front bytes whole at len is =
+    ap (λ xs. take len (drop (length front + at) xs)) is ∙ ap (take len) (drop-append-add front bytes at)

@@ -3,7 +3,7 @@
 //! elements, whose value at m is the byte of shard m (Reed and Solomon 1960).
 #![tactic(auto)]
 
-ghost use Rattle.std.specs.Prelude.{◌≡◌, ℕ, ◌+◌, ◌*◌, ◌/◌, ◌<◌, ◌≤◌, length, IfOk, map, take, All, ◌^◌, IfSome, IsNone, MatchResult, MatchOption, slice_index, slice_get, ◌==◌, IsTrue, false, List};
+ghost use Rattle.std.specs.Prelude.{◌≡◌, ℕ, ◌+◌, ◌*◌, ◌/◌, ◌<◌, ◌≤◌, length, IfOk, map, take, drop, All, ◌^◌, IfSome, IsNone, MatchResult, MatchOption, slice_index, slice_get, ◌==◌, IsTrue, false, List, [], ◌++◌};
 ghost use Rattle.std.specs.List.{list_all, concat};
 ghost use Rattle.rs_shards.specs.Column.{AreEven};
 ghost use Rattle.hb_base.specs.ByteLists.{AreBytes};
@@ -99,19 +99,51 @@ pub fn value_of(alloc: Global, k: u8, shards: &[Bytes]) -> Result<Bytes, AllocEr
     ensures short { IfOk result (λ value. length value ≤ longest_value) }
     ensures bytes { IfOk result AreBytes }
 {
-    let data = joined(alloc, &shards[..k as usize])?;
-    Bytes::copy(alloc, value_in_frame(k, &data))
+    value_behind(alloc, &[], k, shards)
 }
 
-/// The shards, put together.
-fn joined(alloc: Global, shards: &[Bytes]) -> Result<Vec<u8>, AllocError>
-    ensures { IfOk result (λ bytes. bytes.items ≡ concat shards.now) }
+/// The same value, as a part of shared bytes in which `front` and the length of the value in four bytes stand before it. The empty
+/// value of what is no frame stands alone.
+pub fn value_behind(
+    alloc: Global,
+    front: &[u8],
+    k: u8,
+    shards: &[Bytes],
+) -> Result<Bytes, AllocError>
+    requires { k ≤ length shards.now }
+    ensures value { IfOk result (λ value. value ≡ framed_value k shards.now) }
+    ensures reads_back { (n : ℕ) (value : List ℕ) → 1 ≤ k → length value ≤ longest_value → IsEncoding n k value shards.now
+        → IfOk result (λ read. read ≡ value) }
+
+    ensures short { IfOk result (λ value. length value ≤ longest_value) }
+    ensures bytes { IfOk result AreBytes }
 {
-    let mut bytes = Vec::new(alloc);
+    let whole = Bytes::from_vec(joined(alloc, front, &shards[..k as usize])?)?;
+    match value_len(k, &whole.as_slice()[front.len()..]) {
+        Some(len) => whole.part(front.len() + 4, len),
+        None => Bytes::copy(alloc, &[]),
+    }
+}
+
+/// The shards, put together behind these bytes.
+fn joined(alloc: Global, front: &[u8], shards: &[Bytes]) -> Result<Vec<u8>, AllocError>
+    ensures { IfOk result (λ bytes. bytes.items ≡ front.now ++ concat shards.now) }
+{
+    let mut bytes = Vec::with_capacity(alloc, joined_len(front, shards))?;
+    bytes.extend_from_slice(front)?;
     for shard in shards {
         bytes.extend_from_slice(shard.as_slice())?;
     }
     Ok(bytes)
+}
+
+/// How many bytes they take, so that their room is asked for once.
+fn joined_len(front: &[u8], shards: &[Bytes]) -> usize {
+    let mut len = front.len();
+    for shard in shards {
+        len = len.saturating_add(shard.as_slice().len());
+    }
+    len
 }
 
 /// The frame of a value: its length in four bytes, the highest first, the value, and the fewest zero bytes
@@ -132,16 +164,16 @@ fn framed(alloc: Global, k: u8, value: &[u8]) -> Result<Vec<u8>, AllocError>
     Ok(frame)
 }
 
-/// The value in a frame, or the empty value where the frame is false.
-fn value_in_frame(k: u8, frame: &[u8]) -> &[u8]
-    ensures value { result.now ≡ value_in k frame.now }
-    ensures bytes { AreBytes result.now }
+/// The length of the value in a frame, or None where the frame is false.
+fn value_len(k: u8, frame: &[u8]) -> Option<usize>
+    ensures value { MatchOption result (value_in k frame.now ≡ []) (λ len. value_in k frame.now ≡ take len (drop 4 frame.now)) }
+    ensures inside { IfSome result (λ len. 4 + len ≤ length frame.now) }
+    ensures bytes { AreBytes (value_in k frame.now) }
 {
     if is_frame(k, frame) {
-        let end = 4 + stated_length(frame);
-        &frame[4..end]
+        Some(stated_length(frame))
     } else {
-        &[]
+        None
     }
 }
 
