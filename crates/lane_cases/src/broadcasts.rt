@@ -406,7 +406,10 @@ fn shards_and_roots(rt: HostRuntime) -> Result<(), Fail> {
     let alloc = rt.alloc();
     let shards = encode(alloc, 4, 2, value_of(alloc, 1)?.as_slice())?;
     let is_good = is_good(&check(alloc, &[], root_of(4, 1), 2, &shards)?, b"\x01");
-    let is_of_other = is_of_root(&check(alloc, &[], root_of(4, 0), 2, &shards)?, root_of(4, 1));
+    let is_of_other = is_of_root(
+        &check(alloc, &[], root_of(4, 0), 2, &shards)?,
+        root_of(4, 1),
+    );
     assert!(rt; is_good && is_of_other);
     Ok(())
 }

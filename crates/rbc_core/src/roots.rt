@@ -111,7 +111,16 @@ impl Roots {
             Some(state) => {
                 let state = state.as_ref();
                 let value = state.value.as_ref();
-                value_once(alloc, front, &self.config, root, &state.shards, value, node, shard)
+                value_once(
+                    alloc,
+                    front,
+                    &self.config,
+                    root,
+                    &state.shards,
+                    value,
+                    node,
+                    shard,
+                )
             }
             None => value_once(alloc, front, &self.config, root, &[], None, node, shard),
         }

@@ -146,6 +146,24 @@ fn parts_of_byte_strings(rt: HostRuntime) -> Result<(), Fail> {
     Ok(())
 }
 
+// Whether the longer part of these bytes that begins with a front is found, and which it is.
+fn is_longer(bytes: &Bytes, front: &[u8], wanted: &[u8]) -> Result<bool, AllocError> {
+    match bytes.with_front(front)? {
+        Some(longer) => Ok(longer.as_slice() == wanted),
+        None => Ok(false),
+    }
+}
+
+#[test]
+fn fronts_of_byte_strings(rt: HostRuntime) -> Result<(), Fail> {
+    let (whole, badger) = badger(rt.alloc())?;
+    assert!(rt; is_longer(&badger, b"ey ", b"ey badger")? && is_longer(&badger, b"", b"badger")?);
+    assert!(rt; badger.with_front(b"ax ")?.is_none() && badger.with_front(b"a honey ")?.is_none());
+    drop(whole);
+    assert!(rt; is_longer(&badger, b"honey ", b"honey badger")?);
+    Ok(())
+}
+
 // Bytes that come two at a time, of which the second time fails.
 fn source(alloc: Global) -> Result<MemorySource, AllocError> {
     let failing = vec![in alloc; 2]?;
