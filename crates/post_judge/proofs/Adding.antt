@@ -2,7 +2,6 @@
 use Rattle.std.proofs.Common.{◌≡◌, ◌⊎◌, ℕ, ◌<◌, Bool, true, false, cond, inl, inr, List, [], ◌∷◌, ◌++◌, length, Contains, slice_get, map, Option, None, Some, if◌then◌else◌, refl, sym, ap, ◌∙◌, subst, arith, ap₂}
 use Rattle.std.specs.BTreeMap.{get}
 use Rattle.std.specs.Option.{option_and_then}
-use Rattle.std.specs.List.{list_any}
 use Rattle.std.proofs.lemmas.List.{length-append, get_or_append_left, map-append}
 use Rattle.std.proofs.Math.Seq.{get_or-append_seam}
 use Rattle.std.proofs.lemmas.Option.{slice_get_within, slice_get-get_or, get_or_from_slice_get}
@@ -11,13 +10,12 @@ use Rattle.hb_base.specs.Numbers.{Numbers}
 use Rattle.hb_wire.specs.declared.post.Post.{Post}
 use Rattle.hb_wire.specs.declared.vote.Vote.{Vote}
 use Rattle.hb_rules.specs.Hearing.{spelled}
-use Rattle.hb_rules.proofs.Among.{any_stands}
-use Rattle.hb_rules.proofs.Lists.{IsSource, at_contains, source_of, Contains-filter_map, Contains-later, Contains-first}
+use Rattle.hb_rules.proofs.Lists.{IsSource, source_of, Contains-filter_map, Contains-later, Contains-first}
 use Rattle.post_judge.specs.declared.buckets.Bucket.{Bucket}
 use Rattle.post_judge.specs.declared.place.Place.{Place}
 use Rattle.post_judge.specs.contracts.place.PlaceOrd.TheImpl.{ghosts as places}
 use Rattle.post_judge.specs.Places.{told_place, cast_place}
-use Rattle.post_judge.specs.Tables.{Table, same_place, same_post, is_same, is_post, numbers_at, votes_at, spelled_at, posts_of, posts_at, added_at, Adds, IsTold, AreTold}
+use Rattle.post_judge.specs.Tables.{Table, same_place, numbers_at, votes_at, spelled_at, posts_of, posts_at, added_at, Adds, IsTold, AreTold}
 use Rattle.post_judge.proofs.Same.{place_is, place_self}
 
 -- a bucket that was put where there was none
@@ -261,17 +259,6 @@ AreTold-unread c seen post table are none = record {
   ];
   votes = still_beside c seen post table are;
 }
-
--- a post that is among those of some numbers was judged before
-pub judged_before : (seen : List Post) (numbers : List ℕ) (post : Post) → ((a b : Post) → same_post a b ≡ true → a ≡ b)
-    → list_any (is_post seen post) numbers ≡ true → Contains seen post
-judged_before seen numbers post same has =
-    let found = any_stands (is_post seen post) numbers has in
-    by found.0 (slice_get seen found.0) refl found.2
-  where
-    by : (k : ℕ) (o : Option Post) → slice_get seen k ≡ o → is_same post o ≡ true → Contains seen post
-    by k None is h = absurd (cc (h))
-    by k (Some q) is h = subst (λ (r : Post). Contains seen r) (same q post h) (at_contains seen k q is)
 
 -- a post that was judged before
 pub AreTold-again : (c : Numbers) (seen : List Post) (post : Post) (table : Table) → AreTold c seen table → Contains seen post

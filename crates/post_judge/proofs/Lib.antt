@@ -1,6 +1,7 @@
 mod Adding
 mod Epochs
 mod Heard
+mod Judged
 mod Judging
 mod Kept
 mod Next

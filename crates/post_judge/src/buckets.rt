@@ -1,5 +1,5 @@
 //! Posts by their places.
-ghost use Rattle.std.specs.Prelude.{◌≡◌, [], ◌∷◌, ◌++◌, IfOk, OnOk, if◌then◌else◌};
+ghost use Rattle.std.specs.Prelude.{◌≡◌, ◌<◌, [], ◌∷◌, ◌++◌, vec_len, vec_capacity, IsOk, IfOk, OnOk, if◌then◌else◌};
 ghost use Rattle.post_judge.specs.declared.place.Place.{Place};
 ghost use Rattle.post_judge.specs.Tables.{same_place, numbers_at, votes_at, Adds};
 
@@ -20,6 +20,7 @@ impl Bucket {
     fn new(alloc: Global) -> Result<Bucket, AllocError>
         ensures numbers { IfOk result (λ bucket. bucket.numbers.items ≡ []) }
         ensures votes { IfOk result (λ bucket. bucket.votes.items ≡ []) }
+        ensures room { IfOk result (λ bucket. (vec_capacity bucket.numbers ≡ 1) × (vec_capacity bucket.votes ≡ 1)) }
     {
         Ok(Bucket {
             numbers: Vec::with_capacity(alloc, 1)?,
@@ -27,10 +28,12 @@ impl Bucket {
         })
     }
 
-    // Puts a number behind the others, and the vote of its post.
+    // Puts a number behind the others, and the vote of its post. With room for both it succeeds.
     fn push(&mut self, number: u32, vote: Vote) -> Result<(), AllocError>
         ensures numbers { OnOk result (self.new.numbers.items ≡ self.old.numbers.items ++ number ∷ []) }
         ensures votes { OnOk result (self.new.votes.items ≡ self.old.votes.items ++ vote ∷ []) }
+        ensures enough { vec_len self.old.numbers < vec_capacity self.old.numbers → vec_len self.old.votes < vec_capacity self.old.votes
+            → IsOk result }
     {
         self.numbers.push(number)?;
         self.votes.push(vote)?;

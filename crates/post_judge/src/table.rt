@@ -1,8 +1,9 @@
 //! What is kept of the posts that were judged.
-ghost use Rattle.std.specs.Prelude.{◌≡◌, [], ◌∷◌, ◌++◌, true, length, Some, Contains, IfOk, IfSome, OnOk};
+ghost use Rattle.std.specs.Prelude.{◌≡◌, ◌↔◌, ◌≤◌, ◌^◌, [], ◌∷◌, ◌++◌, true, length, Some, Contains, IsOk, IfOk, IfSome, OnOk, OnErr};
 ghost use Rattle.std.specs.List.{list_any};
 ghost use Rattle.hb_rules.specs.Hearing.{spelled};
 ghost use Rattle.hb_rules.specs.History.{HasSpelling};
+ghost use Rattle.hb_rules.specs.Lanes.{is_correct};
 ghost use Rattle.post_judge.specs.Tables.{is_post, AreTold};
 
 use crate::buckets::Buckets;
@@ -74,10 +75,11 @@ impl Table {
         })
     }
 
-    // Whether a post that spells this vote was judged before, if its node is correct.
+    // Whether a post that spells this vote was judged before, and is of a correct node.
     fn was_judged(&self, post: &Post, vote: &Vote) -> bool
         requires told { AreTold self.now.config self.now.posts.items self.now.buckets.by_place }
-        ensures { result ≡ true → Contains self.now.posts.items post.now }
+        requires vote { spelled self.now.config post.now ≡ Some vote.now }
+        ensures { (result ≡ true) ↔ (Contains self.now.posts.items post.now × (is_correct self.now.config post.now.from ≡ true)) }
     {
         equality_laws();
         let n = self.config.n();
@@ -88,7 +90,8 @@ impl Table {
 
     // The number of the next post. Where 32 bits don't hold it, it is as where there is no memory.
     fn next_number(&self) -> Result<u32, AllocError>
-        ensures { IfOk result (λ number. number ≡ length self.now.posts.items) }
+        ensures next { IfOk result (λ number. number ≡ length self.now.posts.items) }
+        ensures full { OnErr result (2 ^ 32 ≤ length self.now.posts.items) }
     {
         match u32::try_from(self.posts.len()) {
             Ok(number) => Ok(number),
@@ -96,8 +99,8 @@ impl Table {
         }
     }
 
-    // Puts a post that spells a vote at its places. One that was judged before is there: an actor that is started again says again
-    // what it has said.
+    // Puts a post that spells a vote at its places. One of a correct node that was judged before is there, and takes no memory: an
+    // actor that is started again says again what it has said.
     fn put_vote(&mut self, post: &Post, vote: &Vote) -> Result<(), AllocError>
         requires deal { self.old.deal ≡ self.old.config }
         requires told { AreTold self.old.config self.old.posts.items self.old.buckets.by_place }
@@ -105,6 +108,8 @@ impl Table {
         ensures config { self.new.config ≡ self.old.config }
         ensures deal { self.new.deal ≡ self.old.deal }
         ensures posts { self.new.posts.items ≡ self.old.posts.items }
+        ensures again { Contains self.old.posts.items post.now → is_correct self.old.config post.now.from ≡ true
+            → IsOk result × (self.new ≡ self.old) }
         ensures told { OnOk result (AreTold self.old.config (self.old.posts.items ++ post.now ∷ []) self.new.buckets.by_place) }
     {
         if self.was_judged(post, vote) {
@@ -126,6 +131,8 @@ impl Table {
         ensures config { self.new.config ≡ self.old.config }
         ensures deal { self.new.deal ≡ self.old.deal }
         ensures posts { self.new.posts.items ≡ self.old.posts.items }
+        ensures again { Contains self.old.posts.items post.now → is_correct self.old.config post.now.from ≡ true
+            → IsOk result × (self.new ≡ self.old) }
         ensures told { OnOk result (AreTold self.old.config (self.old.posts.items ++ post.now ∷ []) self.new.buckets.by_place) }
     {
         match vote {
@@ -142,6 +149,8 @@ impl Table {
         ensures config { self.new.config ≡ self.old.config }
         ensures deal { self.new.deal ≡ self.old.deal }
         ensures posts { OnOk result (self.new.posts.items ≡ self.old.posts.items ++ post.now ∷ []) }
+        ensures again { Contains self.old.posts.items post.now → is_correct self.old.config post.now.from ≡ true
+            → self.new.buckets ≡ self.old.buckets }
         ensures told { OnOk result (AreTold self.old.config (self.old.posts.items ++ post.now ∷ []) self.new.buckets.by_place) }
     {
         self.put(post, vote)?;
