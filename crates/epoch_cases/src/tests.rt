@@ -5,7 +5,7 @@ ghost use Rattle.epoch_core.specs.Epochs.{has_started};
 use crate::cases::{CASES, Case};
 use crate::texts::{push_votes, said, votes_of};
 use epoch_core::Epochs;
-use hb_base::{Config, NodeSet};
+use hb_base::{Bytes, Config, NodeSet};
 use hb_rules::Due;
 use hb_wire::Vote;
 use std::alloc::{AllocError, Global};
