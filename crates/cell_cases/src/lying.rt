@@ -33,7 +33,7 @@ impl Mouth for Echo {
 /// What four turns answered, how often the gate was entered, and how many posts then stood.
 #[derive(Drop)]
 pub struct LiarTurns {
-    pub served: [Served; 4],
+    pub served: [Option<Served>; 4],
     pub entered: u64,
     pub posts: u32,
 }

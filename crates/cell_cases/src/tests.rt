@@ -62,8 +62,8 @@ fn one_post_and_then_none(rt: HostRuntime) -> Result<(), Fail> {
     let script = plain_script(rt.alloc(), config);
     let turns = turns::<Brand, HostRuntime>(&rt, rt.alloc(), &script)?.expect(&rt, "turns");
     assert!(rt;
-        turns.one == Served::Did
-            && turns.two == Served::Idle
+        turns.one == Some(Served::Did)
+            && turns.two == Some(Served::Idle)
             && turns.fate == Fate::Running
             && turns.entered == 1
             && turns.got == 1
@@ -91,8 +91,8 @@ fn a_liar_that_hears_two_posts(rt: HostRuntime) -> Result<(), Fail> {
     let config = four(0).expect(&rt, "a config");
     let script = plain_script(rt.alloc(), config);
     let turns = liar_turns::<Brand, HostRuntime>(&rt, rt.alloc(), &script, 2)?.expect(&rt, "turns");
-    let served = [Served::Did, Served::Did, Served::Did, Served::Idle];
-    assert!(rt; turns.served == served && turns.entered == 3 && turns.posts == 3);
+    let (did, idle) = (Some(Served::Did), Some(Served::Idle));
+    assert!(rt; turns.served == [did, did, did, idle] && turns.entered == 3 && turns.posts == 3);
     Ok(())
 }
 
@@ -101,7 +101,7 @@ fn a_liar_that_hears_nothing(rt: HostRuntime) -> Result<(), Fail> {
     let config = four(0).expect(&rt, "a config");
     let script = plain_script(rt.alloc(), config);
     let turns = liar_turns::<Brand, HostRuntime>(&rt, rt.alloc(), &script, 0)?.expect(&rt, "turns");
-    let served = [Served::Did, Served::Idle, Served::Idle, Served::Idle];
-    assert!(rt; turns.served == served && turns.entered == 1 && turns.posts == 1);
+    let (did, idle) = (Some(Served::Did), Some(Served::Idle));
+    assert!(rt; turns.served == [did, idle, idle, idle] && turns.entered == 1 && turns.posts == 1);
     Ok(())
 }

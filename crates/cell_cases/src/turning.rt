@@ -34,8 +34,8 @@ pub fn first_passes(boxes: &Boxes, all: &mut Vec<Passes>) -> Option<Passes>
 /// What two turns of the lane answered, how it fared, how often the gate was entered, and what it has received.
 #[derive(Drop)]
 pub struct Turns {
-    pub one: Served,
-    pub two: Served,
+    pub one: Option<Served>,
+    pub two: Option<Served>,
     pub fate: Fate,
     pub entered: u64,
     pub got: usize,

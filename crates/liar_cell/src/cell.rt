@@ -28,9 +28,9 @@ impl<'b, B: NamedBook + Drop, L: Mouth, J: RunName> LiarCell<'b, B, L, J> {
         lock.into_inner()
     }
 
-    /// One `HeldLiar::turn` under the lock, which it waits for, and its answer. No clause can name what lies under a lock. So
-    /// nothing is promised, but that what lies there keeps what its type says.
-    pub fn serve<R: Wait, G: Gate>(&self, rt: &R, alloc: Global, gate: &G) -> Served {
-        self.lock.lock(rt).turn(rt, alloc, gate)
+    /// One `HeldLiar::turn` under the lock, and its answer. None where another thread has the lock: then nothing is done. No
+    /// clause can name what lies under a lock. So nothing is promised, but that what lies there keeps what its type says.
+    pub fn serve<R: Wait, G: Gate>(&self, rt: &R, alloc: Global, gate: &G) -> Option<Served> {
+        Some(self.lock.try_lock()?.turn(rt, alloc, gate))
     }
 }

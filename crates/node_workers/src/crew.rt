@@ -9,21 +9,22 @@ pub(crate) const SHORTEST_NAP: u64 = 20;
 
 const LONGEST_NAP: u64 = 1_000;
 
-// How many workers there are that have not gone, how many of them may still find something to do, and how often one found
-// something. A worker that found nothing, while nobody found anything, looks no more. Once one finds something, all look again: what it
-// did may be work for others.
+// How many workers there are that have not gone, and how many of them may still find something to do. A worker that found nothing,
+// while nobody found anything, looks no more. Once one finds something, all look again: what it did may be work for others.
 #[derive(Drop)]
 struct Count {
     workers: u64,
     looking: u64,
-    finds: u64,
 }
 
-// The workers of a pool. Where nobody looks any more each has looked since one last found something, and nobody is in a round:
-// so there is nothing left to do, and it is over.
+// The workers of a pool. Where nobody looks any more each has made a round since one last found something, and nobody is in a
+// round. What a worker passed by in that round another looked at, since then too: so there is nothing left to do, and it is over.
 #[derive(Drop)]
 pub(crate) struct Crew {
     count: Mutex<Count>,
+
+    // How often one found something. It rises under the lock of the count, and is read without.
+    finds: AtomicU64,
 
     // 1 while it is over, and else 0.
     over: AtomicU64,
@@ -36,8 +37,8 @@ impl Crew {
             count: Mutex::new(Count {
                 workers: 1,
                 looking: 1,
-                finds: 0,
             }),
+            finds: AtomicU64::new(0),
             over: AtomicU64::new(0),
         }
     }
@@ -59,14 +60,14 @@ impl Crew {
     }
 
     // How often one found something, for a worker that is to look now.
-    pub(crate) fn finds<R: Wait>(&self, rt: &R) -> u64 {
-        self.count.lock(rt).finds
+    pub(crate) fn finds(&self) -> u64 {
+        self.finds.load(Ordering::SeqCst)
     }
 
     // One found something.
     pub(crate) fn found<R: Wait>(&self, rt: &R) {
         let mut count = self.count.lock(rt);
-        count.finds = count.finds.wrapping_add(1);
+        self.finds.fetch_add(1, Ordering::SeqCst);
         count.looking = count.workers;
     }
 
@@ -74,7 +75,7 @@ impl Crew {
     // meanwhile.
     pub(crate) fn found_nothing<R: Wait>(&self, rt: &R, began: u64) {
         let mut count = self.count.lock(rt);
-        if count.finds == began {
+        if self.finds() == began {
             count.looking = count.looking.saturating_sub(1);
             self.end_at(count.looking);
         }
@@ -109,7 +110,7 @@ impl Crew {
             }
             self.over.park_timeout(rt, 0, Duration::from_micros(*nap));
             *nap = nap.saturating_mul(2).min(LONGEST_NAP);
-            if self.finds(rt) != began {
+            if self.finds() != began {
                 return false;
             }
         }

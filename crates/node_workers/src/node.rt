@@ -23,7 +23,7 @@ pub enum Node<'b, B: NamedBook + Drop, A: Actor<B>, L: Mouth, J: RunName> {
     Lying(LiarCell<'b, B, L, J>),
 }
 
-// Serves each cell once, and tells whether any of them took a number.
+// Serves each cell once, but those that another worker serves, and tells whether any of them took a number.
 fn serve_each<'b, B: NamedBook + Drop, A: Actor<B>, J: RunName, R: Wait, G: Gate>(
     rt: &R,
     alloc: Global,
@@ -37,17 +37,17 @@ fn serve_each<'b, B: NamedBook + Drop, A: Actor<B>, J: RunName, R: Wait, G: Gate
     took
 }
 
-// Whether a turn with this answer took a number.
-fn is_did(served: Served) -> bool
+// Whether a cell that gave this answer took a number.
+fn is_did(served: Option<Served>) -> bool
     ensures { result ≡ is_did served }
 {
     match served {
-        Served::Did => true,
-        Served::Idle | Served::Ended => false,
+        Some(Served::Did) => true,
+        Some(Served::Idle | Served::Ended) | None => false,
     }
 }
 
-// One round of a worker: it serves each cell of the node once, and begins at the one whose number is the worker's modulo their
+// One round of a worker: it serves each cell of the node once if no other worker does, and begins at the one whose number is the worker's modulo their
 // count. It tells whether any of them took a number.
 fn round<'b, B: NamedBook + Drop, A: Actor<B>, J: RunName, R: Wait, G: Gate>(
     rt: &R,
@@ -64,8 +64,7 @@ fn round<'b, B: NamedBook + Drop, A: Actor<B>, J: RunName, R: Wait, G: Gate>(
     serve_each(rt, alloc, front, gate) || took
 }
 
-// A round at one of the nodes: each of its actors makes one turn, and so does a node that lies. It tells whether any of them took
-// a number.
+// A round at one of the nodes: its actors make turns, and so does a node that lies. It tells whether any of them took a number.
 fn round_at<'b, B: NamedBook + Drop, A: Actor<B>, L: Mouth, J: RunName, R: Wait, G: Gate>(
     rt: &R,
     alloc: Global,

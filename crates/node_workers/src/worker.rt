@@ -17,7 +17,7 @@ pub(crate) fn work<F: Fn(usize, usize) -> bool, R: Wait>(
 {
     let mut nap = SHORTEST_NAP;
     for _ in rt.forever() {
-        let began = crew.finds(rt);
+        let began = crew.finds();
         if round(node, worker) {
             crew.found(rt);
             nap = SHORTEST_NAP;
