@@ -2,3 +2,8 @@
 
 A call answers None where all is well, and else what is wrong, in a line.
 """
+import os
+import sys
+
+# So that rows may ask the oracles for what the formats and the rules give.
+sys.path.append(f"{os.path.dirname(os.path.dirname(os.path.realpath(__file__)))}/oracles")

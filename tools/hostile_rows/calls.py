@@ -1,8 +1,10 @@
 """What several rows ask of the program: a text that is read, a history that is audited, a text that is known."""
 import itertools
 
+import ledgers
+
 from hostile_rows.program import Limits, tell
-from hostile_rows.texts import Wrong, read_answer
+from hostile_rows.texts import Scene, Wrong, read_answer
 
 # What a run may end with that finds memory, and whose output is taken.
 ENDS = (0, 4, 5)
@@ -24,6 +26,17 @@ def read_legal(bench, given, statuses=ENDS, limits=Limits()):
     if (said.status, said.out, said.err) != (0, f"legal {len(posts)}\n".encode(), b""):
         raise Wrong(f"audit of {len(posts)} posts said '{said.out.decode(errors='replace').strip()}' ({tell(said)})")
     return posts
+
+
+def check_ledgers_of(given, posts):
+    """Holds the ledgers of a history to what it says, by the bytes of its votes alone. Of two correct nodes' ledgers one begins
+    with the other, each list has the batches of n - f nodes, and of correct nodes it has what they proposed. Raises Wrong."""
+    scene = Scene(given)
+    said = [(node, actor, bytes.fromhex(code.replace("-", ""))) for node, actor, _, code in posts]
+    run = ledgers.Run(scene.nodes, scene.faulty, scene.version, scene.liars, said)
+    answers = run.are_comparable(), run.have_batches_enough(), run.are_unaltered()
+    if answers != (True, True, True):
+        raise Wrong(f"whether the ledgers of the history are comparable, have batches enough and are unaltered: {answers}")
 
 
 def place_of_difference(found, wanted):

@@ -47,14 +47,21 @@ def stop(node, actor, call, leave):
     return {"node": node, "actor": actor, "call": call, "leave": leave}
 
 
-def check_again(posts, node, actor, is_again):
-    """Whether an actor posts something twice is told. Where it does, it posts all again that it had posted, in that order."""
+def place_of_again(posts, node, actor):
+    """The place of an actor's first post that stands twice, if one does. From there on it has to post all that it had posted, in
+    that order. Raises Wrong."""
     own = [post for post in posts if post[:2] == (node, actor)]
     first = next((place for place, post in enumerate(own) if post in own[:place]), None)
+    if first is not None and own[first:2 * first] != own[:first]:
+        raise Wrong(f"actor {actor} had {first} posts, and does not post just these again")
+    return first
+
+
+def check_again(posts, node, actor, is_again):
+    """Whether an actor posts something twice is told. Where it does, it posts all again that it had posted, in that order."""
+    first = place_of_again(posts, node, actor)
     if (first is not None) != is_again:
         raise Wrong(f"actor {actor} posts nothing twice" if is_again else f"actor {actor} posts its post {first} twice")
-    if is_again and own[first:2 * first] != own[:first]:
-        raise Wrong(f"actor {actor} had {first} posts, and does not post just these again")
 
 
 def check_stop(bench, actor, call):

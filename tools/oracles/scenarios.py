@@ -4,6 +4,15 @@ import json
 import words
 
 LIARS = ("silent", "equivocate", "echo_split", "bval_both", "false_share", "babble")
+# How many words choose the numbers of a scenario.
+CHOSEN = 4
+
+
+def chosen(number):
+    """What the first four words of a number choose: its nodes, how many may lie, epochs, transactions in a batch, and workers."""
+    drawn = [words.word(number, place) for place in range(CHOSEN)]
+    n = 4 + drawn[0] % 7
+    return {"n": n, "f": (n - 1) // 3, "epochs": 2 + drawn[1] % 4, "batch": 8 + drawn[2] % 16, "workers": 1 + drawn[3] % 3}
 
 
 def draw(number):
@@ -12,16 +21,13 @@ def draw(number):
     n is 4 to 10 and f the most that may lie; epochs 2 to 5, batches of 8 to 23, workers 1 to 3; 64 transactions of two words for
     each node; a kind for each of the last f nodes; and for each other node a stop: its actor, its call and what it leaves.
     """
-    place = 0
+    found, place = chosen(number), CHOSEN
 
     def word():
         nonlocal place
         place += 1
         return words.word(number, place - 1)
 
-    found = {"n": 4 + word() % 7}
-    found["f"] = (found["n"] - 1) // 3
-    found["epochs"], found["batch"], found["workers"] = 2 + word() % 4, 8 + word() % 16, 1 + word() % 3
     correct = found["n"] - found["f"]
     halves = [word().to_bytes(4, "little") for _ in range(128 * found["n"])]
     found["submit"] = [a + b for a, b in zip(halves[::2], halves[1::2])]
