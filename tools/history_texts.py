@@ -1,6 +1,9 @@
-"""Texts of histories, most of which break the form in one place, and what `audit` comes to for each: text, status, output and
-error output. All were worked out by hand."""
+"""Texts of histories, most of which break the form or a rule in one place, and what `audit` comes to for each: text, status,
+output and error output. All were worked out by hand, but for the history of two nodes and the posts that may not follow it, which
+stand in tools/histories. `tools/oracles/run posts_that_may_follow` finds by the rules which posts may follow."""
+import os
 
+TWO_NODES = os.path.join(os.path.dirname(os.path.realpath(__file__)), "histories", "two_nodes")
 NUMBERS = {"nodes": 1, "faulty": 0, "version": 1, "epochs": 1, "rounds": 3, "batch": 64, "seed": 0, "liars": 0}
 FOUR = {"nodes": 4, "faulty": 1}
 # The most bytes that a text may have.
@@ -101,9 +104,33 @@ def two_posts():
     yield illegal(f"{front}post 1 {NO_MORE}end 2\n", 1)
 
 
+def lines_of(path):
+    """The lines of a file, but for those that begin with #."""
+    with open(path, encoding="ascii") as file:
+        return [line for line in file if not line.startswith("#")]
+
+
+def two_nodes():
+    """A whole history, the same with each post again, and a post that may not follow behind so many of its posts."""
+    first, *posts, end = lines_of(f"{TWO_NODES}.trace")
+    yield legal(first + "".join(posts) + end, len(posts))
+    again = [line.replace(f"post {number} ", f"post {number + len(posts)} ") for number, line in enumerate(posts)]
+    yield legal(first + "".join(posts + again) + f"end {2 * len(posts)}\n", 2 * len(posts))
+    for line in lines_of(f"{TWO_NODES}.bent"):
+        place = int(line.split()[1])
+        yield illegal(first + "".join(posts[:place]) + line + f"end {place + 1}\n", place)
+
+
+def beside_a_liar():
+    """A liar says what it likes, and no other node does."""
+    first = first_line(**FOUR, rounds=1, batch=1, seed=5, liars=8)
+    lies = "post 0 from 3 actor 9 to all ff\npost 1 from 3 actor 0 to node 2 03\n"
+    yield illegal(f"{first}{lies}post 2 from 2 actor 0 to all ff\nend 3\n", 2)
+
+
 def rows():
     """All of these texts."""
-    for part in (first_lines, lines_of_posts, last_lines, two_posts):
+    for part in (first_lines, lines_of_posts, last_lines, two_posts, two_nodes, beside_a_liar):
         yield from part()
 
 

@@ -1,5 +1,7 @@
 """Histories: whom they accuse, whether their ledgers agree, which posts may follow, what observers take, and the texts of runs.
 Each check yields a place, what the test wants, and what is made here."""
+import re
+
 import codes
 import ledgers
 import rust_values
@@ -146,13 +148,23 @@ def agreeing_observers(sources):
 
 # ---- a history of two nodes, post by post
 
+POST = re.compile(r"post (\d+) from (\d+) actor (\d+) to (?:node (\d+)|(\w+)) (\S+)")
+
+
+def posts_of(text):
+    """The posts of the lines of a text, each with its number."""
+    for number, sender, actor, node, to, data in POST.findall(text):
+        goes = ("To::Node", int(node)) if node else f"To::{to.capitalize()}"
+        yield int(number), (int(sender), int(actor), goes, bytes.fromhex(data.replace("-", "")))
+
+
 def posts_that_may_follow(sources):
-    path = JUDGES + "two_nodes.rt"
     bent = {}
-    for count, line in sources.constant(path, "BENT"):
+    for count, line in posts_of(sources.text("tools/histories/two_nodes.bent")):
         bent.setdefault(count, []).append(line)
     history = History(2, 0, 1, 32, 1, 2**64 - 1)
-    for number, post in enumerate([*sources.constant(path, "HISTORY"), None]):
+    posts = [post for _, post in posts_of(sources.text("tools/histories/two_nodes.trace"))]
+    for number, post in enumerate([*posts, None]):
         for line in bent.pop(number, []):
             yield f"whether {line[3][:8].hex()} may follow {number} posts", False, history.may_follow(line)
         if post is not None:

@@ -42,8 +42,8 @@ CHANGES = {
     "soak_texts": (TEXTS, "soaks", "unaltered no\nend 9", "unaltered yes\nend 9"),
     "full_texts": (TEXTS, "full", "336_444", "336_445"),
     "trace_texts": (TEXTS, "traces", "to node 255 0001", "to node 255 0002"),
-    "posts_that_may_follow": (JUDGES, "two_nodes", r'''(0, 1, To::Book, b"\x08\x00\x01\x02")''',
-                              r'''(0, 1, To::Book, b"\x08\x00\x01\x01")'''),
+    "posts_that_may_follow": ("", "tools/histories/two_nodes.trace", "post 46 from 0 actor 1 to book 08000102",
+                              "post 46 from 0 actor 1 to book 08000101"),
     "words_of_votes": ("votes_cases", "rows", "PICK epoch 0 round 4 bits 0 1", "PICK epoch 0 round 4 bits 1"),
     "words_of_a_run": ("hb_votes", "stdout", "AUX epoch 0 round 0 bit 1", "AUX epoch 0 round 0 bit 0"),
 }

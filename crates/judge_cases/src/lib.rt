@@ -1,5 +1,5 @@
 //! Histories by hand, whose answers are by hand or by an oracle: whether their deliveries and ledgers agree, whom they accuse,
-//! the texts of that, and what those say of them that judge votes and posts.
+//! the texts of that, and what those say of them that judge votes. What the judge of posts says, `tools/statuses` shows by audits.
 //!
 //! `callers` is as any user might write it, and what is proved of it stands on the contract of accuse alone.
 #![tactic(auto)]
@@ -21,8 +21,6 @@ mod near_misses;
 mod posts;
 #[cfg(test)]
 mod texts;
-#[cfg(test)]
-mod two_nodes;
 #[cfg(test)]
 mod votes;
 
