@@ -2,8 +2,7 @@
 //! tests' own. What the program prints, `tools/scenarios`, `tools/statuses` and `tools/hostile` show.
 //!
 //! `callers` is as any user might write it, and what is proved of it stands on the contracts of hb_app and trace_audit alone.
-//! Tests of runs on threads use the rest that is public: `counting` has a gate, `false_frame` and `flooding` have liars, and
-//! `repeats` has questions.
+//! Tests of runs on threads use the rest that is public: `counting` has a gate, and `false_frame` and `flooding` have liars.
 #![tactic(auto)]
 
 #[cfg(test)]
@@ -24,7 +23,6 @@ mod liars;
 mod lies;
 #[cfg(test)]
 mod quiet;
-mod repeats;
 #[cfg(test)]
 mod runs;
 #[cfg(test)]
@@ -34,4 +32,3 @@ pub use callers::{run_bytes, trace_and_audit};
 pub use counting::CountingGate;
 pub use false_frame::FalseFrame;
 pub use flooding::Flooding;
-pub use repeats::{has_posted_all_again, posts_twice};

@@ -52,7 +52,7 @@ fn check_without_node_0(
     answer: &Answer,
     name: &str,
 ) -> Result<(), AllocError> {
-    let want = text_without(alloc, 0, "running")?;
+    let want = text_without(alloc, 0)?;
     check_text(rt, answer, 0, want.as_str(), name);
     check_any(rt, alloc, answer, &[0], name)
 }

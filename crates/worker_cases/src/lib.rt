@@ -1,4 +1,5 @@
-//! Runs with worker threads: what a caller may rely on, and runs whose schedules a gate, liars, links and stops bend.
+//! Runs with worker threads: what a caller may rely on, and runs with gates and liars of the tests' own. What the program prints
+//! of a scenario with workers, `tools/hostile` shows.
 //!
 //! `callers` is as any user might write it, and what is proved of it stands on the contract of hb_app alone.
 #![tactic(auto)]
@@ -11,16 +12,10 @@ mod calls;
 #[cfg(test)]
 mod counting;
 #[cfg(test)]
-mod disks;
+mod frames;
 #[cfg(test)]
 mod holding;
 #[cfg(test)]
-mod rows;
-#[cfg(test)]
-mod storms;
-#[cfg(test)]
 mod texts;
-#[cfg(test)]
-mod words;
 
 pub use callers::run_gated;

@@ -28,21 +28,12 @@ fn ledger_without(alloc: Global, left_out: u8) -> Result<String, AllocError> {
     Ok(lines)
 }
 
-// The text of a run of the four nodes in which all but this one were accepted, and this one stands so, with no ledger where it
-// lies.
-pub(crate) fn text_without(
-    alloc: Global,
-    left_out: u8,
-    stands: &str,
-) -> Result<String, AllocError> {
+// The text of a run of the four nodes in which all but this one were accepted.
+pub(crate) fn text_without(alloc: Global, left_out: u8) -> Result<String, AllocError> {
     let ledger = ledger_without(alloc, left_out)?;
     let mut text = String::from_str(alloc, "run nodes 4 faulty 1 version 1 epochs 1\n")?;
     for node in 0..4u8 {
-        if node == left_out && stands == "liar" {
-            text.push_str(format!(in alloc; "node {node} liar\n")?.as_str())?;
-        } else {
-            text.push_str(format!(in alloc; "node {node} running\n{ledger}")?.as_str())?;
-        }
+        text.push_str(format!(in alloc; "node {node} running\n{ledger}")?.as_str())?;
     }
     text.push_str("end 0\n")?;
     Ok(text)
