@@ -23,14 +23,15 @@ TRIES = 5
 MOST_THREADS = 40
 
 # Where no worker can be started the caller runs them one after another, each until its node has nothing more to do.
-# A worker serves the actors of its node in turn, and each takes one post. So node 0 sends its shards and echoes its own.
-# Then node 1 sends its shards, in the round in which its lane 0 still hears the proposal of its own desk, and echoes both.
-# Node 2 does the same, and has then three echoes in lane 0, so it is ready there.
-# These are the first posts, up to this Ready: node, actor, and kind.
+# A worker serves the actors of its node in turn. Each takes one post the first time, and up to 32 after that.
+# So each lane first hears the proposal of its own desk, and lane i of node i sends its shards.
+# Then node 0 echoes its own. Node 1 echoes in lane 0 what node 0 sent, and then its own in lane 1.
+# At node 2 lane 0 echoes too, has then three echoes and is ready, before lane 1 and lane 2 echo.
+# These are the first posts, up to that echo of lane 2: node, actor, and kind.
 ALONE = [(node, 4, "10") for node in range(4)]
 ALONE += [(0, 0, "01")] * 4 + [(0, 0, "02")]
 ALONE += [(1, 1, "01")] * 4 + [(1, 0, "02"), (1, 1, "02")]
-ALONE += [(2, 2, "01")] * 4 + [(2, 0, "02"), (2, 1, "02"), (2, 2, "02"), (2, 0, "03")]
+ALONE += [(2, 2, "01")] * 4 + [(2, 0, "02"), (2, 0, "03"), (2, 1, "02"), (2, 2, "02")]
 
 
 def threads_of_user(user):
