@@ -15,14 +15,14 @@ use hb_rules::Heard;
 use hb_wire::Vote;
 
 /// Whether a lane may cast this vote in the binary agreement of the vote's epoch, by the votes that it has cast and those that it
-/// has heard (after Mostéfaoui, Moumen and Raynal, PODC 2014; with a confirm phase where the rules are of version 2). A yes is always
-/// right. A no is right where a lane of a correct node heard all of it in a legal history in which no two hashed strings share
-/// a digest: only there do all choices of f + 1 good shares give one coin, and it looks at the first f + 1 that were heard. Votes of
-/// other epochs and parts may be among those that were cast and heard, but no share that is not good for its own epoch and round:
-/// whoever hands them over has checked each once, and no look at them checks them again.
+/// has heard (after Mostéfaoui, Moumen and Raynal, PODC 2014; with a confirm phase where the rules are of version 2). A yes is
+/// always right. A no is right where a lane of a correct node heard all of it in a legal history in which no two hashed strings
+/// share a digest: only there do all choices of f + 1 good shares give one coin, and it looks at the first f + 1 that were heard.
+/// Votes of other epochs and parts may be among those that were cast and heard, but no share that is not good for its own epoch
+/// and round: whoever hands them over has checked each once, and no look at them checks them again.
 ///
-/// Time is linear in the number of votes; an estimate of a later round makes the coin of the round before, a decision that of each
-/// round in which the lane picked the bit alone.
+/// Time is linear in the number of votes; an estimate of a later round makes the coin of the round before, a decision that of
+/// each round in which the lane picked the bit alone.
 pub fn may_agree(deal: &Deal, place: &Place, own: &[Vote], heard: &[Heard], vote: &Vote) -> bool
     requires deal { deal.now ≡ place.now.config }
     requires node { place.now.node < place.now.config.n }

@@ -9,8 +9,8 @@ ghost use Rattle.aba_judge.specs.Names.{claim_of};
 use hb_rules::{Claim, Heard, count_claims};
 use hb_wire::{Vals, Vote};
 
-// What a node can claim in a round: that it supports a bit, that it has accepted it, or any bit, that it is left with this bit alone,
-// with any set, or with a set that has the bit.
+// What a node can claim in a round: that it supports a bit, that it has accepted it, or any bit, that it is left with this bit
+// alone, with any set, or with a set that has the bit.
 #[derive(Clone, Copy)]
 pub(crate) enum Said {
     Bvals { round: u8, bit: bool },

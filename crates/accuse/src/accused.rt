@@ -30,10 +30,10 @@ fn push_some(found: &mut Vec<Accusation>, accusation: Option<Accusation>) -> Res
 /// they show two roots. Two Bvals never do. The history may be any posts with any bytes, legal or not: a post from a node that
 /// the run has not accuses nobody, nor do bytes that spell no vote under the run's version. Err where there is no memory.
 ///
-/// For each node it goes through the posts once, up to the first that contradicts another. A post of the node is read and compared
-/// with the first post at its place in a table, and a Val also with the first Val of its epoch: votes that are the same are equally
-/// long, so time is linear in the bytes of the history, and in the number of its posts times that of nodes, but for look-ups in the
-/// table, which are logarithmic in the number of places.
+/// For each node it goes through the posts once, up to the first that contradicts another. A post of the node is read and
+/// compared with the first post at its place in a table, and a Val also with the first Val of its epoch: votes that are the same
+/// are equally long, so time is linear in the bytes of the history, and in the number of its posts times that of nodes, but for
+/// look-ups in the table, which are logarithmic in the number of places.
 pub fn accuse(
     alloc: Global,
     config: &Config,

@@ -21,9 +21,9 @@ fn put_all<O: Sink>(found: &[Accusation], out: &mut O) -> Result<(), Failed>
     Ok(())
 }
 
-/// Prints the text of these accusations, each line by one put: `accuse nodes N faulty F version V epochs E` of the report's config,
-/// `accused I posts P Q` of each accusation, and `end S` with the report's status. It takes no memory. After an error a front of
-/// the text was written, and the sink's count of faults rose.
+/// Prints the text of these accusations, each line by one put: `accuse nodes N faulty F version V epochs E` of the report's
+/// config, `accused I posts P Q` of each accusation, and `end S` with the report's status. It takes no memory. After an error a
+/// front of the text was written, and the sink's count of faults rose.
 #[tactic(auto, using(script_fault::proofs::Writing::writes_then, script_fault::proofs::Writing::writes_front), unfolding(crate::specs::Text::accuse_text))]
 pub fn print_accuse<O: Sink>(
     report: &Report,

@@ -11,8 +11,8 @@ ghost use Rattle.hb_rules.specs.Strings.{NoCollision};
 ghost use Rattle.acs_world.specs.Agreed.{ClosingsAgree, ClosingsFollow};
 ghost use Rattle.acs_world.specs.Backing.{ClosingsAreBacked};
 
-/// Where a correct desk has closed an epoch, all its node's lanes have decided there, exactly those in the list on 1, and these have
-/// delivered the values in it; and it has closed the epoch before.
+/// Where a correct desk has closed an epoch, all its node's lanes have decided there, exactly those in the list on 1, and these
+/// have delivered the values in it; and it has closed the epoch before.
 /// Where no two hashed strings share a digest, correct desks close an epoch with one list, of any two correct nodes' ledgers
 /// one begins with the other, each of their lists has the batches of n - f nodes at least, and what it has of a correct
 /// node is what that node's desk proposed.

@@ -20,8 +20,9 @@ pub record HeldView (A B : Type 0) : Type 0 where
   pub mail : MailView
   pub back : List ℕ
 
--- The book and the script are those of the run, the seat is of this book, the mailboxes are of the script's config, and the mailbox from
--- which numbers are taken is the actor's, which is one of the config. The actor goes by the script, and its fate has its cause.
+-- The book and the script are those of the run, the seat is of this book, the mailboxes are of the script's config, and the
+-- mailbox from which numbers are taken is the actor's, which is one of the config. The actor goes by the script, and its fate has
+-- its cause.
 pub record IsHeld {B S : Type 0} (knows : B → S → Type 0) (is_script : Script → Type 0) (run : TableId) (seat : S) (b : B) (name : TableId) (s : Script) (mail : MailView)
     (p : PlayerView) : Type 0 where
   pub of_book : knows b seat
@@ -33,8 +34,8 @@ pub record IsHeld {B S : Type 0} (knows : B → S → Type 0) (is_script : Scrip
   pub place : mail.passes.place ≡ place_of s.config p.seat.node p.seat.actor
   pub player : IsPlayer s.config s true p
 
--- While the book went on from b to b', by the calls of actor x of node i, the seat of this actor was shown the whole history of a moment,
--- and in the end it has seen that.
+-- While the book went on from b to b', by the calls of actor x of node i, the seat of this actor was shown the whole history of a
+-- moment, and in the end it has seen that.
 pub record WasShown {B S : Type 0} (is_whole : B → B → S → S → Type 0) (moved : ℕ → ℕ → B → B → Type 0) (seen : S → List Post) (i x : ℕ) (b b' : B) (s : S) : Type 0 where
   pub before : B
   pub after : B

@@ -1,5 +1,5 @@
--- The mail of an actor: which numbers it has to put into whose mailboxes, and what comes of that. The letters: a run of config c and
--- script s, post k, actor x of node i.
+-- The mail of an actor: which numbers it has to put into whose mailboxes, and what comes of that. The letters: a run of config c
+-- and script s, post k, actor x of node i.
 use Rattle.std.specs.Prelude.{◌≡◌, ◌⊎◌, ℕ, ◌+◌, ◌==◌, ◌&&◌, ◌||◌, Bool, true, false, List, [], ◌∷◌, if◌then◌else◌, Option, None, Some, slice_get, slice_index_or, replicate}
 use Rattle.std.specs.List.{list_any, flat_map, range_with_len}
 use Rattle.hb_base.specs.Numbers.{Numbers}
@@ -73,7 +73,8 @@ deliveries c s posts numbers = flat_map (λ k. of_found c s (slice_get posts k) 
 
 -- ---- what was put
 
--- what was put through each pass, in the order of the mailboxes, whether it saw last that a new block is needed, and who was noted
+-- what was put through each pass, in the order of the mailboxes, whether it saw last that a new block is needed, and who was
+-- noted
 pub record Sent : Type 0 where
   pub puts : List (List ℕ)
   pub blocks : List Bool

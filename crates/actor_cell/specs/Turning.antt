@@ -29,7 +29,8 @@ by_lateness Twice = arrivals.Prompt
 by_lateness Late = arrivals.Late
 by_lateness Drop = arrivals.Aside
 
--- how post k, where it stands, arrives at actor x of node i: not at all unless it comes to the actor, and late if its shape says so
+-- how post k, where it stands, arrives at actor x of node i: not at all unless it comes to the actor, and late if its shape says
+-- so
 abbrev pub arrival_found : Script → Option Post → ℕ → ℕ → ℕ → Arrival
 arrival_found s None i x k = arrivals.Aside
 arrival_found s (Some post) i x k =
@@ -71,7 +72,8 @@ pub record KeepsTerms (old new : ActorView) : Type 0 where
   pub planned : new.supply.planned ≡ old.supply.planned
   pub budget : budget new.restarts new.supply ≤ budget old.restarts old.supply
 
--- It was restarted after a call that failed, or has ended for a cause. The numbers of its own posts were told, if it was restarted.
+-- It was restarted after a call that failed, or has ended for a cause. The numbers of its own posts were told, if it was
+-- restarted.
 pub record Recovers (old new : PlayerView) (before after : List ℕ) : Type 0 where
   pub seat : IsSameSeat old new
   pub seen : IsPrefix old.seat.seen new.seat.seen
@@ -96,8 +98,8 @@ pub record Hears (k : ℕ) (old new : PlayerView) (before after : List ℕ) : Ty
   pub received : new.fate ≡ Running → HasReceived k old.view new.view
   pub told : new.fate ≡ Running → Told old.view.terms old.seat.seen new.seat.seen before after
 
--- The numbers of posts that the actor made were put, by shape, for all whom these reach: of all posts that it made in this turn if it
--- goes on; of the first of these, or of none, if it has ended.
+-- The numbers of posts that the actor made were put, by shape, for all whom these reach: of all posts that it made in this turn
+-- if it goes on; of the first of these, or of none, if it has ended.
 pub record HasSent (s : Script) (old new : PlayerView) (before after : Sent) : Type 0 where
   pub numbers : List ℕ
   pub put : ArePut s.config (deliveries s.config s new.seat.seen numbers) before after

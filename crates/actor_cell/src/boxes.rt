@@ -41,8 +41,8 @@ pub fn each_has_its_place()
 {}
 
 impl Boxes {
-    /// The mailboxes of a run of this config, all empty, and for each of them, in the same order, its take pass with a put pass of
-    /// each mailbox. It costs a step for each two mailboxes, of which there are at most 272. The error is want of memory.
+    /// The mailboxes of a run of this config, all empty, and for each of them, in the same order, its take pass with a put pass
+    /// of each mailbox. It costs a step for each two mailboxes, of which there are at most 272. The error is want of memory.
     pub fn new(alloc: Global, config: &Config) -> Result<(Boxes, Vec<Passes>), AllocError>
         ensures boxes { IfOk result (λ r. (r.0.config ≡ config.now) × (length r.0.names ≡ length (owners config.now))) }
         ensures passes { IfOk result (λ r. AreDealt r.0.names r.1.items) }
@@ -73,9 +73,9 @@ impl Boxes {
         self.config
     }
 
-    /// Puts a number into the mailbox of an actor, or of its node if it lies. The error hands the number back, and comes only at a
-    /// place that needs a new block, for which there was no memory, or after 2^62 puts into that mailbox. The take pass is told of a
-    /// put into the own mailbox, and nothing else of it changes.
+    /// Puts a number into the mailbox of an actor, or of its node if it lies. The error hands the number back, and comes only at
+    /// a place that needs a new block, for which there was no memory, or after 2^62 puts into that mailbox. The take pass is told
+    /// of a put into the own mailbox, and nothing else of it changes.
     pub fn put<R: Wait>(
         &self,
         rt: &R,

@@ -55,8 +55,8 @@ pub fn start<B: Book, A: Actor<B>>(
     }
 }
 
-/// Lets the actor hear post k. A power stop is followed by restarts. The answer is its fate after that, and `out` has the numbers of
-/// the posts that it made, if it works.
+/// Lets the actor hear post k. A power stop is followed by restarts. The answer is its fate after that, and `out` has the numbers
+/// of the posts that it made, if it works.
 pub fn hear<B: Book, A: Actor<B>>(
     alloc: Global,
     book: &mut B,
@@ -78,8 +78,8 @@ pub fn hear<B: Book, A: Actor<B>>(
     }
 }
 
-/// Restarts an actor whose call was refused while a stop has left it without power. Another refusal ends it, and so does a fault that
-/// leaves the power on. `out` has the numbers of the posts that the refused call made.
+/// Restarts an actor whose call was refused while a stop has left it without power. Another refusal ends it, and so does a fault
+/// that leaves the power on. `out` has the numbers of the posts that the refused call made.
 pub fn recover<B: Book, A: Actor<B>>(
     alloc: Global,
     book: &mut B,

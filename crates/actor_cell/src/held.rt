@@ -29,8 +29,8 @@ use std::marker::{Model, PhantomData};
 use std::sync::Wait;
 use step_driver::is_running;
 
-/// An actor of a correct node with all that it needs among threads: a handle of the book, the script, its mailbox and its passes to
-/// those of the others, and the numbers of late posts that it holds back. Clauses see a `HeldView`.
+/// An actor of a correct node with all that it needs among threads: a handle of the book, the script, its mailbox and its passes
+/// to those of the others, and the numbers of late posts that it holds back. Clauses see a `HeldView`.
 ///
 /// In every state the book and the script are those of the run that `J` names, the actor is one of the config and goes by the
 /// script, and its fate has its cause.
@@ -64,8 +64,8 @@ impl<'b, B: NamedBook + Drop, A: Actor<B>, J: RunName> Model for Held<'b, B, A, 
 }
 
 impl<'b, B: NamedBook + Drop, A: Actor<B>, J: RunName> Held<'b, B, A, J> {
-    /// An actor that was started, with its fate since then, the script by which it goes, a handle of the book of its seat, and the
-    /// mailboxes of the run with the passes of its own. It takes no memory.
+    /// An actor that was started, with its fate since then, the script by which it goes, a handle of the book of its seat, and
+    /// the mailboxes of the run with the passes of its own. It takes no memory.
     pub fn new(
         alloc: Global,
         actor: A,
@@ -94,8 +94,8 @@ impl<'b, B: NamedBook + Drop, A: Actor<B>, J: RunName> Held<'b, B, A, J> {
         }
     }
 
-    /// Starts an actor that was never started, and restarts it where a stop leaves it without power. The numbers of its posts are put
-    /// into the mailboxes of all whom they reach. Want of memory ends it, and so does a fault of the journal that leaves the
+    /// Starts an actor that was never started, and restarts it where a stop leaves it without power. The numbers of its posts are
+    /// put into the mailboxes of all whom they reach. Want of memory ends it, and so does a fault of the journal that leaves the
     /// power on, or a full book; then nothing more is put.
     pub fn begin<R: Wait>(
         rt: &R,
@@ -147,14 +147,15 @@ impl<'b, B: NamedBook + Drop, A: Actor<B>, J: RunName> Held<'b, B, A, J> {
         (actor, fate, noted)
     }
 
-    /// One turn: takes at most one number, and lets the actor hear its post. It takes the numbers of its mailbox first. One whose post is
-    /// late is moved to those held back, and the turn goes on; where the mailbox gives none, the first of these is taken. A post
-    /// that does not stand, does not reach the actor or is dropped on its way is thrown away. Under the lock the gate is entered
-    /// once for each number that is taken, after its post was looked at. A look shows the actor's seat the whole history of that moment.
+    /// One turn: takes at most one number, and lets the actor hear its post. It takes the numbers of its mailbox first. One whose
+    /// post is late is moved to those held back, and the turn goes on; where the mailbox gives none, the first of these is taken.
+    /// A post that does not stand, does not reach the actor or is dropped on its way is thrown away. Under the lock the gate is
+    /// entered once for each number that is taken, after its post was looked at. A look shows the actor's seat the whole history
+    /// of that moment.
     ///
     /// An actor that a stop leaves without power is restarted at once. Want of memory ends it, and so does a fault of the journal
-    /// that leaves the power on, or a full book. The numbers of its new posts are put into the mailboxes of all whom they reach: one that
-    /// is dropped not at all, one that comes twice twice. Whose mailbox refuses one is noted. Of an actor that ends in
+    /// that leaves the power on, or a full book. The numbers of its new posts are put into the mailboxes of all whom they reach:
+    /// one that is dropped not at all, one that comes twice twice. Whose mailbox refuses one is noted. Of an actor that ends in
     /// this turn nothing more is sent.
     pub fn turn<R: Wait, G: Gate>(&mut self, rt: &R, alloc: Global, gate: &G) -> Served
         ensures script { self.new.script ≡ self.old.script }

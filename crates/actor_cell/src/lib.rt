@@ -1,5 +1,5 @@
-//! Actors among threads: the mailboxes between them, the passes to these, and what lies under the lock of an actor: a turn takes one
-//! number at most.
+//! Actors among threads: the mailboxes between them, the passes to these, and what lies under the lock of an actor: a turn takes
+//! one number at most.
 #![tactic(auto)]
 
 mod arrival;

@@ -164,8 +164,8 @@ impl<'b> Mail<'b> {
         }
     }
 
-    /// Puts the number of a post, by shape, for all whom it reaches: one that is dropped not at all, one that comes twice twice. An
-    /// actor whose mailbox refuses it is noted, and a node that lies as its actor 0.
+    /// Puts the number of a post, by shape, for all whom it reaches: one that is dropped not at all, one that comes twice twice.
+    /// An actor whose mailbox refuses it is noted, and a node that lies as its actor 0.
     pub fn send<R: Wait>(&mut self, rt: &R, script: &Script, post: &Post, k: u32)
         ensures { AreSent self.old.boxes.config (of_post self.old.boxes.config script.now post.now k) self.old self.new }
     {

@@ -6,8 +6,8 @@ ghost use Rattle.net_script.specs.declared.script.Script.{Script};
 
 use std::marker::Brand;
 
-/// Of which run is what lies under a lock: a clause can't name a value there, so the type names its book and its script. A program
-/// picks both where it makes them.
+/// Of which run is what lies under a lock: a clause can't name a value there, so the type names its book and its script. A
+/// program picks both where it makes them.
 pub trait RunName {
     /// The name of the book of the run.
     ghost book: { TableId };

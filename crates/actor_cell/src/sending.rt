@@ -13,8 +13,8 @@ use net_script::Script;
 use std::alloc::AllocError;
 use std::sync::Wait;
 
-/// Puts the numbers of these posts, by shape, for all whom they reach. Each post is read by the actor's seat. The error is want of
-/// memory to read one, and the numbers before it were put.
+/// Puts the numbers of these posts, by shape, for all whom they reach. Each post is read by the actor's seat. The error is want
+/// of memory to read one, and the numbers before it were put.
 pub fn send_all<R: Wait, B: Book, A: Actor<B>>(
     rt: &R,
     script: &Script,

@@ -15,7 +15,8 @@ pub(crate) trait Host: Abort + Threads + Wait + Sync {}
 
 impl<R: Abort + Threads + Wait + Sync> Host for R {}
 
-// What a call is given: its word and its input. Of puts on out and puts on err the one with this number fails, none where it is 0.
+// What a call is given: its word and its input. Of puts on out and puts on err the one with this number fails, none where it is
+// 0.
 #[derive(Clone, Copy)]
 pub(crate) struct Request<'a> {
     pub(crate) word: &'a str,

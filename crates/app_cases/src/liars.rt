@@ -47,8 +47,8 @@ const NOBODY: &str = "accuse nodes 4 faulty 1 version 1 epochs 1\nend 0\n";
 
 const THE_LIAR: &str = "accuse nodes 4 faulty 1 version 1 epochs 1\naccused 3 posts 3 4\nend 0\n";
 
-// A frame that is false stands for no bytes, and they for no transaction. All its pieces have one root, and each node is sent one,
-// so that it contradicts nothing.
+// A frame that is false stands for no bytes, and they for no transaction. All its pieces have one root, and each node is sent
+// one, so that it contradicts nothing.
 #[test]
 fn false_frames(rt: HostRuntime) -> Result<(), Fail> {
     for &(word, text) in &[("run", WITH_NOTHING), ("accuse", NOBODY)] {

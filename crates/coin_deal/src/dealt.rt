@@ -98,8 +98,9 @@ impl Deal {
         }
     }
 
-    /// Whether these are the share, the salt and the branch that `dealt_to` gives to node m. They are good then. Nothing is hashed
-    /// but the coin's tree, once; where no memory is left for the tree, each call hashes its leaves. A correct node shows no others.
+    /// Whether these are the share, the salt and the branch that `dealt_to` gives to node m. They are good then. Nothing is
+    /// hashed but the coin's tree, once; where no memory is left for the tree, each call hashes its leaves. A correct node shows
+    /// no others.
     pub fn is_dealt(
         &self,
         e: u8,

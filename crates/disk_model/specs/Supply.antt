@@ -1,7 +1,8 @@
 -- The power supply of a disk, with its plan of stops and faults.
 use Rattle.std.specs.Prelude.{◌≡◌, ◌⊎◌, ℕ, ◌<◌, ◌≤◌, Bool, true, false, List, [], Contains}
 
--- whether the disk is off, how many stops of its plan are still to come, the faults of its plan, and the number of its last numbered call
+-- whether the disk is off, how many stops of its plan are still to come, the faults of its plan, and the number of its last
+-- numbered call
 pub record Supply : Type 0 where
   pub off : Bool
   pub stops : ℕ

@@ -6,8 +6,8 @@ use Rattle.hb_rules.specs.Owing.{desk_slots}
 use Rattle.hb_rules.specs.Slots.{IsOwed}
 use Rattle.epoch_core.specs.Epochs.{EpochsView, Stands}
 
--- At each of the two hearings the votes become due that are owed then, those of the first before those of the second, and the state
--- stands for all that was cast and heard.
+-- At each of the two hearings the votes become due that are owed then, those of the first before those of the second, and the
+-- state stands for all that was cast and heard.
 pub record HearsTwo (old new : EpochsView) (one two : Hearing) (before after : List Vote) : Type 0 where
   pub first : List Vote
   pub second : List Vote

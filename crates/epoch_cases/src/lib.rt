@@ -1,5 +1,5 @@
-//! What a desk proposes first, what comes of one epoch, and what a desk casts over several, in whole runs. Beside it what all actors
-//! use, room for votes and numbers, and what a desk alone uses, the pool of transactions.
+//! What a desk proposes first, what comes of one epoch, and what a desk casts over several, in whole runs. Beside it what all
+//! actors use, room for votes and numbers, and what a desk alone uses, the pool of transactions.
 //!
 //! `callers` is as any user might write it, and what is proved of it stands on the contracts of epoch_core alone.
 #![tactic(auto)]

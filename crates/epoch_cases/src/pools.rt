@@ -1,5 +1,5 @@
-//! What no clause of tx_pool says: that calls find memory and succeed, that the clauses mean what was meant, and that thousands of
-//! transactions take little time.
+//! What no clause of tx_pool says: that calls find memory and succeed, that the clauses mean what was meant, and that thousands
+//! of transactions take little time.
 
 use hb_base::Bytes;
 use std::alloc::{AllocError, Global};

@@ -138,8 +138,8 @@ fn listed(alloc: Global, vote: &Vote) -> Result<Vec<u8>, Fail> {
     Ok(text)
 }
 
-// What comes of a run of five epochs with these numbers, and the list in the end. NoMore is cast in epoch 2, and in epoch 3 if it is
-// said so.
+// What comes of a run of five epochs with these numbers, and the list in the end. NoMore is cast in epoch 2, and in epoch 3 if it
+// is said so.
 fn outcomes_of(
     alloc: Global,
     n: u8,

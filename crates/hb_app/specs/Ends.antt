@@ -77,7 +77,8 @@ abbrev pub Comes : {X : Type 0} {F : X → Type 0} → Progress X F → (ℕ →
 Comes (Ended status) ended left = ended status
 Comes (Workers task) ended left = left task
 
--- A run of this scenario is left, of which this is wanted. It asks for workers. Nothing was written or told, and the report stays.
+-- A run of this scenario is left, of which this is wanted. It asks for workers. Nothing was written or told, and the report
+-- stays.
 pub record IsLeft {X : Type 0} {F : X → Type 0} {O E : Type 0} (wanted : Wanted) (s : Scenario) (before after : Scene O E) (task : Task X F) : Type 0 where
   pub wanted_is : task.wanted ≡ wanted
   pub scenario : told task.script ≡ s

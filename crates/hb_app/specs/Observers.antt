@@ -6,9 +6,9 @@ use Rattle.observer.specs.Agreeing.{AreTwoOfOne, AreOf, AgreesWithNodes, HasClos
 use Rattle.observer.specs.Observed.{observed}
 
 -- Whatever posts of a history an observer hears, in any order and with repeats: of its ledger and that of any correct node one
--- begins with the other, and so it is of any two observers' ledgers; each list that it has taken has the batches of n - f nodes at
--- least. Where it has heard of f + 1 correct nodes in each epoch up to e that they closed the epoch, its ledger has more than e
--- lists.
+-- begins with the other, and so it is of any two observers' ledgers; each list that it has taken has the batches of n - f nodes
+-- at least. Where it has heard of f + 1 correct nodes in each epoch up to e that they closed the epoch, its ledger has more than
+-- e lists.
 pub record ObserversFollow (c : Numbers) (history : List Post) : Type 0 where
   pub nodes : (heard : List Post) → AreOf history heard → AgreesWithNodes c history (observed c heard)
   pub observers : (heard others : List Post) → AreOf history heard → AreOf history others → AreTwoOfOne (observed c heard) (observed c others)

@@ -68,8 +68,8 @@ fn with_status(made: Report) -> Report
     ensures { (s : Script) → IsScenario (told s) → IsRunOf s made → Headline (told s) result }
 {
     let mut made = made;
-    // what these calls ensure are the laws of ledgers, of observers, of quiet and calm runs and of accusations, and that the numbers
-    // of the run are sound
+    // what these calls ensure are the laws of ledgers, of observers, of quiet and calm runs and of accusations, and that the
+    // numbers of the run are sound
     ledger_laws();
     observer_laws();
     quiet_laws();

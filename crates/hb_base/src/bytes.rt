@@ -72,8 +72,8 @@ impl Bytes {
         })
     }
 
-    /// The longer part that begins with `front`, where `front` stands just before these bytes in the bytes that their owners
-    /// share: one more owner, and no copy. None where something else stands there. Err only where 2 ^ 63 - 1 owners are counted already.
+    /// The longer part that begins with `front`, if `front` is found just before these bytes in the bytes that their owners
+    /// share: one more owner, and no copy. No clause says when None or Err comes: a caller has to be ready for both at any call.
     pub fn with_front(&self, front: &[u8]) -> Result<Option<Bytes>, AllocError>
         ensures { IfOk result (λ longer. IfSome longer (λ b. b ≡ front.now ++ self.now)) }
     {

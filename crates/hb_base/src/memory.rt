@@ -118,7 +118,8 @@ impl MemorySink {
         MemorySink::of(Vec::new(alloc), failing)
     }
 
-    /// The same with room for so many bytes. A call whose bytes fit in beside those that it holds fails only if it is in `failing`.
+    /// The same with room for so many bytes. A call whose bytes fit in beside those that it holds fails only if it is in
+    /// `failing`.
     pub fn with_room(
         alloc: Global,
         room: usize,

@@ -17,8 +17,8 @@ pub trait Source {
     /// 2^64 - 1.
     ghost faults: { Self → ℕ };
 
-    /// Puts the next bytes at the front of `buf`, and answers how many. A source that tells what is left puts at least one, unless
-    /// nothing is left.
+    /// Puts the next bytes at the front of `buf`, and answers how many. A source that tells what is left puts at least one,
+    /// unless nothing is left.
     fn take(&mut self, buf: &mut [u8]) -> Result<usize, Failed>
         requires { 0 < length buf.old }
         ensures bound { ReadsAtMost result buf.new }

@@ -22,8 +22,8 @@ pub fn spell(alloc: Global, config: &Config, vote: &Vote) -> Result<Bytes, Alloc
     write(alloc, config.n(), config.version(), vote)
 }
 
-/// The bytes of a vote that a node posts in a run of this config. An Echo of a correct node is marked as valid, as the rules ask
-/// for it. Err where there is no memory.
+/// The bytes of a vote that a node posts in a run of this config. An Echo of a correct node is marked as valid, which the rules
+/// ask it to be, so that who reads it need not hash its branch. No clause tells of the mark. Err where there is no memory.
 pub fn spell_for(
     alloc: Global,
     config: &Config,
@@ -131,7 +131,8 @@ impl Posts {
         }
     }
 
-    /// The bytes of a vote that the rules allow to this actor of this node, as `spell_for` gives them. Err where there is no memory.
+    /// The bytes of a vote that the rules allow to this actor of this node, as `spell_for` gives them. Err where there is no
+    /// memory.
     pub fn spell_for(&self, node: u8, actor: u8, vote: &Vote) -> Result<PostBytes, AllocError>
         requires spelled { HasSpelling self.now.config vote.now }
         requires allowed { IsAllowed self.now.config node actor self.now.posts vote.now }
@@ -140,9 +141,9 @@ impl Posts {
         spell_for(self.alloc(), &self.config, node, vote)
     }
 
-    /// Adds the post of a vote that the rules allow to this actor of this node, and answers its number. `bytes` is what `spell_for`
-    /// gave for the vote, so that nothing is spelled where a book is locked. `Full` comes exactly where there are 2^22
-    /// posts, and a refusal adds nothing.
+    /// Adds the post of a vote that the rules allow to this actor of this node, and answers its number. `bytes` is what
+    /// `spell_for` gave for the vote, so that nothing is spelled where a book is locked. `Full` comes exactly where there are
+    /// 2^22 posts, and a refusal adds nothing.
     pub fn add_vote(
         &mut self,
         node: u8,

@@ -114,7 +114,7 @@ fn transactions_of(alloc: Global, count: u8, bytes: &Bytes) -> Result<Vec<Bytes>
 }
 
 /// The transactions of the batch that the bytes are: none where they are no batch. They are parts of the bytes, and no
-/// copies. Err where there is no memory for the list.
+/// copies. Err where there is no memory for the list, or the bytes have as many owners as they may.
 pub fn read_batch(alloc: Global, bytes: &Bytes) -> Result<Vec<Bytes>, AllocError>
     ensures { IfOk result (λ batch. batch.items ≡ batch_of bytes.now) }
 {

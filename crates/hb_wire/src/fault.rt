@@ -10,8 +10,8 @@ pub enum WireFault {
     /// any memory is asked for.
     #[error("not a message")]
     NotAMessage,
-    /// The bytes spell a vote, and there was no memory for what was to be copied of it, or, under `read_shared`, the bytes have as
-    /// many owners as they may.
+    /// The bytes spell a vote, and there was no memory for what was to be copied of it, or, under `read_shared`, the bytes have
+    /// as many owners as they may.
     #[error("no memory")]
     Memory,
 }

@@ -9,8 +9,8 @@ use crate::vote::Vote;
 use merkle_branch::is_branch;
 use std::marker::Model;
 
-/// A vote as it is heard. Of an Echo it may be known as which leaf its branch is valid; then it need not be hashed. No clause tells
-/// whether it is known: clauses see the vote alone.
+/// A vote as it is heard. Of an Echo it may be known as which leaf its branch is valid; then it need not be hashed. No clause
+/// tells whether it is known: clauses see the vote alone.
 #[derive(Drop)]
 pub struct Spoken {
     vote: Vote,

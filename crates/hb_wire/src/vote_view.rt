@@ -162,8 +162,8 @@ impl VoteView<'_> {
     }
 }
 
-// What stands before a value: a kind, an epoch, and its length in four bytes. Before a shard stands a root besides, and in a Val a
-// target.
+// What stands before a value: a kind, an epoch, and its length in four bytes. Before a shard stands a root besides, and in a Val
+// a target.
 const VALUE_FRONT: usize = 2 + 4;
 
 const ECHO_FRONT: usize = 2 + 32 + 4;

@@ -148,7 +148,7 @@ fn put_vote(out: &mut Vec<u8>, n: u8, version: u8, vote: &Vote) -> Result<(), Al
     put_fields(out, n, version, vote)
 }
 
-/// What begins the spelling of a Delivered of this epoch: its length in four bytes and the value follow.
+/// What begins the spelling of a Delivered of this epoch: the length of the value in four bytes follows, and then the value.
 pub fn front_of_delivered(epoch: u8) -> [u8; 2]
     ensures { (value : List ℕ) → spelling (Delivered epoch value) ≡ result ++ sized_bytes value }
 {

@@ -16,9 +16,9 @@ use merkle_branch::is_branch;
 use std::alloc::Global;
 use std::test::Fail;
 
-// Votes are words of three letters, all of epoch 0: the kind, the round, and a bit, or a set of bits of which 1 has 0, 2 has 1 and 3 has
-// both. Of a bit c is the coin of round 0 and n the other one, of a set c is the coin alone. E is Est, B is Bval, A is Aux, C is Conf, P
-// is Pick, S is the node's share of the round, D is Decided and N is NoMore.
+// Votes are words of three letters, all of epoch 0: the kind, the round, and a bit, or a set of bits of which 1 has 0, 2 has 1
+// and 3 has both. Of a bit c is the coin of round 0 and n the other one, of a set c is the coin alone. E is Est, B is Bval, A is
+// Aux, C is Conf, P is Pick, S is the node's share of the round, D is Decided and N is NoMore.
 //
 // Whether the lane may cast a vote, under a version of the rules, where it has cast these and heard these of node 0.
 type Row = (u8, &'static str, &'static str, &'static str, bool);
@@ -284,8 +284,8 @@ fn many(alloc: Global) -> Result<Vec<Vote>, Fail> {
     Ok(own)
 }
 
-// A lane that has cast votes of all rounds, but for its last Aux and what follows that, and has heard that its bit is supported in the
-// last two.
+// A lane that has cast votes of all rounds, but for its last Aux and what follows that, and has heard that its bit is supported
+// in the last two.
 #[test]
 fn votes_of_all_rounds(rt: HostRuntime) -> Result<(), Fail> {
     let alloc = rt.alloc();

@@ -1,5 +1,6 @@
-//! What no clause says: that calls find memory, and what the lane of a run of one node may cast, row by row. There each count asks
-//! for one node, and the one shard is the frame of the value: its length in 4 bytes, and the value. Votes are read of their bytes.
+//! What no clause says: that calls find memory, and what the lane of a run of one node may cast, row by row. There each count
+//! asks for one node, and the one shard is the frame of the value: its length in 4 bytes, and the value. Votes are read of their
+//! bytes.
 ghost use Rattle.std.specs.Prelude.{◌≡◌, ◌<◌, ◌≤◌, true, length, IfOk};
 ghost use Rattle.hb_base.specs.Limits.{most_nodes};
 ghost use Rattle.hb_rules.specs.History.{HasSpelling};
@@ -16,9 +17,9 @@ use rbc_judge::{Known, Lane, may_broadcast};
 use std::alloc::Global;
 use std::test::Fail;
 
-// Votes are words: a kind, an epoch, and a value of two letters. P is the proposal of the value, V the Val with its shard for node 0, E
-// the Echo of its shard, R the Ready for its root, and D its delivery. Behind a Val or an Echo may stand a second value, under whose
-// root the shard of the first is shown.
+// Votes are words: a kind, an epoch, and a value of two letters. P is the proposal of the value, V the Val with its shard for
+// node 0, E the Echo of its shard, R the Ready for its root, and D its delivery. Behind a Val or an Echo may stand a second
+// value, under whose root the shard of the first is shown.
 //
 // Whether the lane may cast a vote where it has cast this and heard these of node 0.
 type Row = (&'static str, &'static str, &'static str, bool);

@@ -68,8 +68,8 @@ pub record HaveReceivedAll (s : Script) (players : List PlayerView) (m : ℕ) : 
   pub shown : IsSeenBySome posts players
   pub each : All (λ p. p.fate ≡ Running → HasReceivedAll s posts p) players
 
--- Nothing is left to deliver: nobody has seen more than m posts, and all actors that work have received what comes to them of m posts;
--- or there is nobody left to receive any, since each actor has ended by a full book.
+-- Nothing is left to deliver: nobody has seen more than m posts, and all actors that work have received what comes to them of m
+-- posts; or there is nobody left to receive any, since each actor has ended by a full book.
 pub record IsSettled (s : Script) (players : List PlayerView) (liars : List SeatView) (m : ℕ) : Type 0 where
   pub all : HaveReceivedAll s players m ⊎ All (λ p. p.fate ≡ Full) players
   pub few : All (λ p. length p.seat.seen ≤ m) players

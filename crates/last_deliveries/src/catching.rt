@@ -17,9 +17,10 @@ use net_script::Script;
 use std::alloc::{AllocError, Global};
 use step_driver::{Player, is_running};
 
-// Whether the actor was busy: whether it heard a post, or ended, or may still lack one of these posts or another. An actor that works
-// hears those of these that come to it and that it has not received, in their order; one that was restarted in a delivery has
-// forgotten what it received, and waits for the next call. Of one that has ended it is only asked whether it has seen more posts.
+// Whether the actor was busy: whether it heard a post, or ended, or may still lack one of these posts or another. An actor that
+// works hears those of these that come to it and that it has not received, in their order; one that was restarted in a delivery
+// has forgotten what it received, and waits for the next call. Of one that has ended it is only asked whether it has seen more
+// posts.
 //
 // It costs a mark for each post, and a look at each post in the two lists where those that may come to it stand; the book is read
 // twice for each post that is delivered, and twice where the actor lacked none.
@@ -79,8 +80,8 @@ fn receives_all<B: Book, A: Actor<B>, G: Gate>(
     }
 }
 
-// Delivers to an actor that works what it lacks. Whether it lacked anything; if not, nothing was done. The error is want of memory for
-// the marks, or for the numbers of what it lacks.
+// Delivers to an actor that works what it lacks. Whether it lacked anything; if not, nothing was done. The error is want of
+// memory for the marks, or for the numbers of what it lacks.
 fn deliver<B: Book, A: Actor<B>, G: Gate>(
     alloc: Global,
     script: &Script,
@@ -146,8 +147,8 @@ fn hand_over_all<B: Book, A: Actor<B>, G: Gate>(
     }
 }
 
-// Lets an actor that works hear post k, if it comes to it by its own seat too. Before that the gate is entered. Whether it has received
-// the post, and still has all that it had received.
+// Lets an actor that works hear post k, if it comes to it by its own seat too. Before that the gate is entered. Whether it has
+// received the post, and still has all that it had received.
 fn hand_over<B: Book, A: Actor<B>, G: Gate>(
     alloc: Global,
     script: &Script,

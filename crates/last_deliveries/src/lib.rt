@@ -1,5 +1,5 @@
-//! The last deliveries of a run over any kind of shared book: when all worker threads have returned, the thread of the caller delivers
-//! what is left.
+//! The last deliveries of a run over any kind of shared book: when all worker threads have returned, the thread of the caller
+//! delivers what is left.
 #![tactic(auto)]
 
 mod catching;

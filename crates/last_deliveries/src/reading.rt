@@ -30,8 +30,9 @@ fn read_one<B: Book, A: Actor<B>>(
     actor.read(book, k)
 }
 
-// Reads on behind these posts, which are a beginning of what the seat of the actor has seen, until they are all that it has seen then.
-// They share their bytes with the book. Err is want of memory, or a book of more than 2^22 posts, and there is no such book.
+// Reads on behind these posts, which are a beginning of what the seat of the actor has seen, until they are all that it has seen
+// then. They share their bytes with the book. Err is want of memory, or a book of more than 2^22 posts, and there is no such
+// book.
 pub(crate) fn read_on<B: Book, A: Actor<B>>(
     book: &mut B,
     actor: &mut A,

@@ -20,13 +20,13 @@ use std::alloc::{AllocError, Global};
 use std::sync::Wait;
 use step_driver::Player;
 
-/// Delivers what is left of a run whose threads have all returned: to each actor that works, in turn and again and again, the posts
-/// that come to it and that it has not received, until none of them lacks one and nobody has seen more posts. Before each delivery
-/// the gate is entered. An actor that a stop leaves without power is restarted at once, and hears all posts that come to it again.
-/// One with another refusal ends, and so does one that finds no memory for the marks of what it has received, for the numbers of
-/// what it lacks, or to hear a post; the others go on. The answer is the number of posts, and bounds what any actor or seat has
-/// seen. Err is want of memory to read or to list the posts. Some may have been delivered then, and all that is said of actors and
-/// seats holds.
+/// Delivers what is left of a run whose threads have all returned: to each actor that works, in turn and again and again, the
+/// posts that come to it and that it has not received, until none of them lacks one and nobody has seen more posts. Before each
+/// delivery the gate is entered. An actor that a stop leaves without power is restarted at once, and hears all posts that come to
+/// it again. One with another refusal ends, and so does one that finds no memory for the marks of what it has received, for the
+/// numbers of what it lacks, or to hear a post; the others go on. The answer is the number of posts, and bounds what any actor or
+/// seat has seen. Err is want of memory to read or to list the posts. Some may have been delivered then, and all that is said of
+/// actors and seats holds.
 ///
 /// Each post is read and listed once for all rounds, and again only where the actor that reads has ended by a full book. A round
 /// costs the reading of the posts that are new in it, and for each actor what `catch_up` does. It may wait.
@@ -60,8 +60,8 @@ pub fn settle<B: NamedBook, A: Actor<B>, R: Wait, G: Gate>(
     unreachable!()
 }
 
-// The rounds of `settle` in which the same actor reads the posts. It answers the number of posts where nothing was left to deliver, and
-// nothing where that actor has ended by a full book.
+// The rounds of `settle` in which the same actor reads the posts. It answers the number of posts where nothing was left to
+// deliver, and nothing where that actor has ended by a full book.
 fn settle_by_one<B: NamedBook, A: Actor<B>, R: Wait, G: Gate>(
     rt: &R,
     alloc: Global,
@@ -124,8 +124,8 @@ fn may_read<A>(players: &[Player<A>], place: usize) -> bool
     }
 }
 
-// A round over all actors, in which the one at this place reads on behind the posts that it has read in the rounds before. It answers the
-// number of posts where nothing was left to deliver.
+// A round over all actors, in which the one at this place reads on behind the posts that it has read in the rounds before. It
+// answers the number of posts where nothing was left to deliver.
 fn round<B: NamedBook, A: Actor<B>, G: Gate>(
     alloc: Global,
     script: &Script,

@@ -7,7 +7,8 @@ use Rattle.hb_rules.specs.Report.{IsQuiet, StaysWithinPlan, FollowsPoolRule}
 use Rattle.step_driver.specs.Running.{EndsFullByCause}
 
 -- A report of the run of a script: its history is legal, nothing is left to do, no more was done than is planned, an actor has
--- ended by a full book only where the book is full, and each proposal of a correct desk is of the oldest transactions of its pool.
+-- ended by a full book only where the book is full, and each proposal of a correct desk is of the oldest transactions of its
+-- pool.
 pub record IsRunOf (s : Script) (report : Report) : Type 0 where
   pub script : report.script ≡ s
   pub config : report.config ≡ s.config

@@ -47,8 +47,8 @@ pub fn lane_of<B: Book>(
     Ok(JournaledActor::new(alloc, NodeCore::Lane(core), disk, seat))
 }
 
-/// The desk of a correct node that was never started, over a seat that has seen nothing and the disk that the script plans for it.
-/// Err is want of memory.
+/// The desk of a correct node that was never started, over a seat that has seen nothing and the disk that the script plans for
+/// it. Err is want of memory.
 pub fn desk_of<B: Book>(
     alloc: Global,
     script: &Script,

@@ -1,4 +1,5 @@
-//! The text of a run: the nodes, the ledgers of the correct ones, and the status; that of any ledger; and that of a generated run.
+//! The text of a run: the nodes, the ledgers of the correct ones, and the status; that of any ledger; and that of a generated
+//! run.
 #![tactic(auto)]
 
 pub mod laws;

@@ -10,8 +10,8 @@ use Rattle.step_driver.specs.Delivering.{is_from}
 use Rattle.actor_cell.specs.Boxes.{place_of}
 use Rattle.actor_cell.specs.Mail.{MailView}
 
--- a node that lies: its seat, how many lies stand under it, how many posts it still hears, its book, the script of the run, its mail,
--- and the numbers that it holds back, in order
+-- a node that lies: its seat, how many lies stand under it, how many posts it still hears, its book, the script of the run, its
+-- mail, and the numbers that it holds back, in order
 pub record LiarView (B : Type 0) : Type 0 where
   pub seat : SeatView
   pub said : ℕ
@@ -25,8 +25,9 @@ pub record LiarView (B : Type 0) : Type 0 where
 abbrev pub new_liar : {B : Type 0} → SeatView → ℕ → B → Script → MailView → LiarView B
 new_liar seat hears book s mail = record { seat = seat; said = 0; hears = hears; book = book; script = s; mail = mail; back = [] }
 
--- The book and the script are those of the run, the seat is that of a node of the config that lies, the mailboxes are of the config, and
--- the one from which numbers are taken is the node's. All lies that stand under it are counted, and are no more than a node may say.
+-- The book and the script are those of the run, the seat is that of a node of the config that lies, the mailboxes are of the
+-- config, and the one from which numbers are taken is the node's. All lies that stand under it are counted, and are no more than
+-- a node may say.
 pub record IsHeldLiar {B : Type 0} (is_script : Script → Type 0) (run : TableId) (name : B → TableId) (h : LiarView B) : Type 0 where
   pub book : name h.book ≡ run
   pub script : is_script h.script

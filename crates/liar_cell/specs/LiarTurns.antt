@@ -62,8 +62,8 @@ pub record TakesNothing {B : Type 0} (old new : LiarView B) : Type 0 where
   pub taker : IsSameTaker old.mail new.mail
   pub back : new.back ≡ old.back
 
--- Of posts that stand under the node the numbers were put, by shape, for all whom these reach, and no others: of posts from the number `first` on
--- and below `end`, each once and in order. One that there was no memory to read is left out.
+-- Of posts that stand under the node the numbers were put, by shape, for all whom these reach, and no others: of posts from the
+-- number `first` on and below `end`, each once and in order. One that there was no memory to read is left out.
 pub record PutsOwn {B : Type 0} (first end : ℕ) (old new : LiarView B) : Type 0 where
   pub numbers : List ℕ
   pub own : AreOwn new.seat.node new.seat.seen first end numbers
@@ -99,8 +99,8 @@ pub record HoldsBack {B : Type 0} (moved : List ℕ) (old new : LiarView B) : Ty
   pub mail : TookOnly old.mail new.mail moved
   pub back : new.back ≡ old.back ++ moved
 
--- the number was the next in the mailbox; if its post is late it was thrown away: there was no memory to hold it back, or the node
--- hears no more and the number was not read
+-- the number was the next in the mailbox; if its post is late it was thrown away: there was no memory to hold it back, or the
+-- node hears no more and the number was not read
 pub record IsFromMailbox {B : Type 0} (k : ℕ) (moved : List ℕ) (old new : LiarView B) : Type 0 where
   pub taken : new.mail.passes.take.taken ≡ old.mail.passes.take.taken ++ (moved ++ k ∷ [])
   pub back : new.back ≡ old.back ++ moved

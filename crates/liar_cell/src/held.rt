@@ -24,12 +24,12 @@ use std::marker::{Model, PhantomData};
 use std::sync::Wait;
 use step_driver::{Mouth, listen, tell};
 
-/// A node that lies, with all that it needs among threads: its seat, what speaks for it until it has heard so many posts, a handle of the
-/// book, the script, its mailbox and its passes to those of the others, and the numbers of late posts that it holds back.
-/// Clauses see a `LiarView`.
+/// A node that lies, with all that it needs among threads: its seat, what speaks for it until it has heard so many posts, a
+/// handle of the book, the script, its mailbox and its passes to those of the others, and the numbers of late posts that it holds
+/// back. Clauses see a `LiarView`.
 ///
-/// In every state the book and the script are those of the run that `J` names, the seat is of this book and for a node that lies, and
-/// no more than 4,096 posts stand under it.
+/// In every state the book and the script are those of the run that `J` names, the seat is of this book and for a node that lies,
+/// and no more than 4,096 posts stand under it.
 #[derive(Drop)]
 pub struct HeldLiar<'b, B: NamedBook + Drop, L: Mouth, J: RunName> {
     node: u8,
@@ -75,9 +75,9 @@ impl<'b, B: NamedBook + Drop, L: Mouth, J: RunName> Model for HeldLiar<'b, B, L,
 }
 
 impl<'b, B: NamedBook + Drop, L: Mouth, J: RunName> HeldLiar<'b, B, L, J> {
-    /// A node that lies and has said nothing: its number, its seat, which has posted nothing, how many posts it hears, what speaks for it, the
-    /// script of the run, a handle of the book of its seat, and the mailboxes of the run with the passes of its own. It
-    /// takes no memory.
+    /// A node that lies and has said nothing: its number, its seat, which has posted nothing, how many posts it hears, what
+    /// speaks for it, the script of the run, a handle of the book of its seat, and the mailboxes of the run with the passes of
+    /// its own. It takes no memory.
     pub fn new(
         alloc: Global,
         node: u8,
@@ -174,8 +174,8 @@ impl<'b, B: NamedBook + Drop, L: Mouth, J: RunName> HeldLiar<'b, B, L, J> {
     /// node hears no more, each number is thrown away unread. Under the lock the gate is entered once for each number that
     /// is taken, as actor 255.
     ///
-    /// What it says is posted under it, while fewer than 4,096 posts of it stand, and the numbers are put into the mailboxes of all whom they
-    /// reach. Once it has heard as many posts as it was to hear, what speaks for it is dropped.
+    /// What it says is posted under it, while fewer than 4,096 posts of it stand, and the numbers are put into the mailboxes of
+    /// all whom they reach. Once it has heard as many posts as it was to hear, what speaks for it is dropped.
     pub fn turn<R: Wait, G: Gate>(&mut self, rt: &R, alloc: Global, gate: &G) -> Served
         ensures goes { GoesOn B.moved self.old self.new }
         ensures turned { Turned result self.old self.new }

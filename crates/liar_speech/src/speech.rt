@@ -18,8 +18,8 @@ impl From<AllocError> for Hushed {
     }
 }
 
-/// The lane in which a post is heard, and the vote that its bytes spell. Err where it is posted in a desk's name, which is heard in no
-/// lane, or where the bytes spell none.
+/// The lane in which a post is heard, and the vote that its bytes spell. Err where it is posted in a desk's name, which is heard
+/// in no lane, or where the bytes spell none.
 pub fn heard_vote<'a>(me: &LiarSeat, post: &'a Post) -> Result<(u8, VoteView<'a>), Hushed>
     ensures lane { IfOk result (λ heard. (heard.0 ≡ post.now.actor) × (heard.0 < me.now.config.n)) }
     ensures vote { IfOk result (λ heard. Spells me.now.config.n me.now.config.version post.now.bytes (vote_of heard.1)) }
@@ -44,8 +44,8 @@ pub fn tell(alloc: Global, lies: &mut Lies, actor: u8, to: To, bytes: &[u8]) -> 
     }
 }
 
-/// Says a vote of a run of n nodes under this version of the rules, in the name of this lane or desk, to whom such a vote goes. After
-/// an error nothing was said.
+/// Says a vote of a run of n nodes under this version of the rules, in the name of this lane or desk, to whom such a vote goes.
+/// After an error nothing was said.
 pub fn tell_vote(
     alloc: Global,
     n: u8,

@@ -18,8 +18,8 @@ pub record PutPassView : Type 0 where
   pub needs_block : Bool
 
 -- the mailbox that it belongs to, what it took, in order, and of the put passes that it took in how many splits each comes
--- from and what each put, in order; how often it was asked for a number; and what was put through the pass that it was told of last,
--- up to the last `put_own`
+-- from and what each put, in order; how often it was asked for a number; and what was put through the pass that it was told of
+-- last, up to the last `put_own`
 pub record TakePassView : Type 0 where
   pub at : WebId
   pub taken : List ℕ

@@ -89,8 +89,8 @@ impl Crew {
         }
     }
 
-    // Lets one go that looks no more, if nobody looks. Whether it has gone: a worker that came late may look again, and then all may
-    // have something to do once more.
+    // Lets one go that looks no more, if nobody looks. Whether it has gone: a worker that came late may look again, and then all
+    // may have something to do once more.
     fn retires<R: Wait>(&self, rt: &R) -> bool {
         let mut count = self.count.lock(rt);
         if count.looking != 0 {
@@ -100,9 +100,9 @@ impl Crew {
         true
     }
 
-    // Waits, for one that found nothing and had begun to look at this count of finds, until one has found something since. Where it is not
-    // over it sleeps at least once, for as long as `nap` says, and each time, also in its next rests, twice as long as before, up to
-    // the longest nap. Whether it is over, and the worker has gone.
+    // Waits, for one that found nothing and had begun to look at this count of finds, until one has found something since. Where
+    // it is not over it sleeps at least once, for as long as `nap` says, and each time, also in its next rests, twice as long as
+    // before, up to the longest nap. Whether it is over, and the worker has gone.
     pub(crate) fn rest<R: Wait>(&self, rt: &R, began: u64, nap: &mut u64) -> bool {
         for _ in rt.forever() {
             if self.over.load(Ordering::SeqCst) != 0 && self.retires(rt) {

@@ -80,8 +80,8 @@ fn round_at<'b, B: NamedBook + Drop, A: Actor<B>, L: Mouth, J: RunName, R: Wait,
     }
 }
 
-/// Runs so many workers for each node until each has found that nobody has anything to do. A worker serves what is at its own node
-/// alone, and at a correct one worker w begins each round at actor w modulo their count. It may wait.
+/// Runs so many workers for each node until each has found that nobody has anything to do. A worker serves what is at its own
+/// node alone, and at a correct one worker w begins each round at actor w modulo their count. It may wait.
 pub fn run_nodes<'b, B, A, L, J, R, G>(
     rt: &R,
     alloc: Global,

@@ -14,8 +14,9 @@ use std::thread::Threads;
 /// found nothing sleeps, and looks again once another has found something. All return once each has found nothing in a round that
 /// began after anybody last found something: where a round finds all that there is for its node, nothing is left then.
 ///
-/// The caller counts as a worker that looks until all are started, so that none returns before. A worker that can't be started is run
-/// by the caller, which counts no more from the first of these on, and the workers after that one are started once it has returned.
+/// The caller counts as a worker that looks until all are started, so that none returns before. A worker that can't be started is
+/// run by the caller, which counts no more from the first of these on, and the workers after that one are started once it has
+/// returned.
 pub fn serve_all<F: Fn(usize, usize) -> bool + Sync, R: Threads + Wait + Sync>(
     rt: &R,
     nodes: usize,

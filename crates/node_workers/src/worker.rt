@@ -3,9 +3,9 @@
 use crate::crew::{Crew, SHORTEST_NAP};
 use std::sync::Wait;
 
-// Goes round until nobody of the crew, to which it belongs, has anything to do. Its naps grow until it has found something itself: so a
-// worker whose node has nothing to do looks seldom, however often others find something. A nap is never much longer than the time for
-// which the worker has found nothing.
+// Goes round until nobody of the crew, to which it belongs, has anything to do. Its naps grow until it has found something
+// itself: so a worker whose node has nothing to do looks seldom, however often others find something. A nap is never much longer
+// than the time for which the worker has found nothing.
 pub(crate) fn work<F: Fn(usize, usize) -> bool, R: Wait>(
     rt: &R,
     round: &F,

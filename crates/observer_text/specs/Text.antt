@@ -28,7 +28,8 @@ unfoldable pub observe_text : Report → List ℕ
 observe_text report =
     numbers_line (codes "observe") report.config ++ (flat_map (beside_text report) (range_with_len 0 report.config.n) ++ end_line report.status)
 
--- A sink took a text. Or it failed after a front of it, and its count of faults rose. Or memory was wanting, and nothing was written.
+-- A sink took a text. Or it failed after a front of it, and its count of faults rose. Or memory was wanting, and nothing was
+-- written.
 abbrev pub Prints : Option (List ℕ) → Option (List ℕ) → ℕ → ℕ → Result ⊤ ObserveFault → List ℕ → Type 0
 Prints held held_after faults faults_after (Ok done) text = Appends held held_after text × (faults_after ≡ faults)
 Prints held held_after faults faults_after (Err Sink) text = AppendsFront held held_after text × Rose faults faults_after

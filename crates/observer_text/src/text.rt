@@ -17,9 +17,9 @@ use observer::{Observer, observers_beside};
 use std::alloc::Global;
 
 /// Prints the text of the observers of a run, one beside each node (CCS 2016, section 4), each line by one put: `observe nodes N
-/// faulty F version V epochs E` of the report's config; for each node `observer I epochs C`, C being how many epochs the ledger has
-/// that the observer has taken, and the lines of that ledger as in the text of a run; and `end S` with the report's status. All
-/// observers are made before the first put.
+/// faulty F version V epochs E` of the report's config; for each node `observer I epochs C`, C being how many epochs the ledger
+/// has that the observer has taken, and the lines of that ledger as in the text of a run; and `end S` with the report's status.
+/// All observers are made before the first put.
 pub fn print_observe<O: Sink>(
     alloc: Global,
     report: &Report,

@@ -94,8 +94,8 @@ impl<J: Naming> PostBook<J> {
         Ok((book, FirstSeat { seat }))
     }
 
-    /// The seat of an actor, for which no seat was made before. At a liar it is of the whole node, with the actor 255. It has seen
-    /// what the first seat has, and posted nothing. It takes no memory.
+    /// The seat of an actor, for which no seat was made before. At a liar it is of the whole node, with the actor 255. It has
+    /// seen what the first seat has, and posted nothing. It takes no memory.
     pub fn seat_for(&self, first: &mut FirstSeat<J>, node: u8, actor: u8) -> SharedSeat<J>
         requires book { first.old.book ≡ self.now }
         requires known { node < J.config.n }
@@ -114,8 +114,8 @@ impl<J: Naming> PostBook<J> {
         SharedSeat { node, actor, seat }
     }
 
-    /// Takes a seat in: the first seat then knows which posts that seat has made, and has seen the longer of what both had. It takes
-    /// no memory.
+    /// Takes a seat in: the first seat then knows which posts that seat has made, and has seen the longer of what both had. It
+    /// takes no memory.
     pub fn join(&self, first: &mut FirstSeat<J>, seat: SharedSeat<J>)
         requires book { (first.old.book ≡ self.now) × (seat.book ≡ self.now) }
         ensures joined { first.new ≡ record first.old {
@@ -147,8 +147,8 @@ impl<J: Naming> PostBook<J> {
         self.turns.meet(&mut first.seat, &mut seat.seat);
     }
 
-    /// The history, once each seat that was made was taken in. It begins with what the first seat has seen, the posts of each seat
-    /// in it are those that the first seat knows, and there are no others. It takes no memory.
+    /// The history, once each seat that was made was taken in. It begins with what the first seat has seen, the posts of each
+    /// seat in it are those that the first seat knows, and there are no others. It takes no memory.
     pub fn close(self, first: FirstSeat<J>) -> Vec<Post>
         requires book { first.book ≡ self }
         requires all { AllJoined first }

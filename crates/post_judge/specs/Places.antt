@@ -1,5 +1,5 @@
--- Where the posts of a history are kept, so that what a rule looks at is found at few places. The letters: actor x of node i hears
--- actor y of node a, e is an epoch, r a round, m a target.
+-- Where the posts of a history are kept, so that what a rule looks at is found at few places. The letters: actor x of node i
+-- hears actor y of node a, e is an epoch, r a round, m a target.
 use Rattle.std.specs.Prelude.{ℕ, zero, suc, Bool, true, ◌&&◌, ◌==◌, nat_lt, List, [], ◌∷◌, map, Option, None, Some, if◌then◌else◌}
 use Rattle.std.specs.List.{range_with_len}
 use Rattle.hb_base.specs.Numbers.{Numbers}
@@ -19,8 +19,8 @@ use Rattle.post_judge.specs.declared.place.Place.{Place}
 abbrev pub place : Topic → ℕ → ℕ → ℕ → Place
 place topic owner e part = record { topic = topic; owner = owner; epoch = e; part = part }
 
--- The place of a vote of actor x of node i, one of n nodes, among those that it has cast: those of a lane by their epochs, since it
--- looks at those of one epoch alone.
+-- The place of a vote of actor x of node i, one of n nodes, among those that it has cast: those of a lane by their epochs, since
+-- it looks at those of one epoch alone.
 abbrev pub own_place : ℕ → ℕ → ℕ → Vote → Place
 own_place n i x vote = place topics.Own i (if nat_lt x n then epoch_of vote else 0) x
 
@@ -79,8 +79,8 @@ is_cast_ever c x vote = casts c.n x vote && nat_lt (epoch_of vote) c.epochs
 abbrev pub share_places : ℕ → ℕ → ℕ → List Place
 share_places x e rounds = map (λ r. place topics.Shared x e r) (range_with_len 0 rounds)
 
--- The places of all that the rule for a vote of actor x of node i looks at: a Val at the proposals of the desk, an Echo at the Val
--- from the sender, and so on. A decision looks at the shares of each round.
+-- The places of all that the rule for a vote of actor x of node i looks at: a Val at the proposals of the desk, an Echo at the
+-- Val from the sender, and so on. A decision looks at the shares of each round.
 abbrev pub looked_at : Numbers → ℕ → ℕ → Vote → List Place
 looked_at c i x (Val e m root shard branch) = place topics.FromDesk i e 0 ∷ []
 looked_at c i x (Echo e root shard branch) = place topics.Handed x e i ∷ []

@@ -81,8 +81,8 @@ fn may_in_lane(
     Ok(may_agree(deal, &place, own, heard, vote))
 }
 
-// Whether an actor may cast a vote that actors of its number cast, of an epoch that the run has. A yes is always right, and so is a no
-// of a desk. The no of a lane is right where all was heard in a legal history in which no two hashed strings share a digest.
+// Whether an actor may cast a vote that actors of its number cast, of an epoch that the run has. A yes is always right, and so is
+// a no of a desk. The no of a lane is right where all was heard in a legal history in which no two hashed strings share a digest.
 pub(crate) fn may_cast(
     alloc: Global,
     deal: &Deal,

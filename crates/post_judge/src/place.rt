@@ -12,8 +12,8 @@ pub(crate) enum Topic {
     FromLanes,
 }
 
-// A place for posts. The owner is a node, or the lane whose votes they are; the part is an actor, a target or a round, and 0 where
-// there is none.
+// A place for posts. The owner is a node, or the lane whose votes they are; the part is an actor, a target or a round, and 0
+// where there is none.
 #[derive(Clone, Copy, Debug, PartialEq, Eq, PartialOrd, Ord)]
 pub(crate) struct Place {
     pub(crate) topic: Topic,

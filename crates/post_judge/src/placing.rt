@@ -117,8 +117,8 @@ pub(crate) fn told_place(config: &Config, deal: &Deal, post: &Post, vote: &Vote)
     }
 }
 
-// The place of a vote of an actor among those that it has cast. A lane has a place for each epoch, a desk one for all: a lane casts a
-// few votes a round, and a desk three an epoch.
+// The place of a vote of an actor among those that it has cast. A lane has a place for each epoch, a desk one for all: a lane
+// casts a few votes a round, and a desk three an epoch.
 pub(crate) fn own_place(n: u8, node: u8, actor: u8, vote: &Vote) -> Place
     ensures { result ≡ own_place n node actor vote.now }
 {

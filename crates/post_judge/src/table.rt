@@ -99,8 +99,8 @@ impl Table {
         }
     }
 
-    // Puts a post that spells a vote at its places. One of a correct node that was judged before is there, and takes no memory: an
-    // actor that is started again says again what it has said.
+    // Puts a post that spells a vote at its places. One of a correct node that was judged before is there, and takes no memory:
+    // an actor that is started again says again what it has said.
     fn put_vote(&mut self, post: &Post, vote: &Vote) -> Result<(), AllocError>
         requires deal { self.old.deal ≡ self.old.config }
         requires told { AreTold self.old.config self.old.posts.items self.old.buckets.by_place }

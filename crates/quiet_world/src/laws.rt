@@ -17,11 +17,11 @@ pub fn quiet_laws()
     ensures completed { (report : Report) → AreSound report.config → IsLegal report.config report.history.items → IsQuiet report → HasEachCompleted report }
 {}
 
-/// In a calm run each running node has closed every epoch of the run (CCS 2016, section 4.4), unless the lane of one has spent its
-/// rounds.
+/// In a calm run each running node has closed every epoch of the run (CCS 2016, section 4.4), unless the lane of one has spent
+/// its rounds.
 ///
-/// Where nothing of correct nodes is lost in a run, each of them runs unless one of its actors found no memory. So its status is 0, 5 or
-/// 9.
+/// Where nothing of correct nodes is lost in a run, each of them runs unless one of its actors found no memory. So its status is
+/// 0, 5 or 9.
 pub fn calm_laws()
     ensures epochs { (report : Report) → IsCalm report → EpochsEnd report }
     ensures status { (report : Report) → AreSound report.config → IsLegal report.config report.history.items

@@ -14,8 +14,11 @@ use rs_shards::{RsFault, rebuild, value_behind};
 use std::alloc::{AllocError, Global};
 
 /// Whether the tree over all the shards of a codeword has this root, and the value that their first k carry (CCS 2016,
-/// figure 2: a node recomputes the root before it is ready or delivers). The shards are 1 to 16, and at least k. `front` and the
-/// value's length stand before the value in the bytes that its owners share. Err where no memory was left.
+/// figure 2: a node recomputes the root before it is ready or delivers). The shards are 1 to 16, and at least k.
+///
+/// Where the first k are a frame, `front` and the value's length stand before the value in the bytes that its owners share.
+/// Where they are none, the root is good all the same: the value is then the empty one, and nothing stands before it. Err where
+/// no memory was left.
 pub fn check(
     alloc: Global,
     front: &[u8],
@@ -50,8 +53,8 @@ pub fn tree_over(alloc: Global, shards: &[Bytes]) -> Result<Tree, AllocError>
 }
 
 /// The value to which k shards rebuild, each given with its node: none where their lengths differ or the codeword with
-/// these has another root. `front` and the value's length stand before the value in the bytes that its owners share. Err where
-/// there is no memory.
+/// these has another root. What stands before the value in shared bytes is as `check` says: nothing where the first k shards
+/// are no frame, since the value is then the empty one. Err where there is no memory.
 pub fn value_through(
     alloc: Global,
     front: &[u8],
@@ -73,7 +76,7 @@ pub fn value_through(
     }
 }
 
-// The value of shards whose tree has the root.
+// The value of shards whose tree has the root: the empty one where the first k are no frame.
 fn good_value(
     alloc: Global,
     front: &[u8],

@@ -92,8 +92,9 @@ impl Roots {
         }
     }
 
-    // The value to which the first k shards of a root rebuild once this shard of a node that has not echoed is among them. It
-    // stands behind `front` and its length.
+    // The value to which the first k shards of a root rebuild once this shard of a node that has not echoed is among them. If it
+    // is rebuilt now, and the shards are a frame, it stands behind `front` and its length. If they are no frame it is the empty
+    // value, alone.
     pub(crate) fn value_with(
         &self,
         alloc: Global,

@@ -15,11 +15,11 @@ use hb_wire::Vote;
 use std::alloc::{AllocError, Global};
 
 /// Whether a lane may cast this vote in the reliable broadcast, by the votes that it has cast and those that it has heard (CCS
-/// 2016, figure 2). A yes is always right. A no is right where a lane of a correct node heard all of it in a legal history in which no
-/// two hashed strings share a digest: only there do all choices of k valid Echoes for a root rebuild to one value, and it
-/// tries one choice, the shards of the first k nodes that were heard. Votes of other epochs and parts may be among those that were cast
-/// and heard. The branches of the Echoes that were heard have been checked before, so that no look at them checks them again. Err where
-/// there is no memory; what is known may be another than before then, and is as right.
+/// 2016, figure 2). A yes is always right. A no is right where a lane of a correct node heard all of it in a legal history in
+/// which no two hashed strings share a digest: only there do all choices of k valid Echoes for a root rebuild to one value, and
+/// it tries one choice, the shards of the first k nodes that were heard. Votes of other epochs and parts may be among those that
+/// were cast and heard. The branches of the Echoes that were heard have been checked before, so that no look at them checks them
+/// again. Err where there is no memory; what is known may be another than before then, and is as right.
 ///
 /// Time is linear in the number of votes; a Delivered takes so much for each Ready of a correct node that was heard, until one is
 /// of its root. A Val encodes the value, a Ready and a Delivered rebuild one.

@@ -1,5 +1,5 @@
-//! What is done with the actors that came back from the threads of a run: they are put in the order of their nodes and numbers, those
-//! that missed a post for want of memory end, what is left is delivered, and at last each gives its end and its seat.
+//! What is done with the actors that came back from the threads of a run: they are put in the order of their nodes and numbers,
+//! those that missed a post for want of memory end, what is left is delivered, and at last each gives its end and its seat.
 #![tactic(auto)]
 
 mod ends;

@@ -102,8 +102,9 @@ pub fn value_of(alloc: Global, k: u8, shards: &[Bytes]) -> Result<Bytes, AllocEr
     value_behind(alloc, &[], k, shards)
 }
 
-/// The same value, as a part of shared bytes in which `front` and the length of the value in four bytes stand before it. The empty
-/// value of what is no frame stands alone.
+/// The same value. That of a frame is a part of shared bytes, in which `front` and the length of the value in four bytes stand
+/// before it. The empty value that is told where the shards are no frame stands in bytes of its own, with nothing before it. No
+/// clause tells of what stands before.
 pub fn value_behind(
     alloc: Global,
     front: &[u8],

@@ -25,8 +25,8 @@ seats_in shared = map (λ one. one.seat) shared
 abbrev pub HaveTwoNumbers : SeatView → SeatView → Type 0
 HaveTwoNumbers one other = number_at one ≢ number_at other
 
--- The first seat took in these seats, in this order, each of which was made by it and was not in yet. What it has then seen is the longest
--- of what it had seen and what they have.
+-- The first seat took in these seats, in this order, each of which was made by it and was not in yet. What it has then seen is
+-- the longest of what it had seen and what they have.
 pub record HasJoined (c : Numbers) (seats : List SeatView) (old new : FirstView) : Type 0 where
   pub book : new.book ≡ old.book
   pub given : new.given ≡ old.given
@@ -38,8 +38,8 @@ pub record HasJoined (c : Numbers) (seats : List SeatView) (old new : FirstView)
   pub fresh : All (λ seat. (posts : List Post) → ¬ Contains old.joined (number_at seat, posts)) seats
   pub apart : AllPairs HaveTwoNumbers seats
 
--- The history of a book that was closed with this first seat: it is legal and begins with what that had seen, the posts of each seat
--- in it are those that the first seat kept, and there are no others.
+-- The history of a book that was closed with this first seat: it is legal and begins with what that had seen, the posts of each
+-- seat in it are those that the first seat kept, and there are no others.
 pub record HasClosed (c : Numbers) (first : FirstView) (history : List Post) : Type 0 where
   pub legal : IsLegal c history
   pub begins : IsPrefix first.seen history

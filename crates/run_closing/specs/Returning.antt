@@ -37,8 +37,8 @@ pub record IsLiarBack (s : Script) (seat : SeatView) : Type 0 where
 abbrev pub IsNotAfter : PlayerView → PlayerView → Type 0
 IsNotAfter p q = number_at p.seat ≤ number_at q.seat
 
--- Actors in order, and seats of nodes that lie, have come back, as many as the run has places, and nothing is left to deliver. Which they
--- are is not told: so far one might be here twice, and another be missing.
+-- Actors in order, and seats of nodes that lie, have come back, as many as the run has places, and nothing is left to deliver.
+-- Which they are is not told: so far one might be here twice, and another be missing.
 pub record HaveReturned (s : Script) (m : ℕ) (players : List PlayerView) (liars : List SeatView) : Type 0 where
   pub actors : All (IsBack s) players
   pub seats : All (IsLiarBack s) liars

@@ -11,8 +11,8 @@ ghost use Rattle.run_closing.specs.Joining.{HasJoined, HasClosedWith};
 ghost use Rattle.run_closing.specs.Returning.{seats_of, AreEndsOf};
 ghost use Rattle.run_closing.specs.Closing.{IsRunOut};
 
-/// As many seats have come back as were made. Where they were taken in, each that was made was taken in, as `PostBook::close` asks. Once
-/// the book was closed with them, and with the ends of the actors, the report is of the run.
+/// As many seats have come back as were made. Where they were taken in, each that was made was taken in, as `PostBook::close`
+/// asks. Once the book was closed with them, and with the ends of the actors, the report is of the run.
 pub fn closing_laws()
     ensures as_many { (s : Script) (m : ℕ) (players : List PlayerView) (liars : List SeatView) (first : FirstView)
         → IsRunOut s m players liars first → length (seats_of players liars) ≡ length first.given }

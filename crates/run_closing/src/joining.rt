@@ -16,8 +16,8 @@ pub fn join_all<K: Naming>(book: &PostBook<K>, first: &mut FirstSeat<K>, seats: 
     }
 }
 
-/// Takes in as many seats as were made, and closes the book. So these are all: each was made by this first seat, and none is taken
-/// in twice. It takes no memory.
+/// Takes in as many seats as were made, and closes the book. So these are all: each was made by this first seat, and none is
+/// taken in twice. It takes no memory.
 pub fn close_with<K: Naming>(
     book: PostBook<K>,
     first: FirstSeat<K>,

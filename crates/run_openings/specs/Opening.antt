@@ -11,8 +11,8 @@ use Rattle.run_openings.specs.declared.opening.Opening.{Opening}
 use Rattle.run_openings.specs.declared.opening.NodeOpening.{NodeOpening}
 use Rattle.run_openings.specs.declared.opening.NodeOpening.TheVariants.{Correct, Lying}
 
--- A seat of the book that has seen nothing, and the passes whose mailbox is that of the same actor. `knows` tells which seats are of the
--- book, and `at` what is known of a seat.
+-- A seat of the book that has seen nothing, and the passes whose mailbox is that of the same actor. `knows` tells which seats are
+-- of the book, and `at` what is known of a seat.
 pub record IsOpening {S : Type 0} (knows : S → Type 0) (at : S → SeatView) (boxes : BoxesView) (c : Numbers) (o : Opening S) : Type 0 where
   pub of_book : knows o.seat
   pub seat : at o.seat ≡ new_seat c o.node o.actor

@@ -10,8 +10,8 @@ use Rattle.post_book.specs.SharedSeats.{FirstView}
 use Rattle.step_driver.specs.Places.{Name}
 use Rattle.run_closing.specs.Returning.{number_of}
 
--- The first seat of a book has made the seats of places with these names, whose numbers are below that of the next place, which is of actor
--- x of node i, and the passes of all places from that one on are left.
+-- The first seat of a book has made the seats of places with these names, whose numbers are below that of the next place, which
+-- is of actor x of node i, and the passes of all places from that one on are left.
 pub record AreMade (c : Numbers) (boxes : BoxesView) (book : TableId) (made : List Name) (i x : ℕ) (first : FirstView) (rest : List PassesView) : Type 0 where
   pub seated : first ≡ record { book = book; seen = []; given = map number_of made; joined = [] }
   pub below : All (λ number. number < seat_number i x) (map number_of made)

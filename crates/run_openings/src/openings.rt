@@ -17,8 +17,8 @@ use actor_cell::{Boxes, Passes};
 use post_book::{FirstSeat, Naming, PostBook, SharedSeat};
 use std::alloc::{AllocError, Global};
 
-/// For each node in order a seat for each of its places, with the passes whose mailbox is that of the place: for the lanes of a correct
-/// node and then for its desk, and one for a node that lies. The error is want of memory.
+/// For each node in order a seat for each of its places, with the passes whose mailbox is that of the place: for the lanes of a
+/// correct node and then for its desk, and one for a node that lies. The error is want of memory.
 pub fn openings_of<K: Naming>(
     alloc: Global,
     book: &PostBook<K>,

@@ -13,9 +13,9 @@ use std::alloc::{AllocError, Global};
 use std::sync::Wait;
 use std::thread::Threads;
 
-/// Runs the scenario of a number, with this cast, and prints whether its ledgers agree: the status. After 0, 4 and 5 it is that of the
-/// report. It is not 4, where the book has not got full and no two hashed strings share a digest: no rule of a generated scenario
-/// drops what a correct node posts, and no fault of a disk is planned in it.
+/// Runs the scenario of a number, with this cast, and prints whether its ledgers agree: the status. After 0, 4 and 5 it is that
+/// of the report. It is not 4, where the book has not got full and no two hashed strings share a digest: no rule of a generated
+/// scenario drops what a correct node posts, and no fault of a disk is planned in it.
 pub fn soak<R: Threads + Wait + Sync, S: Source, O: Sink, E: Sink>(
     rt: &R,
     alloc: Global,

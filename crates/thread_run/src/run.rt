@@ -25,11 +25,11 @@ use std::sync::{Arc, Wait};
 use std::thread::Threads;
 use thread_team::begin_all;
 
-/// Runs a scenario on threads until nothing is left to do: each actor of each correct node over a disk of its own in memory, and at
-/// each node that lies the voice of the script's liar there, with as many workers for each node as the script says. The voices are
-/// those of the script's liars, in their order; where one is missing the liar says nothing. Before each delivery the gate is entered. The
-/// status of the report is for the caller to set. It may wait. Err is want of memory for what the run stands on; an actor that finds
-/// none ends with that fate.
+/// Runs a scenario on threads until nothing is left to do: each actor of each correct node over a disk of its own in memory, and
+/// at each node that lies the voice of the script's liar there, with as many workers for each node as the script says. The voices
+/// are those of the script's liars, in their order; where one is missing the liar says nothing. Before each delivery the gate is
+/// entered. The status of the report is for the caller to set. It may wait. Err is want of memory for what the run stands on; an
+/// actor that finds none ends with that fate.
 pub fn run_on_threads<R: Threads + Wait + Sync, G: Gate>(
     rt: &R,
     alloc: Global,

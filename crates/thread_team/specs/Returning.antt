@@ -14,7 +14,8 @@ use Rattle.step_driver.specs.Places.{player_at}
 use Rattle.step_driver.specs.Delivering.{IsPlayer, is_from}
 use Rattle.thread_team.specs.declared.returning.Returned.{Returned}
 
--- An actor of a correct node: its seat is of the book, as `knows` tells, and of the config, it goes by the script, and its fate has its cause.
+-- An actor of a correct node: its seat is of the book, as `knows` tells, and of the config, it goes by the script, and its fate
+-- has its cause.
 pub record IsOut {A S : Type 0} (knows : S → Type 0) (config : S → Numbers) (node actor : S → ℕ) (seen : S → List Post) (seat : A → S) (view : A → ActorView)
     (s : Script) (p : Player A) : Type 0 where
   pub of_book : knows (seat p.actor)

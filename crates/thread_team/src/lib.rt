@@ -1,7 +1,8 @@
 //! The team of a run on threads: the actors and the nodes that lie are started, put behind locks, and taken out of them again.
 //!
-//! What comes out of a lock does not tell whose it is. So the actors that come out are put in the order of their nodes and numbers, and
-//! of each it is known that it goes by the script and that its seat is of the book; that none is missing, their count and the joins tell.
+//! What comes out of a lock does not tell whose it is. So the actors that come out are put in the order of their nodes and
+//! numbers, and of each it is known that it goes by the script and that its seat is of the book; that none is missing, their
+//! count and the joins tell.
 #![tactic(auto)]
 
 mod returning;

@@ -21,8 +21,9 @@ use run_openings::{NodeOpening, Opening};
 use std::alloc::{AllocError, Global};
 use std::sync::{Arc, Wait};
 
-/// Starts all that is at the nodes of a run, in their order, and puts it behind locks. The voices are those of the script's liars, in
-/// their order. Err is want of memory for what the run stands on; an actor that finds none when it is started ends with that fate.
+/// Starts all that is at the nodes of a run, in their order, and puts it behind locks. The voices are those of the script's
+/// liars, in their order. Err is want of memory for what the run stands on; an actor that finds none when it is started ends with
+/// that fate.
 pub fn begin_all<'b, B: NamedBook + Drop + Copy, J: RunName, R: Wait>(
     rt: &R,
     alloc: Global,

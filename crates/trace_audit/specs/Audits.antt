@@ -20,8 +20,8 @@ pub record HasVerdict (bytes : List ℕ) (verdict : Verdict) : Type 0 where
   pub text : IsTrace bytes config posts
   pub is : IsVerdict config posts verdict
 
--- What a source was audited as: it was read to its end, and this is the verdict on the history that its bytes tell; or why there was
--- no trace, or no memory to judge it.
+-- What a source was audited as: it was read to its end, and this is the verdict on the history that its bytes tell; or why there
+-- was no trace, or no memory to judge it.
 abbrev pub Audits : SourceView → SourceView → Result Verdict TraceFault → Type 0
 Audits old new (Ok verdict) = ReadsWhole old new (λ bytes. HasVerdict bytes verdict)
 Audits old new (Err fault) = IsRefusal old new fault

@@ -15,10 +15,11 @@ use post_judge::HistoryJudge;
 use std::alloc::{AllocError, Global};
 use trace_reader::{Trace, TraceFault, read_trace};
 
-/// Reads the text of a history to its end, and says whether the history is legal, or else which is its first post that may not follow
-/// those before it. The whole text is read before the first post is judged. It takes one byte more than `LONGEST_TRACE` at most, and
-/// leaves the rest unread. Errors are those of `read_trace`, in the same order, and `Memory` also where there is none to judge the
-/// posts. Where a source tells that it has the text of a run and posts, short enough to be read, the answer is on them.
+/// Reads the text of a history to its end, and says whether the history is legal, or else which is its first post that may not
+/// follow those before it. The whole text is read before the first post is judged. It takes one byte more than `LONGEST_TRACE` at
+/// most, and leaves the rest unread. Errors are those of `read_trace`, in the same order, and `Memory` also where there is none
+/// to judge the posts. Where a source tells that it has the text of a run and posts, short enough to be read, the answer is on
+/// them.
 pub fn audit<S: Source>(alloc: Global, source: &mut S) -> Result<Verdict, TraceFault>
     ensures audited { Audits (source_view S.left S.faults source.old) (source_view S.left S.faults source.new) result }
     ensures right { (input : List ℕ) (c : Numbers) (posts : List Post) → S.left source.old ≡ Some input → length input ≤ longest_trace

@@ -16,9 +16,9 @@ ghost use Rattle.trace_audit.specs.Audits.{HasVerdict, Audits, FindsLegal};
 
 use history_verdict::verdict_laws;
 
-/// The verdict on a text is that on the run and the posts that it is the text of, and on no others. What is printed of a report whose
-/// history is legal is found legal, with the number of its posts, if it is short enough to be read and no two hashed strings
-/// share a digest: an audit of it ends otherwise only for want of memory, or since a take failed.
+/// The verdict on a text is that on the run and the posts that it is the text of, and on no others. What is printed of a report
+/// whose history is legal is found legal, with the number of its posts, if it is short enough to be read and no two hashed
+/// strings share a digest: an audit of it ends otherwise only for want of memory, or since a take failed.
 pub fn audit_laws()
     ensures one { (bytes : List ℕ) (c : Numbers) (posts : List Post) (verdict : Verdict) → IsTrace bytes c posts → HasVerdict bytes verdict
         → IsVerdict c posts verdict }

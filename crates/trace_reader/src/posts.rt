@@ -12,8 +12,8 @@ use std::alloc::{AllocError, Global};
 // Bytes of the line of a post at least: `post 0 from 0 actor 0 to all -`, and the line's end.
 const SHORTEST_LINE: usize = 31;
 
-/// Posts numbered from 0 on, as many as come, and what is behind them. There is room for as many as the bytes can tell of
-/// from the start, so that the list is never moved.
+/// Posts numbered from 0 on, as many as come, and the bytes behind the last of them. Room for as many posts as these bytes can
+/// tell of is asked for before the first is read, so that the list is never moved. Err where there is no memory.
 pub(crate) fn posts_at(alloc: Global, bytes: &[u8]) -> Result<(Vec<Post>, &[u8]), AllocError>
     requires { length bytes.now ≤ longest_trace }
     ensures posts { IfOk result (λ x. All IsPost x.0.items) }

@@ -1,5 +1,5 @@
--- What is printed of a history: its run's numbers, each post with its number, and how many there are. Numbers are in decimal, bytes
--- in lower-case hex.
+-- What is printed of a history: its run's numbers, each post with its number, and how many there are. Numbers are in decimal,
+-- bytes in lower-case hex.
 use Rattle.std.specs.Prelude.{ℕ, zero, suc, ◌+◌, ◌^◌, Bool, List, [], ◌∷◌, ◌++◌, length, if◌then◌else◌, codes}
 use Rattle.hex.specs.Hex.{encode_lower}
 use Rattle.hb_base.specs.Limits.{most_nodes}

@@ -7,7 +7,8 @@ use Rattle.turn_book.specs.Entries.{entries_of}
 
 -- `book` says which book it is a seat of. `seen` is a beginning of that book's history, and `mine` the entries of the
 -- seat's own number in it. `looks` counts how often the seat was shown the whole history.
--- The first seat, whose number is 0, also knows the numbers `given` to other seats, and of the seats `ended` the number and the entries.
+-- The first seat, whose number is 0, also knows the numbers `given` to other seats, and of the seats `ended` the number and the
+-- entries.
 pub record SeatState (E : Type 0) : Type 0 where
   pub book : TableId
   pub number : ℕ

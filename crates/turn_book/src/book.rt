@@ -36,7 +36,8 @@ impl<S: History + Drop> Model for TurnBook<S> {
 }
 
 impl<S: History + Drop> TurnBook<S> {
-    /// A book round a value with no entry, and its first seat, whose number is 0. The error means want of memory: the value is dropped.
+    /// A book round a value with no entry, and its first seat, whose number is 0. The error means want of memory: the value is
+    /// dropped.
     pub fn new(alloc: Global, first: S) -> Result<(TurnBook<S>, Seat<S>), AllocError>
         requires { S.entries first ≡ [] }
         ensures { IfOk result (λ r. r.1 ≡ new_seat r.0 0 []) }
@@ -63,8 +64,8 @@ impl<S: History + Drop> TurnBook<S> {
         Seat { place }
     }
 
-    /// Takes in a seat, whose number and entries the first seat knows as ended from then on. The first seat has then seen what either
-    /// had. The number had been given, and had not ended before.
+    /// Takes in a seat, whose number and entries the first seat knows as ended from then on. The first seat has then seen what
+    /// either had. The number had been given, and had not ended before.
     pub fn join(&self, seat: &mut Seat<S>, other: Seat<S>)
         requires book { (seat.old.book ≡ self.now) × (other.book ≡ self.now) }
         requires first { seat.old.number ≡ 0 }
@@ -95,7 +96,8 @@ impl<S: History + Drop> TurnBook<S> {
         settle(top, &mut seat.place);
     }
 
-    /// Waits for the seat's turn, and takes the value out. No other seat gets it before `pass` puts it back. A thread that waits sleeps.
+    /// Waits for the seat's turn, and takes the value out. No other seat gets it before `pass` puts it back. A thread that waits
+    /// looks for a while, and then sleeps.
     pub fn begin<R: Wait>(&self, rt: &R, seat: &mut Seat<S>) -> S
         requires book { seat.old.book ≡ self.now }
         requires turn { seat.old.in_turn ≡ false }
@@ -129,7 +131,8 @@ impl<S: History + Drop> TurnBook<S> {
         }
     }
 
-    /// Gives the value back, once each number given has ended: its history has the entries that the first seat knows, and no others.
+    /// Gives the value back, once each number given has ended: its history has the entries that the first seat knows, and no
+    /// others.
     pub fn close(self, seat: Seat<S>) -> S
         requires book { seat.book ≡ self }
         requires first { (seat.number ≡ 0) × (seat.in_turn ≡ false) }

@@ -5,9 +5,9 @@ use std::marker::Model;
 
 /// A token of no bytes, with which one thread at a time takes its turns.
 ///
-/// A clause sees it as a `SeatState`: which `book` it is of, its `number`, whether it is `in_turn`, the beginning of the history that it
-/// has `seen`, the entries in it that are `mine`, how often it `looks` at the whole history, which is once in each turn, and,
-/// of the first seat, the numbers `given` and those `ended`.
+/// A clause sees it as a `SeatState`: which `book` it is of, its `number`, whether it is `in_turn`, the beginning of the history
+/// that it has `seen`, the entries in it that are `mine`, how often it `looks` at the whole history, which is once in each turn,
+/// and, of the first seat, the numbers `given` and those `ended`.
 #[derive(Drop)]
 pub struct Seat<S: History> {
     pub(crate) place: Place<S>,

@@ -34,7 +34,8 @@ pub(crate) fn settle<S: History>(top: &Top<S>, place: &mut Place<S>)
     top.load::<Settle>(place, LOCK);
 }
 
-// How often a thread looks at a held lock before it sleeps on it: a turn takes no longer, and a sleep costs more.
+// How often a thread looks at a held lock before it sleeps on it: most turns end sooner, and to sleep and be woken costs more.
+// Nothing rests on it but speed.
 const LOOKS: u32 = 100;
 
 // Takes the slot, if it is free at one of some looks. Whether it took it.
@@ -58,8 +59,8 @@ fn takes_soon<S: History>(top: &Top<S>, place: &mut Place<S>) -> bool
 
 // Waits until no other seat has the slot, and takes it.
 //
-// A thread that finds the lock held looks again for about as long as a turn takes. Then it marks the lock as awaited, and sleeps. It
-// holds the lock with that mark too, since others may sleep.
+// A thread that finds the lock held looks again, up to the end of most turns. Then it marks the lock as awaited, and sleeps.
+// A lock that it gets behind these looks it holds with that mark, since others may sleep.
 pub(crate) fn wait<S: History, R: Wait>(rt: &R, top: &Top<S>, place: &mut Place<S>)
     requires table { (place.old.table_id ≡ top.now.table_id) × IsTable top.now.table_id }
     requires number { (n : ℕ) × (place.old.me.0.number ≡ Some n) }

@@ -9,8 +9,8 @@ pub(crate) const LOCK: usize = 0;
 
 pub(crate) const FREE: u64 = 0;
 
-// A seat has the value. Its turn ends without a wake: if a thread sleeps, a wake is on its way, or one that is awake marks the lock
-// before it sleeps.
+// A seat has the value. Its turn ends without a wake: if a thread sleeps, a wake is on its way, or one that is awake marks the
+// lock before it sleeps.
 pub(crate) const HELD: u64 = 1;
 
 // A seat has the value, and a thread may sleep: the turn ends with a wake.

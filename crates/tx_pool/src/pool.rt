@@ -58,7 +58,8 @@ impl Pool {
     /// Pools a transaction of 1 to 256 bytes behind the others, unless the same bytes are pooled or settled.
     ///
     /// It takes one look-up, in time logarithmic in the number of transactions that the pool was told of. Where the bytes
-    /// are new it takes one insertion besides, and shares them. The list doubles where it is full.
+    /// are new it takes one insertion besides, and shares them, or copies them where another transaction has their mark. Each of
+    /// the two is two searches at most (`Standings`). The list doubles where it is full.
     pub fn submit(&mut self, tx: &Bytes) -> Result<Submitted, AllocError>
         requires { IsTransaction tx.now }
         ensures answer { IfOk result (λ answer. answer ≡ (if is_known self.old tx.now then Submitted.Known else Submitted.Added)) }
@@ -90,8 +91,9 @@ impl Pool {
 
     /// Settles these transactions, also those that were never submitted: they are no longer pooled, and never will be.
     ///
-    /// For each of them it takes two look-ups, and an insertion if the pool was not told of it before; then one look-up for
-    /// each that is pooled, in one pass. Bytes are shared where they are inserted.
+    /// For each of them it takes a look-up, an insertion if the pool was not told of it before, and two searches more to settle
+    /// it. Then it takes one look-up for each that is pooled, in one pass. Bytes that are inserted are shared or copied as by
+    /// `submit`. Where memory is wanting, each of them is looked up once more, and what was inserted is removed.
     pub fn settle(&mut self, txs: &[Bytes]) -> Result<(), AllocError>
         ensures pooled { OnOk result (self.new.pooled ≡ without txs.now self.old.pooled) }
         ensures settled { OnOk result ((tx : List ℕ) → is_among self.new.settled tx ≡ (is_among self.old.settled tx || is_among txs.now tx)) }

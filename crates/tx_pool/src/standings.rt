@@ -29,11 +29,12 @@ struct First {
     standing: Standing,
 }
 
-/// How each transaction stands that a pool was told of. A look-up takes time logarithmic in their number, and copies
-/// nothing.
+/// How each transaction stands that a pool was told of.
 ///
-/// Transactions are found by a mark, a hash of their bytes: a look-up then compares numbers, and the bytes once. Who picks
-/// the bytes can make marks equal. Such transactions are the others, which are found by their bytes, no less surely.
+/// Transactions are found by a mark, a hash of their bytes. A look-up searches for the mark, which compares numbers, and then
+/// compares the bytes once with those that have the mark. Who picks the bytes can make marks equal. Such transactions are the
+/// others, which are found by their bytes, no less surely. They are searched where the first search did not find the
+/// transaction, and mostly there are none. Each search takes time logarithmic in the number of transactions, and copies nothing.
 #[derive(Drop)]
 pub struct Standings {
     by_mark: BTreeMap<u64, First>,
@@ -71,8 +72,8 @@ impl Standings {
         self.others.get(tx).copied()
     }
 
-    /// Gives a standing to a transaction that has none. It shares the bytes where they are the first with their mark, and
-    /// else copies them.
+    /// Gives a standing to a transaction that has none: a search for the mark, and the insertion. It shares the bytes where they
+    /// are the first with their mark, and else copies them.
     pub fn insert(
         &mut self,
         alloc: Global,
@@ -211,7 +212,7 @@ impl Standings {
         }
     }
 
-    // The transaction has the place among the others then, if it has one there.
+    // Takes a transaction out of the firsts, if it is one. It stands then as the others tell.
     fn remove_first(&mut self, tx: &[u8])
         ensures apart { is_first (first_with self.new (mark tx.now)) tx.now ≡ false }
         ensures is { Sets self.old self.new tx.now (other_at self.old tx.now) }

@@ -41,7 +41,8 @@ pub record IsStep {T D : Type 0} (seen : D → Image) (may_leave : D → Image �
 abbrev pub LeftOrSays : (Image → Type 0) → List ℕ → ℕ → Image → Type 0
 LeftOrSays may_leave text most c = may_leave c ⊎ SaysOnly text most c
 
--- Nothing was written: a read gives what it gave, all of it is durable, and a crash since then leaves what one before might have left.
+-- Nothing was written: a read gives what it gave, all of it is durable, and a crash since then leaves what one before might have
+-- left.
 pub record IsUntouched {D : Type 0} (seen : D → Image) (may_leave : D → Image → Type 0) (moment : D → ℕ) (left_since : D → ℕ → Image → Type 0)
     (old new : D) : Type 0 where
   pub same : seen new ≡ seen old

@@ -168,8 +168,7 @@ impl<D: Disk> Journal<D> {
         self.append_entry(built)
     }
 
-    /// Adds an entry behind the others, as `append` does, from where it was built. It takes no
-    /// memory but the disk's.
+    /// Adds an entry behind the others, as `append` does, from where it was built. It takes no memory but the disk's.
     pub fn append_entry(&mut self, entry: Entry) -> Result<(), JournalFault>
         requires usable { IsUsable D.seen D.may_leave self.old }
         requires short { length entry.payload < 2 ^ 32 }

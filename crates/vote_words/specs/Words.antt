@@ -1,4 +1,5 @@
--- The line of a post in words: who sent it where, and the vote that its bytes spell. Numbers are in decimal, bytes in lower-case hex.
+-- The line of a post in words: who sent it where, and the vote that its bytes spell. Numbers are in decimal, bytes in lower-case
+-- hex.
 use Rattle.std.specs.Prelude.{ℕ, ◌+◌, Bool, true, false, List, [], ◌∷◌, ◌++◌, length, take, Option, None, Some, codes}
 use Rattle.std.specs.List.{flat_map}
 use Rattle.hex.specs.Hex.{encode_lower}
@@ -138,7 +139,8 @@ front_text k post =
     counted (codes "post ") k ++ (counted (codes " from ") post.from ++ (counted (codes " actor ") post.actor
     ++ (codes " to " ++ (address_text post.to ++ codes ": "))))
 
--- The line of post k of a run. The vote is the one that the bytes spell among the nodes of the run, under its version of the rules.
+-- The line of post k of a run. The vote is the one that the bytes spell among the nodes of the run, under its version of the
+-- rules.
 unfoldable pub post_in_words : Detail → Numbers → ℕ → Post → List ℕ
 post_in_words detail c k post = front_text k post ++ (said_text detail post.bytes (vote_at c.n c.version post.bytes) ++ codes "\n")
 

@@ -66,8 +66,8 @@ IsBefore detail bytes line text =
     ⊎ ((front : IsFront detail bytes text)
     × ((line ≡ length front.posts + 2) ⊎ ((line ≡ length front.posts + 3) × (later : List ℕ) × (front.rest ≡ end_line (length front.posts) ++ later))))
 
--- Bytes were taken, and in them, as in the whole input, this line is the first that breaks the form. All posts before it were put in
--- words.
+-- Bytes were taken, and in them, as in the whole input, this line is the first that breaks the form. All posts before it were put
+-- in words.
 pub record Breaks (detail : Detail) (line : ℕ) (old new : SourceView) (out out_after : SinkView) : Type 0 where
   pub bytes : List ℕ
   pub taken : Consumes old.left new.left bytes
@@ -79,7 +79,8 @@ pub record Breaks (detail : Detail) (line : ℕ) (old new : SourceView) (out out
   pub before : IsBefore detail bytes line text
   pub put : HasPut out out_after text
 
--- What printing came to: the source was read to its end, and had the text of a run and posts, which were put in words; or why not.
+-- What printing came to: the source was read to its end, and had the text of a run and posts, which were put in words; or why
+-- not.
 abbrev pub PrintsVotes : Detail → SourceView → SourceView → SinkView → SinkView → Result (Unit {0}) VotesFault → Type 0
 PrintsVotes detail old new out out_after (Ok _) = ReadsWhole old new (IsPrinted detail out out_after)
 PrintsVotes detail old new out out_after (Err (NotATrace line)) = Breaks detail line old new out out_after

@@ -1,5 +1,5 @@
--- What the steps of printing come to. The letters: w is a window before a step and v behind it, and used are the bytes that the step
--- used, at the front of those in the window and of those that it took.
+-- What the steps of printing come to. The letters: w is a window before a step and v behind it, and used are the bytes that the
+-- step used, at the front of those in the window and of those that it took.
 use Rattle.std.specs.Prelude.{◌≡◌, ◌⊎◌, ℕ, ◌+◌, ◌<◌, ◌≤◌, Bool, true, false, List, [], ◌∷◌, ◌++◌, length, drop, Option, None, Some, Result, Ok, Err, All, ◌==◌}
 use Rattle.std.specs.List.{list_any}
 use Rattle.std.specs.Io.KnownBytes.{Consumes, IsAtEnd}
@@ -17,8 +17,8 @@ use Rattle.votes_app.specs.declared.fault.VotesFault.TheVariants.{ReadFault, Too
 use Rattle.votes_app.specs.Streams.{SinkView, HasPut, FailsWithin}
 use Rattle.votes_app.specs.Window.{Span}
 
--- Some bytes were taken, and no take failed. Of those in the window and those that were taken some are used, and the others are in
--- the window now.
+-- Some bytes were taken, and no take failed. Of those in the window and those that were taken some are used, and the others are
+-- in the window now.
 pub record Moves (old new : SourceView) (w v : Span) (used : List ℕ) : Type 0 where
   pub more : List ℕ
   pub taken : Consumes old.left new.left more

@@ -34,8 +34,8 @@ fn one_word(word: &str) -> Option<Detail>
     }
 }
 
-/// The program `hb_votes`: reads the text of a history, as `hb_ledger trace` prints one, and prints it with each post in words. The word
-/// `--full` asks for all bytes of a vote. The status is
+/// The program `hb_votes`: reads the text of a history, as `hb_ledger trace` prints one, and prints it with each post in words.
+/// The word `--full` asks for all bytes of a vote. The status is
 ///   0 if the whole text was printed,
 ///   2 if the words are unknown,
 ///   3 if the input is no text of a history,

@@ -87,8 +87,8 @@ fn texts_that_break_later(rt: HostRuntime) -> Result<(), Fail> {
     Ok(())
 }
 
-// The text comes in pieces of 16 bytes: the first line ends in the fifth, the post in the seventh, the last line in the eighth, and a
-// ninth take finds the end.
+// The text comes in pieces of 16 bytes: the first line ends in the fifth, the post in the seventh, the last line in the eighth,
+// and a ninth take finds the end.
 #[test]
 fn takes_that_fail(rt: HostRuntime) -> Result<(), Fail> {
     let alloc = rt.alloc();

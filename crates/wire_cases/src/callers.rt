@@ -1,5 +1,5 @@
-//! Callers of votes and batches: votes that are made and written, and posts that are heard. What they owe and promise is proved with
-//! no answer.
+//! Callers of votes and batches: votes that are made and written, and posts that are heard. What they owe and promise is proved
+//! with no answer.
 
 ghost use Rattle.std.specs.Prelude.{◌≡◌, ◌≤◌, ◌<◌, length, IfOk};
 ghost use Rattle.hb_base.specs.ByteLists.{AreBytes};

@@ -1,5 +1,5 @@
-//! The bytes of a post, of which it may be known that they spell a valid Echo. Known or not, the vote is the same, and valid as the
-//! same leaf.
+//! The bytes of a post, of which it may be known that they spell a valid Echo. Known or not, the vote is the same, and valid as
+//! the same leaf.
 
 ghost use Rattle.std.specs.Prelude.{◌≡◌, IfOk, length};
 
