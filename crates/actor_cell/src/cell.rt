@@ -40,10 +40,10 @@ impl<'b, B: NamedBook + Drop, A: Actor<B>, J: RunName> Cell<'b, B, A, J> {
         held
     }
 
-    /// Some calls of `Held::turn` under the lock, as long as each takes a number, and the answer of the first: one the first time,
-    /// so that each actor of a node begins before one goes on, and later up to 32. None where another thread has the lock: then
-    /// nothing is done. No clause can name what lies under a lock. So nothing is promised, but that what lies there keeps what
-    /// its type says.
+    /// Some calls of `Held::turn` under the lock, as long as each takes a number, and the answer of the first: one the first
+    /// time, so that each actor of a node begins before one goes on, and later up to 32. None where another thread has the lock:
+    /// then nothing is done. No clause can name what lies under a lock. So nothing is promised, but that what lies there keeps
+    /// what its type says.
     pub fn serve<R: Wait, G: Gate>(&self, rt: &R, alloc: Global, gate: &G) -> Option<Served> {
         let mut waiting = self.lock.try_lock()?;
         let first = waiting.held.turn(rt, alloc, gate);

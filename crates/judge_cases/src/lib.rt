@@ -1,5 +1,6 @@
 //! Histories by hand, whose answers are by hand or by an oracle: whether their deliveries and ledgers agree, whom they accuse,
-//! the texts of that, and what those say of them that judge votes. What the judge of posts says, `tools/statuses` shows by audits.
+//! the texts of that, and what those say of them that judge votes. What the judge of posts says, `tools/statuses` shows by
+//! audits.
 //!
 //! `callers` is as any user might write it, and what is proved of it stands on the contract of accuse alone.
 #![tactic(auto)]

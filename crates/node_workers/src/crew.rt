@@ -9,8 +9,9 @@ pub(crate) const SHORTEST_NAP: u64 = 20;
 
 const LONGEST_NAP: u64 = 1_000;
 
-// How many workers there are that have not gone, and how many of them may still find something to do. A worker that found nothing,
-// while nobody found anything, looks no more. Once one finds something, all look again: what it did may be work for others.
+// How many workers there are that have not gone, and how many of them may still find something to do. A worker that found
+// nothing, while nobody found anything, looks no more. Once one finds something, all look again: what it did may be work for
+// others.
 #[derive(Drop)]
 struct Count {
     workers: u64,

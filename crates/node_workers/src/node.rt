@@ -47,8 +47,8 @@ fn is_did(served: Option<Served>) -> bool
     }
 }
 
-// One round of a worker: it serves each cell of the node once if no other worker does, and begins at the one whose number is the worker's modulo their
-// count. It tells whether any of them took a number.
+// One round of a worker: it serves each cell of the node once if no other worker does, and begins at the one whose number is the
+// worker's modulo their count. It tells whether any of them took a number.
 fn round<'b, B: NamedBook + Drop, A: Actor<B>, J: RunName, R: Wait, G: Gate>(
     rt: &R,
     alloc: Global,

@@ -1,7 +1,7 @@
 //! Reports made by hand, the statuses of their nodes, their texts, and what observers take from them. Texts of histories, what is
 //! read in them, and the verdicts of their audit. `tools/oracles/run` makes texts and answers: its checks run_texts, soak_texts,
-//! full_texts, trace_texts, observed_posts, observed_texts and agreeing_observers. Which texts are histories, and what their audits
-//! come to, `tools/statuses` shows.
+//! full_texts, trace_texts, observed_posts, observed_texts and agreeing_observers. Which texts are histories, and what their
+//! audits come to, `tools/statuses` shows.
 //!
 //! `callers` is as any user might write it, and what is proved of it stands on the contracts of ledger_text alone.
 #![tactic(auto)]
