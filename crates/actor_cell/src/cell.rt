@@ -14,7 +14,7 @@ const TURNS: u32 = 32;
 
 // What lies under the lock: an actor, and how many turns at most it makes the next time.
 #[derive(Drop)]
-struct Waiting<'b, B: NamedBook + Drop, A: Actor<B>, J: RunName> {
+struct Locked<'b, B: NamedBook + Drop, A: Actor<B>, J: RunName> {
     held: Held<'b, B, A, J>,
     turns: u32,
 }
@@ -22,21 +22,21 @@ struct Waiting<'b, B: NamedBook + Drop, A: Actor<B>, J: RunName> {
 /// An actor among threads: a lock round a `Held`, whose type says what holds of it whenever the lock is free.
 #[derive(Drop)]
 pub struct Cell<'b, B: NamedBook + Drop, A: Actor<B>, J: RunName> {
-    lock: Mutex<Waiting<'b, B, A, J>>,
+    lock: Mutex<Locked<'b, B, A, J>>,
 }
 
 impl<'b, B: NamedBook + Drop, A: Actor<B>, J: RunName> Cell<'b, B, A, J> {
     /// Puts it behind a lock. It takes no memory.
     pub fn new(held: Held<'b, B, A, J>) -> Cell<'b, B, A, J> {
         Cell {
-            lock: Mutex::new(Waiting { held, turns: 1 }),
+            lock: Mutex::new(Locked { held, turns: 1 }),
         }
     }
 
     /// Takes it out of the lock. It takes no memory.
     pub fn into_held(self) -> Held<'b, B, A, J> {
         let Cell { lock } = self;
-        let Waiting { held, turns: _ } = lock.into_inner();
+        let Locked { held, turns: _ } = lock.into_inner();
         held
     }
 
@@ -45,16 +45,16 @@ impl<'b, B: NamedBook + Drop, A: Actor<B>, J: RunName> Cell<'b, B, A, J> {
     /// then nothing is done. No clause can name what lies under a lock. So nothing is promised, but that what lies there keeps
     /// what its type says.
     pub fn serve<R: Wait, G: Gate>(&self, rt: &R, alloc: Global, gate: &G) -> Option<Served> {
-        let mut waiting = self.lock.try_lock()?;
-        let first = waiting.held.turn(rt, alloc, gate);
+        let mut locked = self.lock.try_lock()?;
+        let first = locked.held.turn(rt, alloc, gate);
         let mut last = first;
-        for _ in 1..waiting.turns {
+        for _ in 1..locked.turns {
             if last != Served::Did {
                 break;
             }
-            last = waiting.held.turn(rt, alloc, gate);
+            last = locked.held.turn(rt, alloc, gate);
         }
-        waiting.turns = TURNS;
+        locked.turns = TURNS;
         Some(first)
     }
 }
