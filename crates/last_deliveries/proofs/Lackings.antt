@@ -1,5 +1,5 @@
 -- What an actor lacks stands in the lists to which its address leads.
-use Rattle.std.proofs.Common.{◌≡◌, ◌⊎◌, ◌==◌, ◌&&◌, ℕ, zero, suc, not, Bool, cond, true, false, inl, inr, List, [], ◌∷◌, ◌++◌, filter, Contains, Option, Some, None, refl, ap, ◌∙◌, slice_get, slice_index_or, arith}
+use Rattle.std.proofs.Common.{◌≡◌, ◌⊎◌, ◌≤◌, ◌==◌, ◌&&◌, ℕ, zero, suc, not, Bool, cond, true, false, inl, inr, List, [], ◌∷◌, ◌++◌, filter, Contains, Option, Some, None, refl, ap, ◌∙◌, slice_get, slice_index_or, arith}
 use Rattle.std.proofs.lemmas.Bool.{and_parts}
 use Rattle.std.proofs.lemmas.List.Elements.{Contains-append_left, Contains-append_right}
 use Rattle.hb_wire.specs.declared.vote.To.{To}
@@ -11,7 +11,7 @@ use Rattle.hb_rules.specs.Report.{comes_to, is_drop}
 use Rattle.net_script.specs.Delivery.{shape_of}
 use Rattle.step_driver.specs.Playing.{comes_found}
 use Rattle.last_deliveries.specs.Catching.{lacks}
-use Rattle.last_deliveries.specs.Listing.{address_leads_to_node, is_to_all, leads_to_node, leads_to_actor}
+use Rattle.last_deliveries.specs.Listing.{HasNew, address_leads_to_node, is_to_all, leads_to_node, leads_to_actor}
 
 -- an element that passes a test is among those that pass
 pub filter_has : {X : Type 0} (p : X → Bool) (xs : List X) (x : X) → Contains xs x → p x ≡ true → Contains (filter p xs) x
@@ -47,17 +47,16 @@ found : (s : Script) (posts : List Post) (i x k : ℕ) (at : Option Post) → sl
 found s posts i x k None is comes = absurd (cc (comes))
 found s posts i x k (Some post) is comes = record { post = post; stands = is; leads = comes_leads s post i x k comes }
 
--- what it lacks is among those that it lacks of the two lists
-pub lacking_found : (s : Script) (posts : List Post) (marks : List Bool) (i x : ℕ) (nodes actors : List ℕ)
-    → ((k : ℕ) (post : Post) → slice_get posts k ≡ Some post → leads_to_node post i ≡ true → Contains nodes k)
-    → ((k : ℕ) (post : Post) → slice_get posts k ≡ Some post → leads_to_actor post x ≡ true → Contains actors k)
-    → (k : ℕ) → lacks s posts marks i x k ≡ true → Contains (filter (lacks s posts marks i x) nodes ++ filter (lacks s posts marks i x) actors) k
-lacking_found s posts marks i x nodes actors to_node to_actor k lacking =
+-- what it lacks of the new posts is among those that it lacks of the two lists
+pub lacking_found : (s : Script) (posts : List Post) (first : ℕ) (marks : List Bool) (i x : ℕ) (nodes actors : List ℕ)
+    → HasNew (λ post. leads_to_node post i) posts first nodes → HasNew (λ post. leads_to_actor post x) posts first actors → (k : ℕ) → first ≤ k → lacks s posts marks i x k ≡ true
+    → Contains (filter (lacks s posts marks i x) nodes ++ filter (lacks s posts marks i x) actors) k
+lacking_found s posts first marks i x nodes actors to_node to_actor k from lacking =
     let comes : comes_found s.config s (slice_get posts k) i x k ≡ true =
     (and_parts (not (slice_index_or marks k false)) (comes_found s.config s (slice_get posts k) i x k) lacking).1 in
     let at = found s posts i x k (slice_get posts k) refl comes in
     let test = lacks s posts marks i x in
     elim at.leads [
-      | inl node ↦ Contains-append_left (filter test nodes) (filter test actors) k (filter_has test nodes k (to_node k at.post at.stands node) lacking)
-      | inr actor ↦ Contains-append_right (filter test nodes) (filter test actors) k (filter_has test actors k (to_actor k at.post at.stands actor) lacking)
+      | inl node ↦ Contains-append_left (filter test nodes) (filter test actors) k (filter_has test nodes k (to_node k at.post from at.stands node) lacking)
+      | inr actor ↦ Contains-append_right (filter test nodes) (filter test actors) k (filter_has test actors k (to_actor k at.post from at.stands actor) lacking)
     ]

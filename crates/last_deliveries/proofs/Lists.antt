@@ -1,8 +1,8 @@
 -- Lists of numbers that grow.
-use Rattle.std.proofs.Common.{◌≡◌, ◌⊎◌, ℕ, zero, suc, ◌<◌, Bool, true, inl, inr, List, [], ◌∷◌, ◌++◌, length, set, Contains, Some, refl, sym, ap, ◌∙◌, subst, slice_get, slice_index_or, get_or, get_or-set_same, get_or-set_other}
+use Rattle.std.proofs.Common.{◌≡◌, ◌⊎◌, ℕ, zero, suc, ◌<◌, ◌≤◌, Bool, true, inl, inr, List, [], ◌∷◌, ◌++◌, length, set, Contains, Some, refl, sym, ap, ◌∙◌, subst, slice_get, slice_index_or, get_or, get_or-set_same, get_or-set_other, arith}
 use Rattle.std.proofs.Math.ListN.{length-set}
 use Rattle.std.proofs.lemmas.Bool.{cases_eq}
-use Rattle.std.proofs.lemmas.Option.{slice_get-get_or, get_or_from_slice_get}
+use Rattle.std.proofs.lemmas.Option.{slice_get-get_or, get_or_from_slice_get, slice_get_within}
 use Rattle.hb_wire.specs.declared.post.Post.{Post}
 use Rattle.last_deliveries.specs.Listing.{no_numbers, IsKept, AreListed}
 
@@ -35,18 +35,23 @@ pushed_at (q ∷ posts) post p (suc k) stands = elim (pushed_at posts post p k s
 ]
 
 -- lists got more, and no post
-pub AreListed-kept : (leads : Post → ℕ → Bool) (posts : List Post) (old new : List (List ℕ)) → IsKept old new → AreListed leads posts old → AreListed leads posts new
-AreListed-kept leads posts old new kept listed =
-    record { count = kept.count ∙ listed.count; each = λ i k post stands lead. kept.each i k (listed.each i k post stands lead) }
+pub AreListed-kept : (leads : Post → ℕ → Bool) (posts : List Post) (first : ℕ) (old new : List (List ℕ)) → IsKept old new → AreListed leads posts first old → AreListed leads posts first new
+AreListed-kept leads posts first old new kept listed =
+    record { count = kept.count ∙ listed.count; each = λ i k post from stands lead. kept.each i k (listed.each i k post from stands lead) }
 
 -- a post more, and its number stands in the lists to which it leads
-pub AreListed-more : (leads : Post → ℕ → Bool) (posts : List Post) (post : Post) (old new : List (List ℕ)) → IsKept old new
-    → ((i : ℕ) → leads post i ≡ true → Contains (slice_index_or new i no_numbers) (length posts)) → AreListed leads posts old → AreListed leads (posts ++ post ∷ []) new
-AreListed-more leads posts post old new kept added listed = record {
+pub AreListed-more : (leads : Post → ℕ → Bool) (posts : List Post) (first : ℕ) (post : Post) (old new : List (List ℕ)) → IsKept old new
+    → ((i : ℕ) → leads post i ≡ true → Contains (slice_index_or new i no_numbers) (length posts)) → AreListed leads posts first old → AreListed leads (posts ++ post ∷ []) first new
+AreListed-more leads posts first post old new kept added listed = record {
   count = kept.count ∙ listed.count;
-  each = λ i k p stands lead. elim (pushed_at posts post p k stands) [
-    | inl there ↦ kept.each i k (listed.each i k p there lead)
+  each = λ i k p from stands lead. elim (pushed_at posts post p k stands) [
+    | inl there ↦ kept.each i k (listed.each i k p from there lead)
     | inr last ↦
         subst (λ (j : ℕ). Contains (slice_index_or new i no_numbers) j) (sym last.0) (added i (subst (λ (q : Post). leads q i ≡ true) (sym last.1) lead))
   ];
 }
+
+-- none of the posts is new
+pub AreListed-old : (leads : Post → ℕ → Bool) (posts : List Post) (first : ℕ) (lists : List (List ℕ)) → length posts ≤ first → length lists ≡ 256 → AreListed leads posts first lists
+AreListed-old leads posts first lists past count =
+    record { count = count; each = λ i k post from stands lead. absurd (omega (arith, slice_get_within posts k post stands, past, from)) }

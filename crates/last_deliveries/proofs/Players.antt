@@ -43,7 +43,7 @@ HasGoneOn-shown p q shown fate = record {
   ended = λ over. (shown.view, fate over);
 }
 
-works_on : (fate : Fate) → fate ≡ Running → is_running_fate fate ≡ false → ⊥
+pub works_on : (fate : Fate) → fate ≡ Running → is_running_fate fate ≡ false → ⊥
 works_on fate running over = cc (ap is_running_fate running, over)
 
 -- it works, and heard a post

@@ -1,7 +1,8 @@
 -- All actors of a run at a time.
-use Rattle.std.proofs.Common.{◌≡◌, ℕ, zero, suc, ◌+◌, ◌<◌, ◌≤◌, true, inl, inr, List, [], ◌∷◌, length, map, set, Contains, Option, Some, refl, sym, ap, ◌∙◌, subst, arith, slice_get, get_or}
+use Rattle.std.proofs.Common.{◌≡◌, ℕ, zero, suc, ◌+◌, ◌<◌, ◌≤◌, true, inl, inr, List, [], ◌∷◌, length, map, set, Contains, Option, None, Some, refl, sym, ap, ◌∙◌, subst, arith, slice_get, get_or}
 use Rattle.std.specs.Prelude.{All, IfSome}
 use Rattle.std.specs.List.{AllZip, AllWithin}
+use Rattle.std.proofs.lemmas.Bool.{cases_lt}
 use Rattle.std.proofs.lemmas.Option.{slice_get_within, slice_get-get_or, get_or_from_slice_get}
 use Rattle.std.proofs.lemmas.List.Elements.{All-weaker, All-set, AllWithin-more_set}
 use Rattle.std.proofs.lemmas.List.{map-set, length-map}
@@ -12,13 +13,15 @@ use Rattle.hb_rules.specs.declared.report.Fate.{Fate}
 use Rattle.hb_rules.specs.declared.report.Fate.TheVariants.{Full}
 use Rattle.hb_rules.specs.Book.{SeatView}
 use Rattle.hb_rules.specs.Ledger.{IsPrefix}
+use Rattle.hb_rules.specs.Report.{is_running_fate}
 use Rattle.step_driver.specs.Places.{PlayerView}
 use Rattle.step_driver.specs.Delivering.{HasFate}
 use Rattle.step_driver.proofs.Stages.{slice_get-map}
 use Rattle.last_deliveries.specs.Settling.{IsOfRun, HasGoneOn, IsSeenBySome, IsSettled}
-use Rattle.last_deliveries.specs.Catching.{IsCaughtUp, HasReadAt, HasReadFront}
-use Rattle.last_deliveries.proofs.Zips.{AllZip-at, AllZip-set, AllZip-length}
-use Rattle.last_deliveries.proofs.Readings.{IsPrefix-same}
+use Rattle.last_deliveries.specs.Catching.{HasHeardTo, HasLooked, IsLevelWith, IsCaughtUp, HasReadAt, HasReadFront}
+use Rattle.last_deliveries.proofs.Catches.{HasGoneOn-looked, IsCaughtUp-level}
+use Rattle.last_deliveries.proofs.Zips.{AllZip-at, AllZip-was, AllZip-weaker, AllZip-set, AllZip-length}
+use Rattle.last_deliveries.proofs.Readings.{IsPrefix-same, none_past}
 
 -- an element that was read stands at its place, seen by its view
 pub view_at : {X Y : Type 0} (view : X → Y) (xs : List X) (i : ℕ) (x : X) → i < length xs → x ≡ get_or xs i x → slice_get (map view xs) i ≡ Some (view x)
@@ -67,7 +70,7 @@ IsSettled-up s posts place count old new liars read went up is level = record {
   level = level;
 }
 
-full_count : (fate : Fate) (p : PlayerView) → fate ≡ Full → HasFate true fate p.seat p.view → length p.seat.seen ≡ most_posts
+pub full_count : (fate : Fate) (p : PlayerView) → fate ≡ Full → HasFate true fate p.seat p.view → length p.seat.seen ≡ most_posts
 full_count fate p full has = subst (λ (f : Fate). HasFate true f p.seat p.view) full has
 
 -- each has ended by a full book
@@ -124,3 +127,43 @@ served_count R view xs ys pairs = sym (length-map ys view) ∙ AllZip-length R (
 
 pub some_at : {X : Type 0} (P : X → Type 0) (found : Option X) (x : X) → found ≡ Some x → IfSome found P → P x
 some_at P found x is holds = subst (λ o. IfSome o P) is holds
+
+-- what held of each of them, and how each has gone on
+pub All-zip : {X : Type 0} (P Q : X → Type 0) (R : X → X → Type 0) → ((x y : X) → P x → R x y → Q y) → (xs ys : List X) → All P xs → AllZip R xs ys → All Q ys
+All-zip {X} P Q R next xs ys all pairs i d within =
+    let y : X = get_or ys i d in
+    let was = AllZip-was R xs ys i y pairs (slice_get-get_or ys i d within) in
+    next was.other y (All-at P xs i was.other all was.stands) was.pair
+
+-- all actors that work have received all of these posts that come to them, and nobody has seen more
+pub IsSettled-level : (s : Script) (posts : List Post) (place count : ℕ) (old new : List PlayerView) (liars : List SeatView) → HasReadAt posts place old
+    → All (HasHeardTo s posts (length posts)) old → AllZip HasLooked old new → All (IsLevelWith count) new → length posts ≡ count → All (λ seat. length seat.seen ≤ count) liars
+    → IsSettled s new liars count
+IsSettled-level s posts place count old new liars read heard looked level is few =
+    IsSettled-up s posts place count old new liars read (AllZip-weaker HasLooked HasGoneOn HasGoneOn-looked old new looked) (λ i d within.
+    let q : PlayerView = get_or new i d in
+    let was = AllZip-was HasLooked old new i q looked (slice_get-get_or new i d within) in
+    IsCaughtUp-level s posts count was.other q is (All-at (HasHeardTo s posts (length posts)) old i was.other heard was.stands) was.pair (level i d within)) is few
+
+-- ---- actors that have ended by a full book
+
+full_at : {X : Type 0} (view : X → PlayerView) (fate : X → Fate) → ((x : X) → (view x).fate ≡ fate x) → (items : List X) (n : ℕ) (found : Option X) → slice_get items n ≡ found
+    → IfSome found (λ x. fate x ≡ Full) → n < length items → (d : PlayerView) → (get_or (map view items) n d).fate ≡ Full
+full_at view fate same items n None is full within d = absurd (omega (arith, none_past items n is, within))
+full_at view fate same items n (Some x) is full within d =
+    ap (λ (p : PlayerView). p.fate) (get_or_from_slice_get (map view items) n (view x) d (slice_get-map view items n x is)) ∙ same x ∙ full
+
+-- those before a place had ended so, and so has the one there
+pub full_more : {X : Type 0} (view : X → PlayerView) (fate : X → Fate) → ((x : X) → (view x).fate ≡ fate x) → (old : List PlayerView) (items : List X) (n : ℕ)
+    → AllWithin (λ (p : PlayerView). p.fate ≡ Full) old 0 n → AllZip HasGoneOn old (map view items) → IfSome (slice_get items n) (λ x. fate x ≡ Full) → n < length items
+    → AllWithin (λ (p : PlayerView). p.fate ≡ Full) (map view items) 0 (n + 1)
+full_more view fate same old items n all went full within k d low below = elim (cases_lt k n) [
+  | inl before ↦
+      let q : PlayerView = get_or (map view items) k d in
+      let was = AllZip-was HasGoneOn old (map view items) k q went (slice_get-get_or (map view items) k d (omega (arith, before, within, length-map items view))) in
+      let first : was.other.fate ≡ Full = subst (λ (p : PlayerView). p.fate ≡ Full) (get_or_from_slice_get old k was.other d was.stands) (all k d low before) in
+      (was.pair.ended (ap is_running_fate first)).1 ∙ first
+  | inr from ↦
+      let here : k ≡ n = omega (arith, from, below) in
+      subst (λ (j : ℕ). (get_or (map view items) j d).fate ≡ Full) (sym here) (full_at view fate same items n (slice_get items n) refl full within d)
+]

@@ -14,6 +14,12 @@ AllZip-then R next (x ∷ xs) [] zs one two = absurd one
 AllZip-then R next (x ∷ xs) (y ∷ ys) [] one two = absurd two
 AllZip-then R next (x ∷ xs) (y ∷ ys) (z ∷ zs) one two = (next x y z one.0 two.0, AllZip-then R next xs ys zs one.1 two.1)
 
+pub AllZip-weaker : {X : Type 0} (R S : X → X → Type 0) → ((x y : X) → R x y → S x y) → (xs ys : List X) → AllZip R xs ys → AllZip S xs ys
+AllZip-weaker R S weaker [] [] pairs = tt
+AllZip-weaker R S weaker [] (y ∷ ys) pairs = absurd pairs
+AllZip-weaker R S weaker (x ∷ xs) [] pairs = absurd pairs
+AllZip-weaker R S weaker (x ∷ xs) (y ∷ ys) pairs = (weaker x y pairs.0, AllZip-weaker R S weaker xs ys pairs.1)
+
 some_is : {X : Type 0} (x y : X) → Some x ≡ Some y → x ≡ y
 some_is x y is = cc (is)
 
@@ -43,4 +49,18 @@ AllZip-at R (a ∷ xs) [] i x pairs stands = absurd pairs
 AllZip-at R (a ∷ xs) (y ∷ ys) zero x pairs stands = record { other = y; stands = refl; pair = subst (λ b. R b y) (some_is a x stands) pairs.0 }
 AllZip-at R (a ∷ xs) (y ∷ ys) (suc i) x pairs stands =
     let rest = AllZip-at R xs ys i x pairs.1 stands in
+    record { other = rest.other; stands = rest.stands; pair = rest.pair }
+
+-- what stood at the same place of the first list
+pub record WasPaired {X : Type 0} (R : X → X → Type 0) (xs : List X) (y : X) (i : ℕ) : Type 0 where
+  pub other : X
+  pub stands : slice_get xs i ≡ Some other
+  pub pair : R other y
+
+pub AllZip-was : {X : Type 0} (R : X → X → Type 0) (xs ys : List X) (i : ℕ) (y : X) → AllZip R xs ys → slice_get ys i ≡ Some y → WasPaired R xs y i
+AllZip-was R xs [] i y pairs stands = absurd (cc (stands))
+AllZip-was R [] (b ∷ ys) i y pairs stands = absurd pairs
+AllZip-was R (a ∷ xs) (b ∷ ys) zero y pairs stands = record { other = a; stands = refl; pair = subst (λ z. R a z) (some_is b y stands) pairs.0 }
+AllZip-was R (a ∷ xs) (b ∷ ys) (suc i) y pairs stands =
+    let rest = AllZip-was R xs ys i y pairs.1 stands in
     record { other = rest.other; stands = rest.stands; pair = rest.pair }

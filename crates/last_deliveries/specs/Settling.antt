@@ -41,6 +41,10 @@ pub record HasGoneOn (old new : PlayerView) : Type 0 where
   pub keeps : KeepsTerms old.view new.view
   pub ended : is_running_fate old.fate ≡ false → (new.view ≡ old.view) × (new.fate ≡ old.fate)
 
+-- no post was delivered to an actor
+abbrev pub HasHeardNothing : PlayerView → PlayerView → Type 0
+HasHeardNothing old new = new.view ≡ old.view
+
 -- the same seat, which was shown more of the history, by posts of others
 pub record HasWatched (old new : SeatView) : Type 0 where
   pub config : new.config ≡ old.config

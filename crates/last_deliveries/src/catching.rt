@@ -1,29 +1,28 @@
 //! An actor catches up with the posts of a book.
 
-ghost use Rattle.std.specs.Prelude.{◌≡◌, ℕ, ◌<◌, ◌≤◌, ◌++◌, ◌∷◌, ◌&&◌, ◌==◌, [], true, false, length, Contains, IfOk};
+ghost use Rattle.std.specs.Prelude.{◌≡◌, ◌⊎◌, ℕ, ◌<◌, ◌≤◌, ◌++◌, ◌∷◌, ◌&&◌, ◌==◌, [], true, false, length, IfOk};
 ghost use Rattle.hb_base.specs.Limits.{most_posts};
 ghost use Rattle.hb_rules.specs.Report.{IsReceived, is_running_fate};
-ghost use Rattle.last_deliveries.specs.Catching.{lacks, IsCaughtUp};
-ghost use Rattle.last_deliveries.specs.Settling.{player_of, IsOfRun, HasGoneOn, HasReceivedAll};
+ghost use Rattle.last_deliveries.specs.Catching.{HasReceivedTo, LacksNoOther, HasHeardTo, HasTaken, WasRestarted};
+ghost use Rattle.last_deliveries.specs.Settling.{player_of, IsOfRun, HasGoneOn};
 
 use crate::listing::ListedPosts;
-use crate::marking::{lacking, marks_of};
-use crate::reading::{ends_by, is_level};
+use crate::marking::{coming, lacking, marks_for};
 use actor_cell::{Arrival, hear, look};
 use hb_base::Gate;
-use hb_base::limits::MOST_POSTS;
 use hb_rules::{Actor, Book, Fate, Outbox};
+use hb_wire::Post;
 use net_script::Script;
 use std::alloc::{AllocError, Global};
 use step_driver::{Player, is_running};
 
-// Whether the actor was busy: whether it heard a post, or ended, or may still lack one of these posts or another. An actor that
-// works hears those of these that come to it and that it has not received, in their order; one that was restarted in a delivery
-// has forgotten what it received, and waits for the next call. Of one that has ended it is only asked whether it has seen more
-// posts.
+// An actor that works, and has received all that come to it of the posts before the new ones, hears those of the new ones
+// that come to it and that it has not received, in their order. Where it was restarted in a delivery it has forgotten what it
+// received, and hears all of these posts that come to it. So it has received each of them then, if it still works. Each
+// delivery is counted.
 //
-// It costs a mark for each post, and a look at each post in the two lists where those that may come to it stand; the book is read
-// twice for each post that is delivered, and twice where the actor lacked none.
+// It costs a look at each new post in the two lists where those that may come to it stand, and a mark for each post where all
+// are new; the book is read twice for each post that is delivered. A restart costs a look at each post.
 pub(crate) fn catch_up<B: Book, A: Actor<B>, G: Gate>(
     alloc: Global,
     script: &Script,
@@ -31,97 +30,153 @@ pub(crate) fn catch_up<B: Book, A: Actor<B>, G: Gate>(
     player: &mut Player<A>,
     posts: &ListedPosts,
     gate: &G,
-) -> bool
+    deliveries: &mut u64,
+)
     requires seat { B.knows book.old (A.seat player.old.actor) }
     requires of_run { IsOfRun script.now (player_of B.config B.node B.actor B.seen A.seat A.view player.old) }
-    requires few { length posts.now ≤ most_posts }
+    requires few { length posts.now.posts ≤ most_posts }
+    requires before { HasHeardTo script.now posts.now.posts posts.now.first (player_of B.config B.node B.actor B.seen A.seat A.view player.old) }
     ensures seat { B.knows book.new (A.seat player.new.actor) }
     ensures moved { B.moved (B.node (A.seat player.old.actor)) (B.actor (A.seat player.old.actor)) book.old book.new }
     ensures of_run { IsOfRun script.now (player_of B.config B.node B.actor B.seen A.seat A.view player.new) }
     ensures went { HasGoneOn (player_of B.config B.node B.actor B.seen A.seat A.view player.old)
         (player_of B.config B.node B.actor B.seen A.seat A.view player.new) }
-    ensures up { result ≡ false → IsCaughtUp script.now posts.now (player_of B.config B.node B.actor B.seen A.seat A.view player.new) }
+    ensures all { HasHeardTo script.now posts.now.posts (length posts.now.posts) (player_of B.config B.node B.actor B.seen A.seat A.view player.new) }
+    ensures unheard { deliveries.new ≡ 0 → (deliveries.old ≡ 0) × (A.view player.new.actor ≡ A.view player.old.actor) }
 {
-    let count = posts.as_slice().len() as u32;
-    match player.fate {
-        Fate::Running => !receives_all(alloc, script, book, player, posts, gate),
-        Fate::Full => count < MOST_POSTS,
-        Fate::Memory | Fate::Journal => !ends_by(book, &mut player.actor, count),
+    if !is_running(player.fate) {
+        return;
     }
+    receive(alloc, script, book, player, posts, gate, deliveries);
 }
 
-// Delivers to an actor that works what it lacks. Whether it had received all before, and has seen as many posts.
-fn receives_all<B: Book, A: Actor<B>, G: Gate>(
+// Does so where the actor works. It ends where it finds no memory for the numbers of what it lacks, or for the marks of what
+// it has received.
+fn receive<B: Book, A: Actor<B>, G: Gate>(
     alloc: Global,
     script: &Script,
     book: &mut B,
     player: &mut Player<A>,
     posts: &ListedPosts,
     gate: &G,
-) -> bool
+    deliveries: &mut u64,
+)
     requires seat { B.knows book.old (A.seat player.old.actor) }
     requires of_run { IsOfRun script.now (player_of B.config B.node B.actor B.seen A.seat A.view player.old) }
-    requires few { length posts.now ≤ most_posts }
     requires running { player.old.fate ≡ Fate.Running }
+    requires few { length posts.now.posts ≤ most_posts }
+    requires before { HasReceivedTo script.now posts.now.posts posts.now.first (B.node (A.seat player.old.actor)) (B.actor (A.seat player.old.actor))
+        (A.view player.old.actor).got }
     ensures seat { B.knows book.new (A.seat player.new.actor) }
     ensures moved { B.moved (B.node (A.seat player.old.actor)) (B.actor (A.seat player.old.actor)) book.old book.new }
     ensures of_run { IsOfRun script.now (player_of B.config B.node B.actor B.seen A.seat A.view player.new) }
     ensures went { HasGoneOn (player_of B.config B.node B.actor B.seen A.seat A.view player.old)
         (player_of B.config B.node B.actor B.seen A.seat A.view player.new) }
-    ensures all { result ≡ true → HasReceivedAll script.now posts.now (player_of B.config B.node B.actor B.seen A.seat A.view player.new) }
+    ensures all { HasHeardTo script.now posts.now.posts (length posts.now.posts) (player_of B.config B.node B.actor B.seen A.seat A.view player.new) }
+    ensures unheard { deliveries.new ≡ 0 → (deliveries.old ≡ 0) × (A.view player.new.actor ≡ A.view player.old.actor) }
 {
-    match deliver(alloc, script, book, player, posts, gate) {
-        Err(_) => {
-            player.fate = Fate::Memory;
-            false
-        }
-        Ok(true) => false,
-        Ok(false) => is_level(book, &mut player.actor, posts.as_slice().len() as u32),
+    match wanted::<B, A>(alloc, script, &player.actor, posts) {
+        Err(_) => player.fate = Fate::Memory,
+        Ok(numbers) => hear_all(
+            alloc,
+            script,
+            book,
+            player,
+            posts.as_slice(),
+            numbers,
+            gate,
+            deliveries,
+        ),
     }
 }
 
-// Delivers to an actor that works what it lacks. Whether it lacked anything; if not, nothing was done. The error is want of
-// memory for the marks, or for the numbers of what it lacks.
-fn deliver<B: Book, A: Actor<B>, G: Gate>(
+// The numbers of what an actor lacks of these posts, rising, where it has received all that come to it of those before the
+// new ones. The error is want of memory for the marks of what it has received, or for the numbers.
+fn wanted<B: Book, A: Actor<B>>(
     alloc: Global,
     script: &Script,
-    book: &mut B,
-    player: &mut Player<A>,
+    actor: &A,
     posts: &ListedPosts,
-    gate: &G,
-) -> Result<bool, AllocError>
-    requires seat { B.knows book.old (A.seat player.old.actor) }
-    requires of_run { IsOfRun script.now (player_of B.config B.node B.actor B.seen A.seat A.view player.old) }
-    requires few { length posts.now ≤ most_posts }
-    requires running { player.old.fate ≡ Fate.Running }
-    ensures seat { B.knows book.new (A.seat player.new.actor) }
-    ensures moved { B.moved (B.node (A.seat player.old.actor)) (B.actor (A.seat player.old.actor)) book.old book.new }
-    ensures of_run { IsOfRun script.now (player_of B.config B.node B.actor B.seen A.seat A.view player.new) }
-    ensures went { HasGoneOn (player_of B.config B.node B.actor B.seen A.seat A.view player.old)
-        (player_of B.config B.node B.actor B.seen A.seat A.view player.new) }
-    ensures still { IfOk result (λ lacked. lacked ≡ false → player.new ≡ player.old) }
-    ensures all { IfOk result (λ lacked. lacked ≡ false → (k : ℕ)
-        → IsReceived script.now.config script.now posts.now (B.node (A.seat player.old.actor)) (B.actor (A.seat player.old.actor)) k
-        → Contains (A.view player.old.actor).got k) }
+) -> Result<Vec<u32>, AllocError>
+    requires before { HasReceivedTo script.now posts.now.posts posts.now.first (B.node (A.seat actor.now)) (B.actor (A.seat actor.now)) (A.view actor.now).got }
+    ensures { IfOk result (λ numbers. LacksNoOther script.now posts.now.posts (B.node (A.seat actor.now)) (B.actor (A.seat actor.now))
+        (A.view actor.now).got numbers.items) }
 {
-    let marks = marks_of(alloc, player.actor.got(), posts.as_slice().len())?;
-    player.actor.kept();
-    let numbers = lacking(
+    actor.kept();
+    let marks = marks_for(alloc, actor.got(), posts)?;
+    lacking(
         alloc,
         script,
         posts,
         marks.as_slice(),
-        player.actor.node(),
-        player.actor.actor(),
-    )?;
-    if numbers.is_empty() {
-        return Ok(false);
-    }
-    hand_over_all(alloc, script, book, player, numbers.as_slice(), gate);
-    Ok(true)
+        actor.node(),
+        actor.actor(),
+    )
 }
 
-// Lets an actor that works hear the posts with these numbers, in their order, as long as it keeps what it has received.
+// Lets an actor that works hear the posts with these numbers, which are what it lacks of these posts. Where it is restarted
+// it hears all of them that come to it, from the first on. It ends where it finds no memory for the numbers of these.
+fn hear_all<B: Book, A: Actor<B>, G: Gate>(
+    alloc: Global,
+    script: &Script,
+    book: &mut B,
+    player: &mut Player<A>,
+    posts: &[Post],
+    numbers: Vec<u32>,
+    gate: &G,
+    deliveries: &mut u64,
+)
+    requires seat { B.knows book.old (A.seat player.old.actor) }
+    requires of_run { IsOfRun script.now (player_of B.config B.node B.actor B.seen A.seat A.view player.old) }
+    requires running { player.old.fate ≡ Fate.Running }
+    requires few { length posts.now ≤ most_posts }
+    requires lacks { LacksNoOther script.now posts.now (B.node (A.seat player.old.actor)) (B.actor (A.seat player.old.actor))
+        (A.view player.old.actor).got numbers.items }
+    ensures seat { B.knows book.new (A.seat player.new.actor) }
+    ensures moved { B.moved (B.node (A.seat player.old.actor)) (B.actor (A.seat player.old.actor)) book.old book.new }
+    ensures of_run { IsOfRun script.now (player_of B.config B.node B.actor B.seen A.seat A.view player.new) }
+    ensures went { HasGoneOn (player_of B.config B.node B.actor B.seen A.seat A.view player.old)
+        (player_of B.config B.node B.actor B.seen A.seat A.view player.new) }
+    ensures all { HasHeardTo script.now posts.now (length posts.now) (player_of B.config B.node B.actor B.seen A.seat A.view player.new) }
+    ensures unheard { deliveries.new ≡ 0 → (deliveries.old ≡ 0) × (A.view player.new.actor ≡ A.view player.old.actor) }
+{
+    let mut numbers = numbers;
+    'restarts: while hand_over_all(
+        alloc,
+        script,
+        book,
+        player,
+        numbers.as_slice(),
+        gate,
+        deliveries,
+    ) {
+        match all_of::<B, A>(alloc, script, &player.actor, posts) {
+            Err(_) => {
+                player.fate = Fate::Memory;
+                return;
+            }
+            Ok(all) => numbers = all,
+        }
+    }
+}
+
+// The numbers of all posts that come to an actor, rising. Err is want of memory for them.
+fn all_of<B: Book, A: Actor<B>>(
+    alloc: Global,
+    script: &Script,
+    actor: &A,
+    posts: &[Post],
+) -> Result<Vec<u32>, AllocError>
+    requires few { length posts.now ≤ most_posts }
+    ensures { IfOk result (λ numbers. LacksNoOther script.now posts.now (B.node (A.seat actor.now)) (B.actor (A.seat actor.now))
+        (A.view actor.now).got numbers.items) }
+{
+    actor.kept();
+    coming(alloc, script, posts, actor.node(), actor.actor())
+}
+
+// Lets an actor that works hear the posts with these numbers, in their order, until it is restarted or ends. Whether it was
+// restarted.
 fn hand_over_all<B: Book, A: Actor<B>, G: Gate>(
     alloc: Global,
     script: &Script,
@@ -129,33 +184,7 @@ fn hand_over_all<B: Book, A: Actor<B>, G: Gate>(
     player: &mut Player<A>,
     numbers: &[u32],
     gate: &G,
-)
-    requires seat { B.knows book.old (A.seat player.old.actor) }
-    requires of_run { IsOfRun script.now (player_of B.config B.node B.actor B.seen A.seat A.view player.old) }
-    requires running { player.old.fate ≡ Fate.Running }
-    ensures seat { B.knows book.new (A.seat player.new.actor) }
-    ensures moved { B.moved (B.node (A.seat player.old.actor)) (B.actor (A.seat player.old.actor)) book.old book.new }
-    ensures of_run { IsOfRun script.now (player_of B.config B.node B.actor B.seen A.seat A.view player.new) }
-    ensures went { HasGoneOn (player_of B.config B.node B.actor B.seen A.seat A.view player.old)
-        (player_of B.config B.node B.actor B.seen A.seat A.view player.new) }
-{
-    player.actor.kept();
-    for k in numbers {
-        if !hand_over(alloc, script, book, player, *k, gate) {
-            return;
-        }
-    }
-}
-
-// Lets an actor that works hear post k, if it comes to it by its own seat too. Before that the gate is entered. Whether it has
-// received the post, and still has all that it had received.
-fn hand_over<B: Book, A: Actor<B>, G: Gate>(
-    alloc: Global,
-    script: &Script,
-    book: &mut B,
-    player: &mut Player<A>,
-    k: u32,
-    gate: &G,
+    deliveries: &mut u64,
 ) -> bool
     requires seat { B.knows book.old (A.seat player.old.actor) }
     requires of_run { IsOfRun script.now (player_of B.config B.node B.actor B.seen A.seat A.view player.old) }
@@ -166,16 +195,53 @@ fn hand_over<B: Book, A: Actor<B>, G: Gate>(
     ensures went { HasGoneOn (player_of B.config B.node B.actor B.seen A.seat A.view player.old)
         (player_of B.config B.node B.actor B.seen A.seat A.view player.new) }
     ensures works { result ≡ true → player.new.fate ≡ Fate.Running }
-    ensures heard { result ≡ true → (A.view player.new.actor).got ≡ (A.view player.old.actor).got ++ k ∷ [] }
+    ensures again { result ≡ true → WasRestarted (A.view player.old.actor) (A.view player.new.actor) }
+    ensures heard { result ≡ false → player.new.fate ≡ Fate.Running → (A.view player.new.actor).got ≡ (A.view player.old.actor).got ++ numbers.now }
+    ensures unheard { deliveries.new ≡ 0 → (deliveries.old ≡ 0) × (A.view player.new.actor ≡ A.view player.old.actor) }
+{
+    for k in numbers {
+        if !hand_over(alloc, script, book, player, *k, gate, deliveries) {
+            return is_running(player.fate);
+        }
+    }
+    false
+}
+
+// Lets an actor that works hear post k. Before that the gate is entered. It ends where its own seat can't read the post, or
+// does not show it one that comes to it, as no book does. Whether it has received the post, and still has all that it had
+// received; if it works and has not, it was restarted.
+fn hand_over<B: Book, A: Actor<B>, G: Gate>(
+    alloc: Global,
+    script: &Script,
+    book: &mut B,
+    player: &mut Player<A>,
+    k: u32,
+    gate: &G,
+    deliveries: &mut u64,
+) -> bool
+    requires seat { B.knows book.old (A.seat player.old.actor) }
+    requires of_run { IsOfRun script.now (player_of B.config B.node B.actor B.seen A.seat A.view player.old) }
+    requires running { player.old.fate ≡ Fate.Running }
+    ensures seat { B.knows book.new (A.seat player.new.actor) }
+    ensures moved { B.moved (B.node (A.seat player.old.actor)) (B.actor (A.seat player.old.actor)) book.old book.new }
+    ensures of_run { IsOfRun script.now (player_of B.config B.node B.actor B.seen A.seat A.view player.new) }
+    ensures went { HasGoneOn (player_of B.config B.node B.actor B.seen A.seat A.view player.old)
+        (player_of B.config B.node B.actor B.seen A.seat A.view player.new) }
+    ensures works { result ≡ true → player.new.fate ≡ Fate.Running }
+    ensures heard { result ≡ true → HasTaken k (A.view player.old.actor) (A.view player.new.actor) }
+    ensures again { result ≡ false → player.new.fate ≡ Fate.Running → WasRestarted (A.view player.old.actor) (A.view player.new.actor) }
+    ensures unheard { deliveries.new ≡ 0 → (deliveries.old ≡ 0) × (result ≡ false) × (A.view player.new.actor ≡ A.view player.old.actor) }
 {
     gate.enter(player.actor.node(), player.actor.actor());
     match look(script, book, &mut player.actor, k) {
-        Err(_) => {
+        Err(_) | Ok(Arrival::Aside) => {
             player.fate = Fate::Memory;
             false
         }
-        Ok(Arrival::Aside) => false,
-        Ok(Arrival::Prompt) | Ok(Arrival::Late) => listen(alloc, script, book, player, k),
+        Ok(Arrival::Prompt) | Ok(Arrival::Late) => {
+            *deliveries = deliveries.saturating_add(1);
+            listen(alloc, script, book, player, k)
+        }
     }
 }
 
@@ -198,7 +264,8 @@ fn listen<B: Book, A: Actor<B>>(
     ensures went { HasGoneOn (player_of B.config B.node B.actor B.seen A.seat A.view player.old)
         (player_of B.config B.node B.actor B.seen A.seat A.view player.new) }
     ensures works { result ≡ true → player.new.fate ≡ Fate.Running }
-    ensures heard { result ≡ true → (A.view player.new.actor).got ≡ (A.view player.old.actor).got ++ k ∷ [] }
+    ensures heard { result ≡ true → HasTaken k (A.view player.old.actor) (A.view player.new.actor) }
+    ensures again { result ≡ false → player.new.fate ≡ Fate.Running → WasRestarted (A.view player.old.actor) (A.view player.new.actor) }
 {
     let restarts = player.actor.restarts();
     let mut out = Outbox::new(alloc);

@@ -9,4 +9,4 @@ mod marking;
 mod reading;
 mod settling;
 
-pub use settling::settle;
+pub use settling::{Settled, settle};

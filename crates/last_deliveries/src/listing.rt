@@ -1,9 +1,9 @@
-//! The posts that were read, with lists by which an actor finds those that may come to it.
+//! The posts that were read, with lists by which an actor finds the new ones that may come to it.
 
-ghost use Rattle.std.specs.Prelude.{◌≡◌, ℕ, ◌≤◌, ◌++◌, ◌∷◌, [], true, length, slice_get, slice_index_or, Contains, Some, IfOk, OnOk, OnErr};
+ghost use Rattle.std.specs.Prelude.{◌≡◌, ℕ, ◌<◌, ◌≤◌, ◌++◌, ◌∷◌, [], true, false, length, slice_get, slice_index_or, Contains, Some, IfOk, OnOk, OnErr};
 ghost use Rattle.hb_base.specs.Limits.{most_posts};
 ghost use Rattle.hb_wire.specs.declared.post.Post.{Post};
-ghost use Rattle.last_deliveries.specs.Listing.{no_numbers, IsKept, leads_to_node, leads_to_actor};
+ghost use Rattle.last_deliveries.specs.Listing.{no_numbers, listing, HasNew, IsKept, leads_to_node, leads_to_actor};
 
 use hb_wire::{Post, To};
 use std::alloc::{AllocError, Global};
@@ -49,44 +49,61 @@ impl Numbers {
     }
 }
 
-// Posts in their order, and their numbers in lists by where their addresses lead: to one node, or to one actor of each node. So
-// an actor finds in two of the lists all posts that may reach it. Clauses see the posts alone.
+// Posts in their order, and the numbers of the new ones, those from `first` on, in lists by where their addresses lead: to
+// one node, or to one actor of each node. So an actor finds in two of the lists all new posts that may reach it. Clauses see
+// the posts, and the number of the first new one.
 #[derive(Drop)]
 pub(crate) struct ListedPosts {
     posts: Vec<Post>,
+    first: u32,
     to_nodes: Vec<Numbers>,
     to_actors: Vec<Numbers>,
 }
 
 impl Model for ListedPosts {
-    ghost use Rattle.std.specs.Prelude.{List};
-    ghost use Rattle.hb_wire.specs.declared.post.Post.{Post};
-    ghost use Rattle.last_deliveries.specs.Listing.{AreListed, leads_to_node, leads_to_actor};
+    ghost use Rattle.std.specs.Prelude.{◌≤◌, length};
+    ghost use Rattle.last_deliveries.specs.Listing.{Listing, listing, AreListed, leads_to_node, leads_to_actor};
 
-    ghost Value = { List Post };
+    ghost Value = { Listing };
 
-    ghost view = { λ listed. listed.posts.items };
+    ghost view = { λ listed. listing listed.posts.items listed.first };
 
-    ghost invariant = { λ listed. AreListed leads_to_node listed.posts.items listed.to_nodes.items
-        × AreListed leads_to_actor listed.posts.items listed.to_actors.items };
+    ghost invariant = { λ listed. (listed.first ≤ length listed.posts.items)
+        × AreListed leads_to_node listed.posts.items listed.first listed.to_nodes.items
+        × AreListed leads_to_actor listed.posts.items listed.first listed.to_actors.items };
 }
 
 impl ListedPosts {
     // No post. Err is want of memory for the lists.
     pub(crate) fn new(alloc: Global) -> Result<ListedPosts, AllocError>
-        ensures { IfOk result (λ listed. listed ≡ []) }
+        ensures { IfOk result (λ listed. listed ≡ listing [] 0) }
     {
         Ok(ListedPosts {
             posts: Vec::new(alloc),
+            first: 0,
             to_nodes: no_numbers(alloc)?,
             to_actors: no_numbers(alloc)?,
         })
     }
 
-    // Adds a post behind the others. Err is want of memory, and it was not added.
+    // From now on none of them is new. Err is want of memory for the lists, and nothing was done.
+    pub(crate) fn grow_old(&mut self, alloc: Global) -> Result<(), AllocError>
+        requires few { length self.old.posts ≤ most_posts }
+        ensures old { OnOk result (self.new ≡ listing self.old.posts (length self.old.posts)) }
+        ensures none { OnErr result (self.new ≡ self.old) }
+    {
+        let to_nodes = no_numbers(alloc)?;
+        let to_actors = no_numbers(alloc)?;
+        self.first = self.posts.len() as u32;
+        self.to_nodes = to_nodes;
+        self.to_actors = to_actors;
+        Ok(())
+    }
+
+    // Adds a new post behind the others. Err is want of memory, and it was not added.
     pub(crate) fn push(&mut self, post: Post) -> Result<(), AllocError>
-        requires few { length self.old ≤ most_posts }
-        ensures added { OnOk result (self.new ≡ self.old ++ post ∷ []) }
+        requires few { length self.old.posts ≤ most_posts }
+        ensures added { OnOk result (self.new ≡ listing (self.old.posts ++ post ∷ []) self.old.first) }
         ensures none { OnErr result (self.new ≡ self.old) }
     {
         let k = self.posts.len() as u32;
@@ -96,21 +113,36 @@ impl ListedPosts {
     }
 
     pub(crate) fn as_slice(&self) -> &[Post]
-        ensures { result.now ≡ self.now }
+        ensures { result.now ≡ self.now.posts }
     {
         self.posts.as_slice()
     }
 
-    // The numbers of the posts whose address leads to one node, this one.
+    // The number of the first that is new.
+    pub(crate) fn first(&self) -> u32
+        ensures { result ≡ self.now.first }
+    {
+        self.first
+    }
+
+    // Whether any is new.
+    pub(crate) fn has_new(&self) -> bool
+        ensures some { result ≡ true → self.now.first < length self.now.posts }
+        ensures none { result ≡ false → self.now.first ≡ length self.now.posts }
+    {
+        (self.first as usize) < self.posts.len()
+    }
+
+    // The numbers of the new posts whose address leads to one node, this one.
     pub(crate) fn to_node(&self, node: u8) -> &[u32]
-        ensures { (k : ℕ) (post : Post) → slice_get self.now k ≡ Some post → leads_to_node post node ≡ true → Contains result.now k }
+        ensures { HasNew (λ post. leads_to_node post node) self.now.posts self.now.first result.now }
     {
         self.to_nodes[node as usize].as_slice()
     }
 
-    // The numbers of the posts whose address leads to an actor of each node, to that with this number.
+    // The numbers of the new posts whose address leads to an actor of each node, to that with this number.
     pub(crate) fn to_actor(&self, actor: u8) -> &[u32]
-        ensures { (k : ℕ) (post : Post) → slice_get self.now k ≡ Some post → leads_to_actor post actor ≡ true → Contains result.now k }
+        ensures { HasNew (λ post. leads_to_actor post actor) self.now.posts self.now.first result.now }
     {
         self.to_actors[actor as usize].as_slice()
     }
@@ -127,7 +159,8 @@ fn no_numbers(alloc: Global) -> Result<Vec<Numbers>, AllocError>
     Ok(lists)
 }
 
-// Adds the number of a post to the list to which its address leads, if there is one. Err is want of memory: nothing was added.
+// Adds the number of a post to the list to which its address leads, if there is one. Err is want of memory: nothing was
+// added.
 fn enter(
     to_nodes: &mut Vec<Numbers>,
     to_actors: &mut Vec<Numbers>,

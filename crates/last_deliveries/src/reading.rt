@@ -30,24 +30,25 @@ fn read_one<B: Book, A: Actor<B>>(
     actor.read(book, k)
 }
 
-// Reads on behind these posts, which are a beginning of what the seat of the actor has seen, until they are all that it has seen
-// then. They share their bytes with the book. Err is want of memory, or a book of more than 2^22 posts, and there is no such
-// book.
+// Reads on behind these posts, which are a beginning of what the seat of the actor has seen, until they are all that it has
+// seen then. They share their bytes with the book. Err is want of memory, or a book of more than 2^22 posts, and there is no
+// such book.
 pub(crate) fn read_on<B: Book, A: Actor<B>>(
     book: &mut B,
     actor: &mut A,
     posts: &mut ListedPosts,
 ) -> Result<(), AllocError>
     requires seat { B.knows book.old (A.seat actor.old) }
-    requires front { IsPrefix posts.old (B.seen (A.seat actor.old)) }
-    requires few { length posts.old ≤ most_posts }
+    requires front { IsPrefix posts.old.posts (B.seen (A.seat actor.old)) }
+    requires few { length posts.old.posts ≤ most_posts }
     ensures seat { B.knows book.new (A.seat actor.new) }
     ensures moved { B.moved (B.node (A.seat actor.old)) (B.actor (A.seat actor.old)) book.old book.new }
     ensures shown { IsShown (player_at B.config B.node B.actor B.seen A.seat A.view actor.old Running)
         (player_at B.config B.node B.actor B.seen A.seat A.view actor.new Running) }
-    ensures more { IsPrefix posts.old posts.new }
-    ensures all { IfOk result (λ _. posts.new ≡ B.seen (A.seat actor.new)) }
-    ensures few { IfOk result (λ _. length posts.new ≤ most_posts) }
+    ensures more { IsPrefix posts.old.posts posts.new.posts }
+    ensures first { posts.new.first ≡ posts.old.first }
+    ensures all { IfOk result (λ _. posts.new.posts ≡ B.seen (A.seat actor.new)) }
+    ensures few { IfOk result (λ _. length posts.new.posts ≤ most_posts) }
 {
     let first = posts.as_slice().len() as u32;
     for k in first..MOST_POSTS + 1 {

@@ -18,7 +18,6 @@ use last_deliveries::settle;
 use net_script::Script;
 use post_book::NamedBook;
 use std::alloc::{AllocError, Global};
-use std::sync::Wait;
 use step_driver::Player;
 
 /// What a run leaves.
@@ -30,11 +29,10 @@ pub struct Left<S> {
     pub seats: Vec<S>,
 }
 
-/// Ends a run whose workers have returned, with all its actors in order and all seats of its nodes that lie: an actor that works
-/// and whose mailbox refused a number ends for want of memory, what is left to deliver is delivered, and each gives its end and
-/// its seat. It may wait. Err is want of memory.
-pub fn finish<B, A, R, G>(
-    rt: &R,
+/// Ends a run whose workers have returned, with all its actors in order and all seats of its nodes that lie: an actor that
+/// works and whose mailbox refused a number ends for want of memory, what is left to deliver is delivered, and each gives its
+/// end and its seat. Err is want of memory.
+pub fn finish<B, A, G>(
     alloc: Global,
     script: &Script,
     book: B,
@@ -46,7 +44,6 @@ pub fn finish<B, A, R, G>(
 where
     B: NamedBook + Drop,
     A: Actor<B>,
-    R: Wait,
     G: Gate,
     requires seats { All (λ player. B.knows book (A.seat player.actor)) players.items }
     requires back { All (λ player. IsBack script.now (player_of B.config B.node B.actor B.seen A.seat A.view player)) players.items }
@@ -62,7 +59,6 @@ where
     let mut players = players;
     let mut liars = liars;
     end_and_settle(
-        rt,
         alloc,
         script,
         &mut book,
@@ -77,8 +73,7 @@ where
 }
 
 // Ends the noted actors, and delivers what is left.
-fn end_and_settle<B: NamedBook, A: Actor<B>, R: Wait, G: Gate>(
-    rt: &R,
+fn end_and_settle<B: NamedBook, A: Actor<B>, G: Gate>(
     alloc: Global,
     script: &Script,
     book: &mut B,
@@ -101,6 +96,6 @@ fn end_and_settle<B: NamedBook, A: Actor<B>, R: Wait, G: Gate>(
     ensures noted { OnOk result (All (λ p. EndsIfMarked noted.now p.seat.node p.seat.actor p.fate) (players_of B.config B.node B.actor B.seen A.seat A.view players.new.items)) }
 {
     end_noted::<B, A>(players, noted);
-    settle(rt, alloc, script, book, players, liars, gate)?;
+    settle(alloc, script, book, players, liars, gate)?;
     Ok(())
 }

@@ -47,5 +47,5 @@ where
         liars,
         noted,
     } = take_out(alloc, script, &book, nodes)?;
-    finish::<B, A, R, G>(rt, alloc, script, book, players, liars, &noted, gate)
+    finish::<B, A, G>(alloc, script, book, players, liars, &noted, gate)
 }

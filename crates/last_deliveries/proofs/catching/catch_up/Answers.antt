@@ -1,20 +1,17 @@
-use Rattle.std.proofs.Common.{refl}
-use Rattle.hb_rules.specs.declared.report.Fate.TheVariants.{Running}
-use Rattle.actor_cell.specs.Held.{player_at}
-use Rattle.actor_cell.specs.Turning.{IsShown}
-use Rattle.actor_cell.proofs.Turnings.{IsShown-fates}
-use Rattle.last_deliveries.specs.Settling.{player_of}
-use Rattle.last_deliveries.proofs.Players.{IsOfRun-shown, ended_not_full}
+use Rattle.std.proofs.Common.{refl, sym, ◌∙◌}
+use Rattle.last_deliveries.proofs.Catches.{running_fate}
+use Rattle.last_deliveries.proofs.Players.{works_on}
 use Rattle.last_deliveries.proofs.catching.catch_up.Goals as goal
 
-pub returns-in-Memory-clause-of_run : goal.returns-in-Memory-clause-of_run
-returns-in-Memory-clause-of_run g c =
-    let b = g.B.Book in
-    let a = g.A.Actor in
-    let f = c.args.player.now.fate in
-    let o = player_at b.config b.node b.actor b.seen a.seat a.view c.args.player.now.actor Running in
-    let m = player_at b.config b.node b.actor b.seen a.seat a.view c.ends_by.new.actor Running in
-    let p = player_of b.config b.node b.actor b.seen a.seat a.view c.args.player.now in
-    let q = player_at b.config b.node b.actor b.seen a.seat a.view c.ends_by.new.actor f in
-    let shown : IsShown p q = IsShown-fates o m f f c.ends_by.ensures.shown in
-    IsOfRun-shown c.args.script.now p q shown refl (ended_not_full f c.in-Memory.is) c.requires.of_run
+pub returns-then-not-is_running-clause-all : goal.returns-then-not-is_running-clause-all
+returns-then-not-is_running-clause-all g c =
+    λ running. absurd (works_on c.args.player.now.fate running (sym c.is_running.ensures ∙ c.if-not-is_running.true))
+
+pub returns-then-not-is_running-clause-unheard : goal.returns-then-not-is_running-clause-unheard
+returns-then-not-is_running-clause-unheard g c = λ none. (none, refl)
+
+pub receive-requires-clause-running : goal.receive-requires-clause-running
+receive-requires-clause-running g c κs within = running_fate c.args.player.now.fate (sym c.is_running.ensures ∙ c.if-not-is_running.false)
+
+pub receive-requires-clause-before : goal.receive-requires-clause-before
+receive-requires-clause-before g c κs within = c.requires.before (running_fate c.args.player.now.fate (sym c.is_running.ensures ∙ c.if-not-is_running.false))

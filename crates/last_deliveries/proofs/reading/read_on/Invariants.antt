@@ -11,9 +11,10 @@ invariant-loop-k g l =
     let b = g.B.Book in
     let a = g.A.Actor in
     record {
-      count : length l.posts ≡ l.k;
-      more : IsPrefix l.fn.posts l.posts;
-      front : IsPrefix l.posts (b.seen (a.seat l.actor));
+      count : length l.posts.posts ≡ l.k;
+      more : IsPrefix l.fn.posts.posts l.posts.posts;
+      first : l.posts.first ≡ l.fn.posts.first;
+      front : IsPrefix l.posts.posts (b.seen (a.seat l.actor));
       seat : b.knows l.book (a.seat l.actor);
       moved : b.moved (b.node (a.seat l.fn.actor)) (b.actor (a.seat l.fn.actor)) l.fn.book l.book;
       shown : IsShown (player_at b.config b.node b.actor b.seen a.seat a.view l.fn.actor Running) (player_at b.config b.node b.actor b.seen a.seat a.view l.actor Running);

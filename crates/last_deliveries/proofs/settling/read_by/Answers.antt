@@ -1,20 +1,17 @@
-use Rattle.std.proofs.Common.{◌≢◌, Some, refl, sym, ap, ◌∙◌, slice_get, Result, Ok, Err}
-use Rattle.std.specs.Prelude.{IfOk}
+use Rattle.std.proofs.Common.{◌≢◌, Some, refl, sym, ap, ◌∙◌, slice_get}
 use Rattle.std.proofs.lemmas.Option.{slice_get-get_or}
 use Rattle.hb_rules.specs.declared.report.Fate.TheVariants.{Running, Full}
 use Rattle.step_driver.specs.declared.player.Player.{Player}
 use Rattle.actor_cell.specs.Held.{player_at}
 use Rattle.actor_cell.specs.Turning.{IsShown}
 use Rattle.actor_cell.proofs.Turnings.{IsShown-fates}
-use Rattle.last_deliveries.specs.Settling.{player_of, players_of, IsOfRun, HasGoneOn}
-use Rattle.last_deliveries.proofs.Players.{IsOfRun-shown, HasGoneOn-refl, HasGoneOn-then, HasGoneOn-shown}
+use Rattle.last_deliveries.specs.Catching.{HasLooked}
+use Rattle.last_deliveries.specs.Settling.{player_of, players_of, IsOfRun}
+use Rattle.last_deliveries.proofs.Catches.{IfOk-on, HasLooked-refl, HasLooked-then}
+use Rattle.last_deliveries.proofs.Players.{IsOfRun-shown}
 use Rattle.last_deliveries.proofs.Settles.{view_at, All-served, All-view, AllZip-served, view_served, some_at}
 use Rattle.last_deliveries.proofs.Zips.{AllZip-refl}
 use Rattle.last_deliveries.proofs.settling.read_by.Goals as goal
-
-IfOk-on : {T E : Type 0} (P Q : T → Type 0) (r : Result T E) → ((x : T) → P x → Q x) → IfOk r P → IfOk r Q
-IfOk-on P Q (Ok x) on holds = on x holds
-IfOk-on P Q (Err e) on holds = tt
 
 pub returns-clause-players : goal.returns-clause-players
 returns-clause-players g c =
@@ -36,8 +33,8 @@ returns-clause-players g c =
     (All-view (IsOfRun c.args._script.now) (player_of b.config b.node b.actor b.seen a.seat a.view) items c.args.reader old c.requires.within c.index_mut-player.ensures.value c.requires.players))
     c.requires.players
 
-pub returns-clause-went : goal.returns-clause-went
-returns-clause-went g c =
+pub returns-clause-looked : goal.returns-clause-looked
+returns-clause-looked g c =
     let b = g.B.Book in
     let a = g.A.Actor in
     let items = c.args.players.now.items in
@@ -48,8 +45,8 @@ returns-clause-went g c =
     let p = player_of b.config b.node b.actor b.seen a.seat a.view old in
     let q = player_of b.config b.node b.actor b.seen a.seat a.view new in
     let shown : IsShown p q = IsShown-fates o m old.fate old.fate c.read_on.ensures.shown in
-    AllZip-served HasGoneOn HasGoneOn-then (player_of b.config b.node b.actor b.seen a.seat a.view) (players_of b.config b.node b.actor b.seen a.seat a.view items) items c.args.reader old new
-    c.requires.within c.index_mut-player.ensures.value (AllZip-refl HasGoneOn HasGoneOn-refl (players_of b.config b.node b.actor b.seen a.seat a.view items)) (HasGoneOn-shown p q shown (λ _. refl))
+    AllZip-served HasLooked HasLooked-then (player_of b.config b.node b.actor b.seen a.seat a.view) (players_of b.config b.node b.actor b.seen a.seat a.view items) items c.args.reader old new
+    c.requires.within c.index_mut-player.ensures.value (AllZip-refl HasLooked HasLooked-refl (players_of b.config b.node b.actor b.seen a.seat a.view items)) (record { shown = shown; fate = refl })
 
 pub returns-clause-read : goal.returns-clause-read
 returns-clause-read g c =

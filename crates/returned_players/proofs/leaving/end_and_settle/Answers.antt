@@ -57,8 +57,8 @@ returns-clause-returned g c =
       length-map ended (player_of b.config b.node b.actor b.seen a.seat a.view),
       length-map liars (seat_at b.config b.node b.actor b.seen),
     ) in (
-      c.in_ok-settle.field-0,
-      HaveReturned-settled s c.in_ok-settle.field-0 (players_of b.config b.node b.actor b.seen a.seat a.view ended)
+      c.in_ok-settle.field-0.posts,
+      HaveReturned-settled s c.in_ok-settle.field-0.posts (players_of b.config b.node b.actor b.seen a.seat a.view ended)
           (players_of b.config b.node b.actor b.seen a.seat a.view c.settle.new.players.items) (seats_at b.config b.node b.actor b.seen liars)
           (seats_at b.config b.node b.actor b.seen c.settle.new.liars.items) back order c.requires.liars count settled.went settled.players settled.watched settled.settled,
     )
