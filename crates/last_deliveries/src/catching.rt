@@ -16,13 +16,13 @@ use net_script::Script;
 use std::alloc::{AllocError, Global};
 use step_driver::{Player, is_running};
 
-// An actor that works, and has received all that come to it of the posts before the new ones, hears those of the new ones
-// that come to it and that it has not received, in their order. Where it was restarted in a delivery it has forgotten what it
-// received, and hears all of these posts that come to it. So it has received each of them then, if it still works. Each
-// delivery is counted.
+// An actor that works hears those of the new posts that come to it and that it has not received, in their order. Of the posts
+// before them it has received all that come to it. Where it was restarted in a delivery it has forgotten what it received,
+// and hears all of these posts that come to it. So it has received each of them then, if it still works. Each delivery is
+// counted.
 //
-// It costs a look at each new post in the two lists where those that may come to it stand, and a mark for each post where all
-// are new; the book is read twice for each post that is delivered. A restart costs a look at each post.
+// It costs a look at each new post in the two lists where those that may come to it stand. Where all are new it costs a mark
+// for each post too. The book is read twice for each post that is delivered. A restart costs a look at each post.
 pub(crate) fn catch_up<B: Book, A: Actor<B>, G: Gate>(
     alloc: Global,
     script: &Script,

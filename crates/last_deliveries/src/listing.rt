@@ -33,7 +33,7 @@ impl Numbers {
         }
     }
 
-    // Adds one behind the others. Err is want of memory, and nothing was added.
+    // Adds one, and keeps the others. Err is want of memory.
     fn push(&mut self, k: u32) -> Result<(), AllocError>
         ensures kept { (j : ℕ) → Contains self.old j → Contains self.new j }
         ensures added { OnOk result (Contains self.new k) }
@@ -49,9 +49,9 @@ impl Numbers {
     }
 }
 
-// Posts in their order, and the numbers of the new ones, those from `first` on, in lists by where their addresses lead: to
-// one node, or to one actor of each node. So an actor finds in two of the lists all new posts that may reach it. Clauses see
-// the posts, and the number of the first new one.
+// Posts in their order; those from `first` on are new. The numbers of the new ones stand in lists by where their addresses
+// lead: to one node, or to one actor of each node. So an actor finds in two of the lists all new posts that may reach it.
+// Clauses see the posts, and the number of the first new one.
 #[derive(Drop)]
 pub(crate) struct ListedPosts {
     posts: Vec<Post>,
@@ -159,8 +159,7 @@ fn no_numbers(alloc: Global) -> Result<Vec<Numbers>, AllocError>
     Ok(lists)
 }
 
-// Adds the number of a post to the list to which its address leads, if there is one. Err is want of memory: nothing was
-// added.
+// Adds the number of a post to the list to which its address leads, if there is one. Err is want of memory.
 fn enter(
     to_nodes: &mut Vec<Numbers>,
     to_actors: &mut Vec<Numbers>,
@@ -180,7 +179,7 @@ fn enter(
     }
 }
 
-// Adds a number to one list. Err is want of memory, and nothing was added.
+// Adds a number to one list. Err is want of memory.
 fn add_to(lists: &mut Vec<Numbers>, number: u8, k: u32) -> Result<(), AllocError>
     requires each { length lists.old.items ≡ 256 }
     ensures kept { IsKept lists.old.items lists.new.items }

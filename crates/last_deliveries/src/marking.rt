@@ -26,8 +26,8 @@ fn marks_of(alloc: Global, numbers: &[u32], count: usize) -> Result<Vec<bool>, A
     Ok(marks)
 }
 
-// What is marked of so many posts that an actor has received: each of them where all are new, and none where it needs no
-// marks to know the new ones from those that it has received.
+// Marks for posts: only one that the actor has received may be marked. Where some are not new none is marked: the new ones
+// came after those that it has received.
 pub(crate) fn marks_for(
     alloc: Global,
     got: &[u32],

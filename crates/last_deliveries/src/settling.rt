@@ -24,19 +24,23 @@ use step_driver::Player;
 /// What the last deliveries of a run came to.
 #[derive(Clone, Copy, Debug, PartialEq, Eq)]
 pub struct Settled {
-    /// How many posts stand: no actor or seat has seen more.
+    /// How many posts there are: no actor or seat has seen more.
     pub posts: u32,
     /// How many deliveries were made.
     pub deliveries: u64,
 }
 
-/// Delivers what is left of a run whose threads have all returned. Posts are read on, each actor that works hears those of
-/// the new ones that come to it and that it has not received, and so again, until no new ones stand. Before each delivery the
-/// gate is entered. An actor that a stop leaves without power is restarted at once, and hears all posts that come to it
-/// again. One with another refusal ends, and so does one that finds no memory for the marks of what it has received, for the
-/// numbers of what it lacks, or to hear a post; the others go on. Err is want of memory to read or to list the posts, or a
-/// book of which an actor or a seat has seen more posts than are read in it, and there is no such book. Some posts may have
-/// been delivered then, and all that is said of actors and seats holds.
+/// Delivers what is left of a run whose threads have all returned. Posts are read on, and each actor that works hears those
+/// of the new ones that come to it and that it has not received. So it goes on until no new ones stand. Before each delivery
+/// the gate is entered.
+///
+/// An actor that a stop leaves without power is restarted at once, and hears all posts that come to it again. One with
+/// another refusal ends. So does one that finds no memory to hear a post, for the marks of what it has received, or for the
+/// numbers of what it lacks. The others go on.
+///
+/// Err is want of memory to read or to list the posts. It is also a book of which somebody has seen more posts than are read
+/// in it, or an actor that works fewer; there is no such book. Some posts may have been delivered then, and all that is said
+/// of actors and seats holds.
 ///
 /// Each post is read and listed once, and again only where the actor that reads has ended by a full book. An actor looks once
 /// at each post in two lists, as `catch_up` tells, and again only after a restart.
@@ -265,8 +269,8 @@ fn catch_up_each<B: NamedBook, A: Actor<B>, G: Gate>(
     }
 }
 
-// Shows that nobody has seen more posts than these, of which each actor that works has received all that come to it, and
-// which one of them has read. Err is a book of which somebody has, and there is no such book.
+// Looks that nobody has seen more posts than so many, and each actor that works as many. Err: want of memory to look, or that
+// it is not so.
 fn close<B: NamedBook, A: Actor<B>>(
     script: &Script,
     book: &mut B,

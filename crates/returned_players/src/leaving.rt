@@ -29,8 +29,8 @@ pub struct Left<S> {
     pub seats: Vec<S>,
 }
 
-/// Ends a run whose workers have returned, with all its actors in order and all seats of its nodes that lie: an actor that
-/// works and whose mailbox refused a number ends for want of memory, what is left to deliver is delivered, and each gives its
+/// Ends a run whose workers have returned, with all its actors in order and all seats of its nodes that lie. An actor that
+/// works and whose mailbox refused a number ends for want of memory. What is left to deliver is delivered, and each gives its
 /// end and its seat. Err is want of memory.
 pub fn finish<B, A, G>(
     alloc: Global,
