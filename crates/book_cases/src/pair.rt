@@ -28,6 +28,7 @@ pub(crate) struct Told<J: Naming> {
 #[derive(Drop)]
 pub(crate) struct Look {
     pub at_0: Result<Option<Post>, AllocError>,
+    pub again_0: Result<Option<Post>, AllocError>,
     pub at_2: Result<Option<Post>, AllocError>,
     pub count: u32,
 }
@@ -85,7 +86,7 @@ pub(crate) fn post_and_read<'a, J: Naming, R: Wait>(
     Ok(shared.read(seat, number)?)
 }
 
-// Reads posts 0 and 2, and asks how many there are.
+// Reads post 0, once more from what the seat keeps of it, and post 2, and asks how many there are.
 fn look_by<'a, J: Naming, R: Wait>(
     rt: &'a R,
     book: &'a PostBook<J>,
@@ -98,10 +99,16 @@ fn look_by<'a, J: Naming, R: Wait>(
 {
     let mut shared = SharedBook::at(rt, book);
     let at_0 = shared.read(seat, 0);
-    let at_2 = shared.read(seat, 2);
+    let again_0 = shared.reread(seat, 0);
+    let at_2 = shared.reread(seat, 2);
     let count = shared.posts(seat);
     seat.seen_is_legal();
-    Look { at_0, at_2, count }
+    Look {
+        at_0,
+        again_0,
+        at_2,
+        count,
+    }
 }
 
 // Posts a vote by two seats, each on a thread of its own.

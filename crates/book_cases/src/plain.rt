@@ -155,7 +155,7 @@ fn is_post(alloc: Global, post: &Post, k: u32) -> Result<bool, AllocError> {
     Ok(same && reach_of(alloc, post)?.as_slice() == reached(k))
 }
 
-// Whether post k is the one of the run, and reaches whom it is to reach. There is no seventh.
+// Whether post k is the one of the run, read twice, and reaches whom it is to reach. There is no seventh.
 fn is_read(
     alloc: Global,
     book: &mut PlainBook,
@@ -165,9 +165,11 @@ fn is_read(
     requires { IsSeatOf book.old seat.old }
     ensures { IsSeatOf book.new seat.new }
 {
-    match book.read(seat, k)? {
-        None => Ok(k == 6),
-        Some(post) => is_post(alloc, &post, k),
+    let first = book.read(seat, k)?;
+    let again = book.reread(seat, k)?;
+    match again {
+        None => Ok(k == 6 && first.is_none()),
+        Some(post) => Ok(first == Some(post.clone()?) && is_post(alloc, &post, k)?),
     }
 }
 

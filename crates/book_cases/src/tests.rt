@@ -30,13 +30,18 @@ fn post_row<J: Naming + Send + Sync, R: Threads + Wait + Sync>(
     post_two::<J, R>(rt, alloc, config, 5, vote, threads)
 }
 
+// Whether a reading gave this post.
+fn is_found(found: &Result<Option<Post>, AllocError>, post: &Post) -> bool {
+    match found {
+        Ok(Some(found)) => found == post,
+        _ => false,
+    }
+}
+
 // Whether the history is the posts of these two nodes' desks, in this order, and was read so.
 fn is_row(alloc: Global, pair: &Pair, one: u8, two: u8) -> Result<bool, AllocError> {
     let posts = [proposed_by(alloc, one)?, proposed_by(alloc, two)?];
-    let first = match &pair.look.at_0 {
-        Ok(Some(post)) => *post == posts[0],
-        _ => false,
-    };
+    let first = is_found(&pair.look.at_0, &posts[0]) && is_found(&pair.look.again_0, &posts[0]);
     let none = match &pair.look.at_2 {
         Ok(None) => true,
         _ => false,

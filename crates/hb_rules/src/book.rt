@@ -43,8 +43,8 @@ impl<T: Drop> From<AllocFailed<T>> for BookFault {
 }
 
 /// One growing list of posts that all actors share. An actor posts and reads by a seat of its own, and a seat is handed
-/// only to the book that made it. The seat of a liar is of its whole node. Each call but `meet` makes what the seat has
-/// seen the whole history of that moment, and leaves what every other seat knows.
+/// only to the book that made it. The seat of a liar is of its whole node. Each call but `reread` and `meet` makes what the
+/// seat has seen the whole history of that moment. Each leaves what every other seat knows.
 pub trait Book {
     type Seat: Drop;
 
@@ -114,6 +114,18 @@ pub trait Book {
         ensures same { (config seat.new ≡ config seat.old) × (node seat.new ≡ node seat.old) × (actor seat.new ≡ actor seat.old) }
         ensures moved { moved (node seat.old) (actor seat.old) self.old self.new }
         ensures whole { is_whole self.old self.new seat.old seat.new }
+        ensures watched { Watched (config seat.old) (node seat.old) (actor seat.old) (seen seat.old) (seen seat.new) }
+        ensures found { IfOk result (λ post. post ≡ slice_get (seen seat.new) k) }
+        ensures known { IfOk result (λ post. IfSome post (λ p. p.from < (config seat.old).n)) }
+        ensures none { length (seen seat.new) ≤ k → IsOk result };
+
+    /// Post k as by `read`, but it need not look at the whole history where the seat's last call was a `read` that found post k.
+    /// So who has just read a post and wants it once more takes no turn for it.
+    fn reread(&mut self, seat: &mut Self::Seat, k: u32) -> Result<Option<Post>, AllocError>
+        requires seat { knows self.old seat.old }
+        ensures seat { knows self.new seat.new }
+        ensures same { (config seat.new ≡ config seat.old) × (node seat.new ≡ node seat.old) × (actor seat.new ≡ actor seat.old) }
+        ensures moved { moved (node seat.old) (actor seat.old) self.old self.new }
         ensures watched { Watched (config seat.old) (node seat.old) (actor seat.old) (seen seat.old) (seen seat.new) }
         ensures found { IfOk result (λ post. post ≡ slice_get (seen seat.new) k) }
         ensures known { IfOk result (λ post. IfSome post (λ p. p.from < (config seat.old).n)) }

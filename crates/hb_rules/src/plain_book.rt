@@ -126,6 +126,10 @@ impl Book for PlainBook {
         self.posts.read(k)
     }
 
+    fn reread(&mut self, seat: &mut PlainSeat, k: u32) -> Result<Option<Post>, AllocError> {
+        self.read(seat, k)
+    }
+
     fn posts(&mut self, seat: &mut PlainSeat) -> u32 {
         seat.look(&self.posts)
     }

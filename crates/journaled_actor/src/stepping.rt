@@ -67,7 +67,7 @@ fn receive<B: Book, C: Core>(
         → C.stands core.old own heard → (C.terms core.old).owed own heard ≡ []
         → HearsPost (C.terms core.old) post own heard due.old.votes due.new.votes (C.stands core.new))) }
 {
-    let found = book.read(seat, k)?;
+    let found = book.reread(seat, k)?;
     let post = found.unwrap();
     got.reserve(1)?;
     hear_post(alloc, &post, core, due)?;

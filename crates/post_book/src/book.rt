@@ -111,7 +111,12 @@ impl<J: Naming> PostBook<J> {
     {
         let seat = self.turns.split(&mut first.seat, number_of(node, actor));
         seat.entries_are_own();
-        SharedSeat { node, actor, seat }
+        SharedSeat {
+            node,
+            actor,
+            seat,
+            last: None,
+        }
     }
 
     /// Takes a seat in: the first seat then knows which posts that seat has made, and has seen the longer of what both had. It
@@ -133,6 +138,7 @@ impl<J: Naming> PostBook<J> {
             node: _,
             actor: _,
             seat,
+            last: _,
         } = seat;
         self.turns.join(&mut first.seat, seat);
     }

@@ -1,9 +1,9 @@
 //! The book as its actors see it.
-ghost use Rattle.std.specs.Prelude.{◌≡◌};
+ghost use Rattle.std.specs.Prelude.{◌≡◌, Ok, Some, IfSome};
 
 use crate::book::PostBook;
 use crate::naming::Naming;
-use crate::seat::SharedSeat;
+use crate::seat::{Found, SharedSeat};
 use hb_base::Bytes;
 use hb_rules::{Book, BookFault, spell_for};
 use hb_wire::{Post, To, Vote};
@@ -33,6 +33,19 @@ impl<'a, R, J: Naming> SharedBook<'a, R, J> {
         ensures { result.book.now ≡ book.now }
     {
         SharedBook { rt, book }
+    }
+}
+
+// What a seat keeps of a reading of post k: a post that was found, unless it has 2^63 - 1 owners.
+fn found_at(k: u32, found: &Result<Option<Post>, AllocError>) -> Option<Found>
+    ensures { IfSome result (λ kept. (kept.k ≡ k) × (found.now ≡ Ok (Some kept.post))) }
+{
+    match found {
+        Ok(Some(post)) => match post.clone() {
+            Ok(post) => Some(Found { k, post }),
+            Err(_) => None,
+        },
+        _ => None,
     }
 }
 
@@ -67,6 +80,7 @@ impl<'a, R: Wait, J: Naming> Book for SharedBook<'a, R, J> {
     fn post(&mut self, seat: &mut SharedSeat<J>, vote: &Vote) -> Result<u32, BookFault> {
         let (node, actor) = (seat.node, seat.actor);
         let book = self.book;
+        seat.last = None;
         let bytes = spell_for(book.alloc, &book.config, node, vote);
         let mut posts = book.begin(self.rt, &mut seat.seat, node, actor);
         let posted = posts.add_vote(node, actor, vote, bytes);
@@ -82,6 +96,7 @@ impl<'a, R: Wait, J: Naming> Book for SharedBook<'a, R, J> {
         bytes: &[u8],
     ) -> Result<u32, BookFault> {
         let book = self.book;
+        seat.last = None;
         let bytes = Bytes::copy(book.alloc, bytes);
         let mut posts = book.begin(self.rt, &mut seat.seat, seat.node, seat.actor);
         let posted = posts.add_lie(seat.node, as_actor, to, bytes);
@@ -91,14 +106,24 @@ impl<'a, R: Wait, J: Naming> Book for SharedBook<'a, R, J> {
 
     fn read(&mut self, seat: &mut SharedSeat<J>, k: u32) -> Result<Option<Post>, AllocError> {
         let book = self.book;
+        seat.last = None;
         let posts = book.begin(self.rt, &mut seat.seat, seat.node, seat.actor);
         let found = posts.read(k);
         book.pass(&mut seat.seat, posts);
+        seat.last = found_at(k, &found);
         found
+    }
+
+    fn reread(&mut self, seat: &mut SharedSeat<J>, k: u32) -> Result<Option<Post>, AllocError> {
+        match seat.last.take() {
+            Some(found) if found.k == k => Ok(Some(found.post)),
+            _ => self.read(seat, k),
+        }
     }
 
     fn posts(&mut self, seat: &mut SharedSeat<J>) -> u32 {
         let book = self.book;
+        seat.last = None;
         let posts = book.begin(self.rt, &mut seat.seat, seat.node, seat.actor);
         let count = posts.count();
         book.pass(&mut seat.seat, posts);
@@ -107,6 +132,7 @@ impl<'a, R: Wait, J: Naming> Book for SharedBook<'a, R, J> {
 
     fn meet(&mut self, seat: &mut SharedSeat<J>, other: &mut SharedSeat<J>) {
         let book = self.book;
+        seat.last = None;
         seat.seat.entries_are_own();
         book.turns.meet(&mut seat.seat, &mut other.seat);
         seat.seat.entries_are_own();

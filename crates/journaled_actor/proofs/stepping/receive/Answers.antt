@@ -10,7 +10,7 @@ unwrap-post-requires g c =
     let b = g.B.Book in
     let s = c.args.seat.now in
     let old = b.seen s in
-    let new = b.seen c.read.new.seat in
+    let new = b.seen c.reread.new.seat in
     let did = c.in_ok-found.ensures in
     let r = received (g.C.Core.terms c.args.core.now) (b.config s) old new c.args.k c.in_ok-found.found c.requires.is.config_is
     (watched_prefix (b.config s) (b.node s) (b.actor s) old new did.watched) c.requires.post did.found did.known in
@@ -22,7 +22,7 @@ hear_post-requires g c =
     let t = g.C.Core.terms c.args.core.now in
     let s = c.args.seat.now in
     let old = b.seen s in
-    let new = b.seen c.read.new.seat in
+    let new = b.seen c.reread.new.seat in
     let did = c.in_ok-found.ensures in
     let r = received t (b.config s) old new c.args.k c.in_ok-found.found c.requires.is.config_is
     (watched_prefix (b.config s) (b.node s) (b.actor s) old new did.watched) c.requires.post did.found did.known in
