@@ -1,6 +1,6 @@
 -- Each call keeps the rule of a mailbox.
 use Rattle.std.proofs.Common.{◌≡◌, ◌≢◌, ℕ, suc, cond, ◌+◌, ◌^◌, ◌≤◌, true, false, true≢false, List, [], ◌∷◌, ◌++◌, map, length, set, get_or}
-use Rattle.std.proofs.Common.{Option, None, Some, MatchOption, IfNone, sym, refl, ap, ◌∙◌, subst, append_assoc, append-nil, eq-eqb, ne_eqb, arith}
+use Rattle.std.proofs.Common.{Result, Ok, Err, OnErr, sym, refl, ap, ◌∙◌, subst, append_assoc, append-nil, eq-eqb, ne_eqb, arith}
 use mathlib.Core.Option.{some, some-injective, some-ne-none}
 use mathlib.Core.Logic.{dite}
 use native.Mathlib.Decide.{dec_le, ℕ_discrete}
@@ -9,10 +9,10 @@ use Rattle.std.proofs.Math.ListN.{length-set, length-append}
 use Rattle.crossbeam_queue.specs.Fifo.{Pushes, Pops, Forks, Merges, Learns}
 use Rattle.crossbeam_queue.proofs.Lists.{set_else}
 use Rattle.mailbox.specs.declared.rule.View.{View}
-use Rattle.mailbox.specs.Interleaving.{IsInterleaving, HasAll}
+use Rattle.mailbox.specs.Interleaving.{IsInterleaving, HasAll, IsMoreLeft}
 use Rattle.mailbox.specs.Shares.{AreAtMost, parts_of, AreWhole}
-use Rattle.mailbox.specs.Ordered.{view_of, putter, opener, spent, halved, other_half, put_side, take_side, after_put, after_take, asked_once, joined_with}
-use Rattle.mailbox.specs.Ordered.{receipt_of, told_by}
+use Rattle.mailbox.specs.Ordered.{view_of, putter, taker, opener, spent, halved, other_half, put_side, take_side, after_put, after_take, asked_once, joined_with}
+use Rattle.mailbox.specs.Ordered.{receipt_of, witness_of, told_by}
 use Rattle.mailbox.specs.Ordered.{pass_number, joined_place, Put, all_of, sent_by, total, FitsPass, IsInOrder}
 use Rattle.mailbox.proofs.Places.{within, stands, get_or-length, get_or-snoc_here, get_or-snoc_else, EachView, EachView-set, EachView-snoc}
 use Rattle.mailbox.proofs.Places.{total-set, total-snoc, others_none}
@@ -60,7 +60,7 @@ other_put taker_number taken log finest by x number v apart old = let put : Put 
   };
 }
 
-pub puts : (n port : ℕ) (v : View) (x splits : ℕ) → v ≡ putter splits v.sent → Pushes IsInOrder n port v x (λ w. w ≡ after_put v x)
+pub puts : (n port : ℕ) (v : View) (x splits : ℕ) → v ≡ putter splits v.sent v.asked → Pushes IsInOrder n port v x (λ w. w ≡ after_put v x)
 puts n port v x splits is items views _ b at =
     let w : View = after_put v x in
     let put : Put = record { sender = pass_number port; number = x } in
@@ -86,35 +86,6 @@ puts n port v x splits is items views _ b at =
               takes = λ t. absurd (true≢false (sym t ∙ ap (λ (u : View). u.takes) is));
             }
             (λ j u apart e. other_put b.taker_number b.taken b.log b.finest port x j u apart (b.fits j u e));
-      },
-      refl,
-    )
-
-pub takes : (port : ℕ) (v : View) → v.takes ≡ true → Pops IsInOrder port v (λ x w. w ≡ after_take v x)
-takes port v may x items views b at =
-    let w : View = after_take v x in
-    let taken : List ℕ = b.taken ++ x ∷ [] in
-    let old = b.fits port v at in
-    let mine = old.takes may in (
-      w,
-      record {
-        taker_number = b.taker_number;
-        taken = taken;
-        log = b.log;
-        finest = b.finest;
-        in_order = b.in_order ∙ sym (append_assoc b.taken (x ∷ []) items);
-        whole = let s = total-set (λ u. parts_of b.finest u.splits) views port v w at in let t = b.whole in omega arith;
-        none_beyond = λ number far. b.none_beyond number (subst (λ k. k ≤ number) (length-set views port w) far);
-        fits = EachView-set (FitsPass b.taker_number taken b.log b.finest) views port w
-            record {
-              sent_is = old.sent_is;
-              coarse = old.coarse;
-              idle = old.idle;
-              own = old.own;
-              takes = λ _. record { one = mine.one; taken_is = ap (λ l. l ++ x ∷ []) mine.taken_is; silent = mine.silent; known = mine.known };
-            }
-            (λ j u apart e. let o = b.fits j u e in
-            record { sent_is = o.sent_is; coarse = o.coarse; idle = o.idle; own = o.own; takes = λ t. absurd (apart ((o.takes t).one ∙ sym mine.one)) });
       },
       refl,
     )
@@ -145,14 +116,48 @@ learns port v items views b at may =
           (others_silent items views b port v at mine.silent (whole_parts b.finest v.splits old.coarse whole)) order mine.known,
     )
 
--- a pass that was asked once more and found nothing knows that its own numbers were taken
-pub own_taken : (found : Option ℕ) (v m after : View) (Taken : ℕ → Type 0) → m ≡ asked_once v → v.takes ≡ true
-    → MatchOption found ((after ≡ m) × (m.takes ≡ true → HasAll m.joined (m.taken ++ []) × HasAll (m.own ∷ []) (m.taken ++ [])
-    × (AreWhole m.splits → IsInterleaving m.joined (m.taken ++ [])))) Taken
-    → IfNone found (HasAll (v.own ∷ []) (v.taken ++ []))
-own_taken None v m after Taken is may told =
-    subst (λ (u : View). HasAll (u.own ∷ []) (u.taken ++ [])) is (told.1 (ap (λ (u : View). u.takes) is ∙ may)).1
-own_taken (Some x) v m after Taken is may told = tt
+pub takes : (port : ℕ) (v : View) → v.takes ≡ true → Pops IsInOrder port v (λ x w. (w ≡ after_take v x) × (AreWhole v.splits → IsMoreLeft v.joined v.taken))
+takes port v may x items views b at =
+    let w : View = after_take v x in
+    let taken : List ℕ = b.taken ++ x ∷ [] in
+    let old = b.fits port v at in
+    let mine = old.takes may in (
+      w,
+      record {
+        taker_number = b.taker_number;
+        taken = taken;
+        log = b.log;
+        finest = b.finest;
+        in_order = b.in_order ∙ sym (append_assoc b.taken (x ∷ []) items);
+        whole = let s = total-set (λ u. parts_of b.finest u.splits) views port v w at in let t = b.whole in omega arith;
+        none_beyond = λ number far. b.none_beyond number (subst (λ k. k ≤ number) (length-set views port w) far);
+        fits = EachView-set (FitsPass b.taker_number taken b.log b.finest) views port w
+            record {
+              sent_is = old.sent_is;
+              coarse = old.coarse;
+              idle = old.idle;
+              own = old.own;
+              takes = λ _. record { one = mine.one; taken_is = ap (λ l. l ++ x ∷ []) mine.taken_is; silent = mine.silent; known = mine.known };
+            }
+            (λ j u apart e. let o = b.fits j u e in
+            record { sent_is = o.sent_is; coarse = o.coarse; idle = o.idle; own = o.own; takes = λ t. absurd (apart ((o.takes t).one ∙ sym mine.one)) });
+      },
+      (refl, λ whole. (x ∷ items, omega arith, (learns port v (x ∷ items) views b at may).2 whole)),
+    )
+
+-- a put pass that was asked once more is still one
+pub still_puts : (v w : View) (splits : ℕ) → v ≡ putter splits v.sent v.asked → w ≡ asked_once v → w ≡ putter splits w.sent w.asked
+still_puts v w splits is after = let now : w ≡ putter splits v.sent (v.asked + 1) = after ∙ ap asked_once is in
+    subst (λ (u : View). u ≡ putter splits u.sent u.asked) (sym now) refl
+
+-- what is left behind numbers that were taken meanwhile was left before them
+pub was_left : {T E : Type 0} (r : Result T E) (v w : View) (more : List ℕ) (asked : ℕ) (own : List ℕ)
+    → w ≡ taker v.splits (v.taken ++ more) v.joined asked own → AreWhole v.splits → (AreWhole w.splits → IsMoreLeft w.joined w.taken)
+    → OnErr r (IsMoreLeft v.joined v.taken)
+was_left (Ok x) v w more asked own is whole left = tt
+was_left (Err x) v w more asked own is whole left =
+    let after = subst (λ (u : View). AreWhole u.splits → IsMoreLeft u.joined u.taken) is left whole in
+    (more ++ after.0, omega (arith, length-append more after.0), subst (IsInterleaving v.joined) (append_assoc v.taken more after.0) after.2)
 
 pub all_taken : (lists : List (List ℕ)) (taken : List ℕ) → HasAll lists (taken ++ []) → HasAll lists taken
 all_taken lists taken all = rw (append-nil taken) at all
@@ -192,12 +197,12 @@ forks_sides port v may items views b at =
     }
 
 -- beside a pass comes one with no right, which has put nothing, and the first is changed in nothing but how often it was asked
-forks_beside : (port : ℕ) (v : View) (asked : ℕ) (own : List ℕ)
+forks_beside : (port : ℕ) (v : View) (asked told : ℕ) (own : List ℕ)
     → ((items : List ℕ) (views : List View) (b : IsInOrder items views) → get_elem? views port ≡ some v → HasAll (own ∷ []) (all_of b.log))
-    → Forks IsInOrder port v (view_of v.takes v.splits v.sent v.taken v.joined asked v.own) (view_of false [] [] [] [] 0 own)
-forks_beside port v asked own among items views b at =
+    → Forks IsInOrder port v (view_of v.takes v.splits v.sent v.taken v.joined asked v.own) (view_of false [] [] [] [] told own)
+forks_beside port v asked told own among items views b at =
     let left : View = view_of v.takes v.splits v.sent v.taken v.joined asked v.own in
-    let right : View = view_of false [] [] [] [] 0 own in
+    let right : View = view_of false [] [] [] [] told own in
     let vs : List View = set views port left in
     let old = b.fits port v at in
     let f : View → ℕ = λ u. parts_of b.finest u.splits in
@@ -232,12 +237,16 @@ forks_beside port v asked own among items views b at =
 
 -- a call changes nothing but how often the pass was asked
 pub forks_asked : (port : ℕ) (v : View) → Forks IsInOrder port v (asked_once v) spent
-forks_asked port v = forks_beside port v (v.asked + 1) [] (λ items views b at. has_nothing (all_of b.log))
+forks_asked port v = forks_beside port v (v.asked + 1) 0 [] (λ items views b at. has_nothing (all_of b.log))
+
+-- a witness tells how often the pass was asked
+pub forks_witness : (port : ℕ) (v : View) → Forks IsInOrder port v v (witness_of v)
+forks_witness port v = forks_beside port v v.asked v.asked [] (λ items views b at. has_nothing (all_of b.log))
 
 -- a receipt tells what was put through the pass
 pub forks_receipt : (port : ℕ) (v : View) → Forks IsInOrder port v v (receipt_of v)
 forks_receipt port v =
-    forks_beside port v v.asked v.sent (λ items views b at.
+    forks_beside port v v.asked 0 v.sent (λ items views b at.
     subst (λ (sent : List ℕ). HasAll (sent ∷ []) (all_of b.log)) (b.fits port v at).sent_is (has_sent (pass_number port) b.log))
 
 total-finer : (finest : ℕ) (views : List View) → ((number : ℕ) (v : View) → get_elem? views number ≡ some v → AreAtMost finest v.splits)

@@ -1,5 +1,5 @@
 -- One list that several lists were put into, each in its own order.
-use Rattle.std.specs.Prelude.{◌≡◌, ◌<◌, ℕ, List, length, [], ◌∷◌, if◌then◌else◌, ◌==◌, slice_index_or}
+use Rattle.std.specs.Prelude.{◌≡◌, ◌<◌, ℕ, List, length, [], ◌∷◌, ◌++◌, if◌then◌else◌, ◌==◌, slice_index_or}
 
 -- numbers, each beside the place of the list that it comes from: the numbers alone, in order
 abbrev pub numbers : List (ℕ × ℕ) → List ℕ
@@ -18,3 +18,7 @@ IsInterleaving lists whole = (places : List (ℕ × ℕ)) × (numbers places ≡
 -- the same, but for other numbers that `whole` may have between them
 abbrev pub HasAll : List (List ℕ) → List ℕ → Type 0
 HasAll lists whole = (places : List (ℕ × ℕ)) × (numbers places ≡ whole) × ((k : ℕ) → k < length lists → numbers_at k places ≡ slice_index_or lists k [])
+
+-- after these numbers there are more, at least one, and all together have each number of each list once and no other
+abbrev pub IsMoreLeft : List (List ℕ) → List ℕ → Type 0
+IsMoreLeft lists taken = (rest : List ℕ) × (0 < length rest) × IsInterleaving lists (taken ++ rest)

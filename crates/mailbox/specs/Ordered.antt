@@ -10,9 +10,9 @@ abbrev pub view_of : Bool → List ℕ → List ℕ → List ℕ → List (List 
 view_of takes splits sent taken joined asked own =
     record { takes = takes; splits = splits; sent = sent; taken = taken; joined = joined; asked = asked; own = own }
 
--- a put pass that comes from so many splits
-abbrev pub putter : ℕ → List ℕ → View
-putter splits sent = view_of false (splits ∷ []) sent [] [] 0 []
+-- a put pass that comes from so many splits, and was asked so often to put
+abbrev pub putter : ℕ → List ℕ → ℕ → View
+putter splits sent asked = view_of false (splits ∷ []) sent [] [] asked []
 
 -- the take pass, which has taken in put passes with these splits and these lists, was asked so often for a number, and was told
 -- of these own numbers
@@ -50,6 +50,10 @@ asked_once v = view_of v.takes v.splits v.sent v.taken v.joined (v.asked + 1) v.
 
 abbrev pub joined_with : View → View → View
 joined_with v w = view_of v.takes (v.splits ++ w.splits) v.sent v.taken (v.joined ++ w.sent ∷ []) v.asked v.own
+
+-- a pass with no right, by which an end of the queue is looked at: it tells how often the take pass was asked when it was made
+abbrev pub witness_of : View → View
+witness_of v = view_of false [] [] [] [] v.asked []
 
 -- a pass with no right, which tells what was put through a put pass so far
 abbrev pub receipt_of : View → View

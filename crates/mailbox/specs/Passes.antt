@@ -5,21 +5,22 @@ use Rattle.atomic_blocks.specs.Laid.{WebId}
 use Rattle.atomic_blocks.specs.declared.web.Seat.{Seat}
 use Rattle.crossbeam_queue.specs.declared.seg_queue.Going.{Going}
 use Rattle.crossbeam_queue.specs.declared.seg_queue.Stage.{Stage}
-use Rattle.crossbeam_queue.specs.declared.seg_queue.Stage.TheVariants.{SawTail}
+use Rattle.crossbeam_queue.specs.declared.seg_queue.Stage.TheVariants.{SawHead, SawTail}
 use Rattle.mailbox.specs.declared.rule.View.{View}
 use Rattle.mailbox.specs.Ordered.{putter, taker}
 
--- the mailbox that it belongs to, how many splits it comes from, what it put, in order, and whether the last that it
--- saw of the queue is a place which needs a new block of memory, or the end of the queue's 2 ^ 62 places
+-- the mailbox that it belongs to, how many splits it comes from, what it put, in order, how often it was asked to put, and
+-- whether it saw since it was asked last a place which needs a new block of memory, or the end of the queue's 2 ^ 62 places
 pub record PutPassView : Type 0 where
   pub at : WebId
   pub splits : ℕ
   pub put : List ℕ
+  pub asked : ℕ
   pub needs_block : Bool
 
 -- the mailbox that it belongs to, what it took, in order, and of the put passes that it took in how many splits each comes
--- from and what each put, in order; how often it was asked for a number; and what was put through the pass that it was told of
--- last, up to the last `put_own`
+-- from and what each put, in order; how often it was asked for a number; what was put through the pass that it was told of
+-- last, up to the last `put_own`; and whether, since it was asked last, both ends of the queue were seen at one place
 pub record TakePassView : Type 0 where
   pub at : WebId
   pub taken : List ℕ
@@ -27,6 +28,7 @@ pub record TakePassView : Type 0 where
   pub joined : List (List ℕ)
   pub asked : ℕ
   pub own : List ℕ
+  pub saw_empty : Bool
 
 abbrev pub QueueSeat : Type 0
 QueueSeat = Seat (Option ℕ) (Going ℕ View) Global
@@ -51,20 +53,33 @@ put_pass_view seat = record {
   at = seat.web;
   splits = slice_index (known_to seat).splits 0;
   put = (known_to seat).sent;
+  asked = (known_to seat).asked;
   needs_block = saw_no_room seat.me.view.stage seat.me.view.at;
 }
 
 abbrev pub IsPutSeat : QueueSeat → Type 0
-IsPutSeat seat = IsFree seat × (known_to seat ≡ putter (slice_index (known_to seat).splits 0) (known_to seat).sent)
+IsPutSeat seat = IsFree seat × (known_to seat ≡ putter (slice_index (known_to seat).splits 0) (known_to seat).sent (known_to seat).asked)
 
-abbrev pub take_pass_view : QueueSeat → TakePassView
-take_pass_view seat = record {
+abbrev pub saw_head : Stage → Bool
+saw_head SawHead = true
+saw_head _ = false
+
+-- one pass saw the front of the queue and another its back, at the same place, and both were made when the take pass had been
+-- asked so often
+abbrev pub is_empty_seen : ℕ → QueueSeat → QueueSeat → Bool
+is_empty_seen asked front back = saw_head front.me.view.stage && saw_tail back.me.view.stage && front.me.view.at == back.me.view.at
+    && (known_to front).asked == asked && (known_to back).asked == asked
+
+-- the seat of a take pass, and those of the passes by which the ends of the queue were seen
+abbrev pub take_pass_view : QueueSeat → QueueSeat → QueueSeat → TakePassView
+take_pass_view seat front back = record {
   at = seat.web;
   taken = (known_to seat).taken;
   splits = (known_to seat).splits;
   joined = (known_to seat).joined;
   asked = (known_to seat).asked;
   own = (known_to seat).own;
+  saw_empty = is_empty_seen (known_to seat).asked front back;
 }
 
 abbrev pub IsTakeSeat : QueueSeat → Type 0

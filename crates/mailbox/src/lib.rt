@@ -2,13 +2,13 @@
 //! the take pass. Each number that is put comes out once, and the numbers of one put pass in their order.
 #![tactic(auto)]
 
-ghost use Rattle.std.specs.Prelude.{◌≡◌, ℕ, ◌+◌, true, List, [], ◌∷◌, ◌++◌, map, All, IfNone, IfOk, IfErr, OnOk, OnErr, MatchOption};
-ghost use Rattle.mailbox.specs.Interleaving.{HasAll, IsInterleaving};
+ghost use Rattle.std.specs.Prelude.{◌≡◌, ℕ, ◌+◌, true, List, [], ◌∷◌, ◌++◌, map, All, IfNone, IfSome, IfOk, IfErr, OnOk, OnErr, MatchOption};
+ghost use Rattle.mailbox.specs.Interleaving.{HasAll, IsInterleaving, IsMoreLeft};
 ghost use Rattle.mailbox.specs.Shares.{AreWhole};
 ghost use Rattle.mailbox.specs.Ordered.{putter, taker, after_put, after_take, asked_once, joined_with};
 
 use crossbeam_queue::{RuledSegQueue, SegPass};
-use rule::{Asks, Halves, InOrder, Joins, Puts, Receipts, Sides, Takes, Tells, View};
+use rule::{Asks, Halves, InOrder, Joins, Looks, Puts, Receipts, Sides, Takes, Tells, View};
 use std::alloc::{AllocError, Global};
 use std::marker::Model;
 use std::sync::Wait;
@@ -42,8 +42,8 @@ impl Drop for Mailbox {
 }
 
 /// The right of one sender to put numbers into one mailbox. It has no bytes. A contract sees the mailbox's name,
-/// how many splits the pass comes from, the list of what was put through it, and whether the last place that it saw
-/// needs a new block of memory.
+/// how many splits the pass comes from, the list of what was put through it, how often it was asked to put, and whether it
+/// saw since then a place that needs a new block of memory.
 #[derive(Drop)]
 pub struct PutPass {
     seat: LinePass,
@@ -61,10 +61,12 @@ impl Model for PutPass {
 
 /// The right of the one receiver to take numbers from one mailbox. It has no bytes. A contract sees the mailbox's
 /// name, the list of what was taken, of the put passes that were handed in the splits and the lists of what was put, how
-/// often it was asked for a number, and the receiver's own numbers that it was told of (`put_own`).
+/// often it was asked for a number, the receiver's own numbers that it was told of (`put_own`), and whether both ends of the
+/// mailbox's queue were seen at one place since it was asked last.
 #[derive(Drop)]
 pub struct TakePass {
     seat: LinePass,
+    last: Look,
 }
 
 impl Model for TakePass {
@@ -72,9 +74,16 @@ impl Model for TakePass {
 
     ghost Value = { TakePassView };
 
-    ghost view = { λ p. take_pass_view p.seat };
+    ghost view = { λ p. take_pass_view p.seat p.last.front p.last.back };
 
     ghost invariant = { λ p. IsTakeSeat p.seat };
+}
+
+// Two passes with no right, by which the front and the back of the queue were looked at.
+#[derive(Drop)]
+struct Look {
+    front: LinePass,
+    back: LinePass,
 }
 
 /// A law of the condition of `close`: the first pass alone is the whole right to put, and a split, of whichever
@@ -86,20 +95,25 @@ pub fn split_keeps_whole()
 {}
 
 impl Mailbox {
-    ghost use Rattle.mailbox.specs.Passes.{IsFree, IsPutSeat, IsTaker, IsTakerAsKnown, known_to, saw_no_room};
+    ghost use Rattle.mailbox.specs.Passes.{IsFree, IsPutSeat, IsTaker, IsTakerAsKnown, known_to, saw_no_room, is_empty_seen};
 
     /// An empty mailbox with its first put pass, which has the whole right to put, and its take pass. The error is
     /// want of memory.
     pub fn new(alloc: Global) -> Result<(Mailbox, PutPass, TakePass), AllocError>
-        ensures put { IfOk result (λ r. (r.1.at ≡ r.0) × (r.1.splits ≡ 0) × (r.1.put ≡ [])) }
+        ensures put { IfOk result (λ r. (r.1.at ≡ r.0) × (r.1.splits ≡ 0) × (r.1.put ≡ []) × (r.1.asked ≡ 0)) }
         ensures take { IfOk result (λ r. (r.2.at ≡ r.0) × (r.2.taken ≡ []) × (r.2.splits ≡ []) × (r.2.joined ≡ []) × (r.2.asked ≡ 0) × (r.2.own ≡ [])) }
     {
         let (line, mut first) = Line::with_rule(alloc)?;
-        let second = line.another::<Sides>(&mut first);
+        let mut second = line.another::<Sides>(&mut first);
+        let front = line.another::<Looks>(&mut second);
+        let back = line.another::<Looks>(&mut second);
         Ok((
             Mailbox { line },
             PutPass { seat: first },
-            TakePass { seat: second },
+            TakePass {
+                seat: second,
+                last: Look { front, back },
+            },
         ))
     }
 
@@ -107,18 +121,20 @@ impl Mailbox {
     #[tactic(auto, using(crate::proofs::Moves::forks_halves))]
     pub fn split(&self, pass: &mut PutPass) -> PutPass
         requires { pass.old.at ≡ self.now }
-        ensures same { (pass.new.at ≡ pass.old.at) × (pass.new.splits ≡ pass.old.splits + 1) × (pass.new.put ≡ pass.old.put) }
-        ensures new { (result.at ≡ self.now) × (result.splits ≡ pass.old.splits + 1) × (result.put ≡ []) }
+        ensures same { (pass.new.at ≡ pass.old.at) × (pass.new.splits ≡ pass.old.splits + 1) × (pass.new.put ≡ pass.old.put) × (pass.new.asked ≡ pass.old.asked) }
+        ensures new { (result.at ≡ self.now) × (result.splits ≡ pass.old.splits + 1) × (result.put ≡ []) × (result.asked ≡ 0) }
     {
         let seat = self.line.another::<Halves>(&mut pass.seat);
         PutPass { seat }
     }
 
     /// Puts `number` behind all that is in the mailbox. The error hands the number back, and comes only at a place that
-    /// needs a new block, for which there was no memory, or after 2^62 puts.
+    /// needs a new block, for which there was no memory, or after 2^62 puts. The pass counts each call (`asked`), and what it
+    /// saw before is forgotten then: so a refusal has looked at the queue in this very call.
     pub fn put<R: Wait>(&self, rt: &R, pass: &mut PutPass, number: u32) -> Result<(), u32>
         requires { pass.old.at ≡ self.now }
         ensures same { (pass.new.at ≡ pass.old.at) × (pass.new.splits ≡ pass.old.splits) }
+        ensures asked { pass.new.asked ≡ pass.old.asked + 1 }
         ensures put { OnOk result (pass.new.put ≡ pass.old.put ++ number ∷ []) }
         ensures back { IfErr result (λ back. back ≡ number) }
         ensures none { OnErr result (pass.new.put ≡ pass.old.put) }
@@ -137,6 +153,7 @@ impl Mailbox {
     ) -> Result<(), u32>
         requires { (take.old.at ≡ self.now) × (own.old.at ≡ self.now) }
         ensures same { (own.new.at ≡ own.old.at) × (own.new.splits ≡ own.old.splits) }
+        ensures asked { own.new.asked ≡ own.old.asked + 1 }
         ensures put { OnOk result (own.new.put ≡ own.old.put ++ number ∷ []) }
         ensures told { OnOk result (take.new ≡ record take.old { own = own.new.put }) }
         ensures back { IfErr result (λ back. back ≡ number) }
@@ -149,8 +166,8 @@ impl Mailbox {
     }
 
     /// Takes the oldest number. After `None` what was taken has all that was put through the passes that were handed in, and the
-    /// receiver's own numbers that the pass was told of. Of the others no clause says anything, since they may put at once. The
-    /// pass counts each call (`asked`), whatever comes of it: no clause says that the call looked into the mailbox.
+    /// receiver's own numbers that the pass was told of. The pass counts each call (`asked`), and `None` comes only where both
+    /// ends of the queue were seen at one place since this count (`looked`), and so nothing lay between them.
     #[tactic(auto, using(crate::proofs::Moves::all_taken))]
     pub fn take<R: Wait>(&self, rt: &R, pass: &mut TakePass) -> Option<u32>
         requires { pass.old.at ≡ self.now }
@@ -159,9 +176,17 @@ impl Mailbox {
         ensures asked { pass.new.asked ≡ pass.old.asked + 1 }
         ensures empty { IfNone result (HasAll pass.old.joined pass.old.taken) }
         ensures own { IfNone result (HasAll (pass.old.own ∷ []) pass.old.taken) }
+        ensures looked { IfNone result (pass.new.saw_empty ≡ true) }
         ensures taken { MatchOption result (pass.new.taken ≡ pass.old.taken) (λ number. pass.new.taken ≡ pass.old.taken ++ number ∷ []) }
     {
-        self.pop(rt, &mut pass.seat)
+        self.ask(&mut pass.seat);
+        match self.search(rt, &mut pass.seat) {
+            Ok(number) => Some(number),
+            Err(look) => {
+                pass.last = look;
+                None
+            }
+        }
     }
 
     /// Hands in a put pass, through which nothing more is put. It takes no memory.
@@ -176,7 +201,7 @@ impl Mailbox {
 
     /// Ends the mailbox and gives what was not taken, in order. It asks for all passes: the shares of the put passes,
     /// those handed in before among them, are the whole right to put. What was taken and then the rest is an
-    /// interleaving of what the put passes put. The error is want of memory, and drops the rest.
+    /// interleaving of what the put passes put. The error is want of memory, comes only where something is left, and drops it.
     pub fn close<R: Wait>(
         self,
         rt: &R,
@@ -186,9 +211,10 @@ impl Mailbox {
     ) -> Result<Vec<u32>, AllocError>
         requires same { (take.at ≡ self) × All (λ p. p.at ≡ self) puts.items }
         requires all { AreWhole (take.splits ++ map (λ p. p.splits) puts.items) }
-        ensures { IfOk result (λ rest. IsInterleaving (take.joined ++ map (λ p. p.put) puts.items) (take.taken ++ rest.items)) }
+        ensures rest { IfOk result (λ rest. IsInterleaving (take.joined ++ map (λ p. p.put) puts.items) (take.taken ++ rest.items)) }
+        ensures left { OnErr result (IsMoreLeft (take.joined ++ map (λ p. p.put) puts.items) take.taken) }
     {
-        let TakePass { mut seat } = take;
+        let TakePass { mut seat, last: _ } = take;
         self.join_all(&mut seat, puts);
         self.drain(rt, alloc, &mut seat)
     }
@@ -196,23 +222,70 @@ impl Mailbox {
     // The take pass learns what was put through a put pass.
     fn tell(&self, take: &mut TakePass, own: &mut PutPass)
         requires { (take.old.at ≡ self.now) × (own.old.at ≡ self.now) }
-        ensures same { (own.new.at ≡ own.old.at) × (own.new.splits ≡ own.old.splits) × (own.new.put ≡ own.old.put) }
+        ensures same { (own.new.at ≡ own.old.at) × (own.new.splits ≡ own.old.splits) × (own.new.put ≡ own.old.put) × (own.new.asked ≡ own.old.asked) }
         ensures told { take.new ≡ record take.old { own = own.old.put } }
     {
         let receipt = self.line.another::<Receipts>(&mut own.seat);
         self.line.absorb::<Tells>(&mut take.seat, receipt);
     }
 
+    // The pass counts that it was asked. What it saw of the queue before no clause of the kit tells from here on.
+    fn ask(&self, seat: &mut LinePass)
+        requires { (seat.old.web ≡ self.now) × IsFree seat.old }
+        ensures { (seat.new.web ≡ self.now) × IsFree seat.new × (known_to seat.new ≡ asked_once (known_to seat.old)) }
+    {
+        let _ = self.line.another::<Asks>(seat);
+    }
+
     // One step of a put pass: the number goes to the back of the queue.
     fn push<R: Wait>(&self, rt: &R, seat: &mut LinePass, number: u32) -> Result<(), u32>
         requires { (seat.old.web ≡ self.now) × IsPutSeat seat.old }
         ensures seat { (seat.new.web ≡ self.now) × IsFree seat.new }
-        ensures put { OnOk result (known_to seat.new ≡ after_put (known_to seat.old) number) }
+        ensures put { OnOk result (known_to seat.new ≡ after_put (asked_once (known_to seat.old)) number) }
         ensures back { IfErr result (λ back. back ≡ number) }
-        ensures none { OnErr result (known_to seat.new ≡ known_to seat.old) }
+        ensures none { OnErr result (known_to seat.new ≡ asked_once (known_to seat.old)) }
         ensures no_room { OnErr result (saw_no_room seat.new.me.view.stage seat.new.me.view.at ≡ true) }
     {
+        self.ask(seat);
         self.line.push_as::<Puts, R>(rt, seat, number)
+    }
+
+    // The front and the back of the queue, each seen by a new pass, where they are at one place.
+    fn look(&self, seat: &mut LinePass) -> Option<Look>
+        requires { (seat.old.web ≡ self.now) × IsFree seat.old }
+        ensures seat { (seat.new.web ≡ self.now) × IsFree seat.new × (known_to seat.new ≡ known_to seat.old) }
+        ensures empty { IfSome result (λ look. is_empty_seen (known_to seat.old).asked look.front look.back ≡ true) }
+    {
+        let mut front = self.line.another::<Looks>(seat);
+        let mut back = self.line.another::<Looks>(seat);
+        let head = self.line.head(&mut front);
+        let tail = self.line.tail(&mut back);
+        if head / 2 == tail / 2 {
+            Some(Look { front, back })
+        } else {
+            None
+        }
+    }
+
+    // The number at the front of the queue, or a look at the ends that shows that there is none.
+    fn search<R: Wait>(&self, rt: &R, seat: &mut LinePass) -> Result<u32, Look>
+        requires { IsTakerAsKnown self.now seat.old }
+        ensures seat { (seat.new.web ≡ self.now) × IsFree seat.new }
+        ensures taken { IfOk result (λ number. known_to seat.new ≡ after_take (known_to seat.old) number) }
+        ensures none { OnErr result (known_to seat.new ≡ known_to seat.old) }
+        ensures looked { IfErr result (λ look. is_empty_seen (known_to seat.old).asked look.front look.back ≡ true) }
+        ensures empty { OnErr result (HasAll (known_to seat.old).joined ((known_to seat.old).taken ++ [])) }
+        ensures own { OnErr result (HasAll ((known_to seat.old).own ∷ []) ((known_to seat.old).taken ++ [])) }
+    {
+        for _ in rt.forever() {
+            if let Some(number) = self.pop(rt, seat) {
+                return Ok(number);
+            }
+            if let Some(look) = self.look(seat) {
+                return Err(look);
+            }
+        }
+        unreachable!()
     }
 
     // The number at the front of the queue, if any. Where there is none, the take pass has taken all that was put through the
@@ -220,12 +293,12 @@ impl Mailbox {
     fn pop<R: Wait>(&self, rt: &R, seat: &mut LinePass) -> Option<u32>
         requires { IsTakerAsKnown self.now seat.old }
         ensures seat { (seat.new.web ≡ self.now) × IsFree seat.new }
-        ensures taken { MatchOption result (known_to seat.new ≡ asked_once (known_to seat.old)) (λ number. known_to seat.new ≡ after_take (asked_once (known_to seat.old)) number) }
+        ensures taken { MatchOption result (known_to seat.new ≡ known_to seat.old) (λ number. known_to seat.new ≡ after_take (known_to seat.old) number) }
+        ensures more { IfSome result (λ number. AreWhole (known_to seat.old).splits → IsMoreLeft (known_to seat.old).joined (known_to seat.old).taken) }
         ensures empty { IfNone result (HasAll (known_to seat.old).joined ((known_to seat.old).taken ++ [])) }
         ensures own { IfNone result (HasAll ((known_to seat.old).own ∷ []) ((known_to seat.old).taken ++ [])) }
         ensures all { IfNone result (AreWhole (known_to seat.old).splits → IsInterleaving (known_to seat.old).joined ((known_to seat.old).taken ++ [])) }
     {
-        let _ = self.line.another::<Asks>(seat);
         self.line.pop_as::<Takes, R>(rt, seat)
     }
 
@@ -233,7 +306,7 @@ impl Mailbox {
     fn take_in(&self, seat: &mut LinePass, put: PutPass)
         requires put { put.at ≡ self.now }
         requires taker { IsTakerAsKnown self.now seat.old }
-        ensures { IsTaker self.now (joined_with (known_to seat.old) (putter put.splits put.put)) seat.new }
+        ensures { IsTaker self.now (joined_with (known_to seat.old) (putter put.splits put.put put.asked)) seat.new }
     {
         let PutPass { seat: other } = put;
         self.line.absorb::<Joins>(seat, other);
@@ -251,7 +324,7 @@ impl Mailbox {
         }
     }
 
-    // Takes until the queue is empty. Room is reserved first, so that no number is lost for want of memory.
+    // Takes until the queue is empty. Memory is asked for only once a number was taken, so it lacks only where one is left.
     fn drain<R: Wait>(
         &self,
         rt: &R,
@@ -260,13 +333,13 @@ impl Mailbox {
     ) -> Result<Vec<u32>, AllocError>
         requires whole { AreWhole (known_to seat.old).splits }
         requires taker { IsTakerAsKnown self.now seat.old }
-        ensures { IfOk result (λ rest. IsInterleaving (known_to seat.old).joined ((known_to seat.old).taken ++ rest.items)) }
+        ensures rest { IfOk result (λ rest. IsInterleaving (known_to seat.old).joined ((known_to seat.old).taken ++ rest.items)) }
+        ensures left { OnErr result (IsMoreLeft (known_to seat.old).joined (known_to seat.old).taken) }
     {
         let mut rest = Vec::new(alloc);
         for _ in rt.forever() {
-            rest.reserve(1)?;
             match self.pop(rt, seat) {
-                Some(number) => rest.push_reserved(number),
+                Some(number) => rest.push(number)?,
                 None => return Ok(rest),
             }
         }

@@ -1,6 +1,6 @@
 //! What the passes of a mailbox know of its queue, and the rule that each call keeps.
 ghost use Rattle.std.specs.Prelude.{◌≡◌, ◌++◌, ◌∷◌, [], true};
-ghost use Rattle.mailbox.specs.Interleaving.{HasAll, IsInterleaving};
+ghost use Rattle.mailbox.specs.Interleaving.{HasAll, IsInterleaving, IsMoreLeft};
 ghost use Rattle.mailbox.specs.Shares.{AreWhole};
 
 use crossbeam_queue::protocol::{Join, Lesson, Outcome, Protocol, Split};
@@ -59,13 +59,14 @@ impl Outcome<u32, View> for Puts {
 
 pub struct Takes;
 
+// Once the passes taken in are the whole right to put, whoever takes a number knows that one was left.
 impl Outcome<u32, View> for Takes {
     ghost use Rattle.mailbox.specs.Ordered.{after_take};
 
-    ghost then = { λ v x w. w ≡ after_take v x };
+    ghost then = { λ v x w. (w ≡ after_take v x) × (AreWhole v.splits → IsMoreLeft v.joined v.taken) };
 }
 
-// A call that asks for a number is counted. Beside the take pass comes a pass with no right at all, which is dropped.
+// A call that asks to put or for a number is counted. Beside the pass comes a pass with no right at all, which is dropped.
 pub struct Asks;
 
 impl Split<View> for Asks {
@@ -74,6 +75,17 @@ impl Split<View> for Asks {
     ghost left = { asked_once };
 
     ghost right = { λ v. spent };
+}
+
+// Beside the take pass comes a pass with no right, by which an end of the queue is looked at.
+pub struct Looks;
+
+impl Split<View> for Looks {
+    ghost use Rattle.mailbox.specs.Ordered.{witness_of};
+
+    ghost left = { λ v. v };
+
+    ghost right = { witness_of };
 }
 
 // What was taken and then what is left has all that the passes which were taken in had put, and the own numbers that the take

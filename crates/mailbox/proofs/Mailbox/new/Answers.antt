@@ -1,6 +1,6 @@
 use Rattle.std.proofs.Common.{ap}
 use Rattle.mailbox.specs.declared.rule.View.{View}
-use Rattle.mailbox.proofs.Moves.{begins, forks_sides}
+use Rattle.mailbox.proofs.Moves.{begins, forks_sides, forks_witness}
 use Rattle.mailbox.proofs.Mailbox.new.Goals as goal
 
 pub with_rule-requires : goal.with_rule-requires
@@ -8,3 +8,9 @@ with_rule-requires c = begins
 
 pub another-second-requires-clause-rule : goal.another-second-requires-clause-rule
 another-second-requires-clause-rule c = forks_sides _ _ (ap (λ (v : View). v.takes) c.in_ok-line.ensures.2)
+
+pub another-front-requires-clause-rule : goal.another-front-requires-clause-rule
+another-front-requires-clause-rule c = forks_witness _ _
+
+pub another-back-requires-clause-rule : goal.another-back-requires-clause-rule
+another-back-requires-clause-rule c = forks_witness _ _

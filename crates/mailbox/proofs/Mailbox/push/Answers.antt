@@ -1,5 +1,5 @@
-use Rattle.mailbox.proofs.Moves.{puts}
+use Rattle.mailbox.proofs.Moves.{puts, still_puts}
 use Rattle.mailbox.proofs.Mailbox.push.Goals as goal
 
 pub push_as-requires-clause-rule : goal.push_as-requires-clause-rule
-push_as-requires-clause-rule g c = λ n. puts n _ _ _ _ c.requires.1.1
+push_as-requires-clause-rule g c = λ n. puts n _ _ _ _ (still_puts _ _ _ c.requires.1.1 c.ask.ensures.2)

@@ -1,0 +1,5 @@
+use Rattle.mailbox.proofs.Moves.{forks_asked}
+use Rattle.mailbox.proofs.Mailbox.ask.Goals as goal
+
+pub another-requires-clause-rule : goal.another-requires-clause-rule
+another-requires-clause-rule c = forks_asked _ _
