@@ -1,5 +1,5 @@
 -- Each call keeps the rule of a mailbox.
-use Rattle.std.proofs.Common.{◌≡◌, ◌≢◌, ℕ, suc, cond, ◌+◌, ◌^◌, ◌≤◌, true, false, true≢false, List, [], ◌∷◌, ◌++◌, map, length, set, get_or}
+use Rattle.std.proofs.Common.{◌≡◌, ◌≢◌, ℕ, suc, cond, ◌+◌, ◌^◌, ◌≤◌, Bool, true, false, true≢false, List, [], ◌∷◌, ◌++◌, map, length, set, get_or}
 use Rattle.std.proofs.Common.{Result, Ok, Err, OnErr, sym, refl, ap, ◌∙◌, subst, append_assoc, append-nil, eq-eqb, ne_eqb, arith}
 use mathlib.Core.Option.{some, some-injective, some-ne-none}
 use mathlib.Core.Logic.{dite}
@@ -13,7 +13,7 @@ use Rattle.mailbox.specs.Interleaving.{IsInterleaving, HasAll, IsMoreLeft}
 use Rattle.mailbox.specs.Shares.{AreAtMost, parts_of, AreWhole}
 use Rattle.mailbox.specs.Ordered.{view_of, putter, taker, opener, spent, halved, other_half, put_side, take_side, after_put, after_take, asked_once, joined_with}
 use Rattle.mailbox.specs.Ordered.{receipt_of, witness_of, told_by}
-use Rattle.mailbox.specs.Ordered.{pass_number, joined_place, Put, all_of, sent_by, total, FitsPass, IsInOrder}
+use Rattle.mailbox.specs.Ordered.{pass_number, joined_place, Put, all_of, sent_by, total, FitsPass, IsDated, IsInOrder}
 use Rattle.mailbox.proofs.Places.{within, stands, get_or-length, get_or-snoc_here, get_or-snoc_else, EachView, EachView-set, EachView-snoc}
 use Rattle.mailbox.proofs.Places.{total-set, total-snoc, others_none}
 use Rattle.mailbox.proofs.Parts.{AreAtMost-finer, AreAtMost-halved, AreAtMost-append, parts_of-append, parts_of-finer, parts_of-halved}
@@ -26,6 +26,7 @@ begins = record {
   taken = [];
   log = [];
   finest = 0;
+  asked = 0;
   in_order = refl;
   whole = refl;
   none_beyond = λ _ _. refl;
@@ -37,6 +38,8 @@ begins = record {
         own = has_nothing [];
         takes = λ _. record { one = refl; taken_is = refl; silent = refl; known = λ _. refl };
       };
+  dated = EachView-snoc (λ _ v. IsDated 0 v) [] opener (λ _ v e. absurd (some-ne-none v (sym e)))
+      record { taker = λ _. refl; witness = λ t. absurd (true≢false t) };
 }
 
 -- what is known to be among all puts stays so
@@ -73,6 +76,7 @@ puts n port v x splits is items views _ b at =
         taken = b.taken;
         log = log;
         finest = b.finest;
+        asked = b.asked;
         in_order = all_of-snoc b.log put ∙ ap (λ l. l ++ x ∷ []) b.in_order ∙ append_assoc b.taken items (x ∷ []);
         whole = let s = total-set (λ u. parts_of b.finest u.splits) views port v w at in let t = b.whole in omega arith;
         none_beyond = λ number far. let far' : length views ≤ number = subst (λ k. k ≤ number) (length-set views port w) far in
@@ -86,6 +90,8 @@ puts n port v x splits is items views _ b at =
               takes = λ t. absurd (true≢false (sym t ∙ ap (λ (u : View). u.takes) is));
             }
             (λ j u apart e. other_put b.taker_number b.taken b.log b.finest port x j u apart (b.fits j u e));
+        dated = EachView-set (λ _ u. IsDated b.asked u) views port w
+            (let d = b.dated port v at in record { taker = d.taker; witness = d.witness }) (λ j u _ e. b.dated j u e);
       },
       refl,
     )
@@ -128,6 +134,7 @@ takes port v may x items views b at =
         taken = taken;
         log = b.log;
         finest = b.finest;
+        asked = b.asked;
         in_order = b.in_order ∙ sym (append_assoc b.taken (x ∷ []) items);
         whole = let s = total-set (λ u. parts_of b.finest u.splits) views port v w at in let t = b.whole in omega arith;
         none_beyond = λ number far. b.none_beyond number (subst (λ k. k ≤ number) (length-set views port w) far);
@@ -141,6 +148,8 @@ takes port v may x items views b at =
             }
             (λ j u apart e. let o = b.fits j u e in
             record { sent_is = o.sent_is; coarse = o.coarse; idle = o.idle; own = o.own; takes = λ t. absurd (apart ((o.takes t).one ∙ sym mine.one)) });
+        dated = EachView-set (λ _ u. IsDated b.asked u) views port w
+            (let d = b.dated port v at in record { taker = d.taker; witness = d.witness }) (λ j u _ e. b.dated j u e);
       },
       (refl, λ whole. (x ∷ items, omega arith, (learns port v (x ∷ items) views b at may).2 whole)),
     )
@@ -179,6 +188,7 @@ forks_sides port v may items views b at =
       taken = b.taken;
       log = b.log;
       finest = b.finest;
+      asked = b.asked;
       in_order = b.in_order;
       whole = let s = total-set f views port v left at in let t = total-snoc f vs right in let u = b.whole in omega arith;
       none_beyond = λ number far. b.none_beyond number (let l = length-snoc vs right in omega arith);
@@ -194,25 +204,59 @@ forks_sides port v may items views b at =
             own = old.own;
             takes = λ _. record { one = refl; taken_is = mine.taken_is; silent = refl; known = mine.known };
           };
+      dated = EachView-snoc (λ _ u. IsDated b.asked u) vs right
+          (EachView-set (λ _ u. IsDated b.asked u) views port left
+          record { taker = λ t. absurd (true≢false (sym t)); witness = λ _ _. omega arith } (λ j u _ e. b.dated j u e))
+          record { taker = λ _. (b.dated port v at).taker may; witness = λ t. absurd (true≢false t) };
     }
+
+taker_or : (takes : Bool) → (takes ≡ true → ⊥) → takes ≡ false
+taker_or true never = absurd (never refl)
+taker_or false never = refl
+
+-- beside the one take pass there is no other
+puts_beside : (items : List ℕ) (views : List View) (b : IsInOrder items views) (port : ℕ) (v : View) → get_elem? views port ≡ some v
+    → (j : ℕ) (u : View) → j ≢ port → get_elem? views j ≡ some u → u.takes ≡ true → v.takes ≡ false
+puts_beside items views b port v at j u apart e t = taker_or v.takes (λ may. absurd (apart (((b.fits j u e).takes t).one ∙ sym ((b.fits port v at).takes may).one)))
+
+-- what a fork of one pass leaves to the dates of the others
+still_dated : (items : List ℕ) (views : List View) (b : IsInOrder items views) (port : ℕ) (v : View) → get_elem? views port ≡ some v
+    → (now : ℕ) → b.asked ≤ now → (v.takes ≡ false → now ≡ b.asked)
+    → (j : ℕ) (u : View) → j ≢ port → get_elem? views j ≡ some u → IsDated now u
+still_dated items views b port v at now later others j u apart e = let d = b.dated j u e in record {
+  taker = λ t. d.taker t ∙ sym (others (puts_beside items views b port v at j u apart e t));
+  witness = λ t none. omega (arith, d.witness t none);
+}
+
+-- the dates of a fork: of the pass that is forked, of the one beside it, and of all others
+record AreDated (items : List ℕ) (views : List View) (b : IsInOrder items views) (v left right : View) : Type 0 where
+  now : ℕ
+  later : b.asked ≤ now
+  left_dated : IsDated now left
+  right_dated : IsDated now right
+  others : v.takes ≡ false → now ≡ b.asked
 
 -- beside a pass comes one with no right, which has put nothing, and the first is changed in nothing but how often it was asked
 forks_beside : (port : ℕ) (v : View) (asked told : ℕ) (own : List ℕ)
     → ((items : List ℕ) (views : List View) (b : IsInOrder items views) → get_elem? views port ≡ some v → HasAll (own ∷ []) (all_of b.log))
+    → ((items : List ℕ) (views : List View) (b : IsInOrder items views) → get_elem? views port ≡ some v
+    → AreDated items views b v (view_of v.takes v.splits v.sent v.taken v.joined asked v.own) (view_of false [] [] [] [] told own))
     → Forks IsInOrder port v (view_of v.takes v.splits v.sent v.taken v.joined asked v.own) (view_of false [] [] [] [] told own)
-forks_beside port v asked told own among items views b at =
+forks_beside port v asked told own among dates items views b at =
     let left : View = view_of v.takes v.splits v.sent v.taken v.joined asked v.own in
     let right : View = view_of false [] [] [] [] told own in
     let vs : List View = set views port left in
     let old = b.fits port v at in
     let f : View → ℕ = λ u. parts_of b.finest u.splits in
     let F : ℕ → View → Type 0 = FitsPass b.taker_number b.taken b.log b.finest in
+    let d = dates items views b at in
     let same : length vs ≡ length views = length-set views port left in
     record {
       taker_number = b.taker_number;
       taken = b.taken;
       log = b.log;
       finest = b.finest;
+      asked = d.now;
       in_order = b.in_order;
       whole = let s = total-set f views port v left at in let t = total-snoc f vs right in let u = b.whole in omega arith;
       none_beyond = λ number far. b.none_beyond number (let l = length-snoc vs right in omega arith);
@@ -233,21 +277,56 @@ forks_beside port v asked told own among items views b at =
             own = among items views b at;
             takes = λ t. absurd (true≢false (sym t));
           };
+      dated = EachView-snoc (λ _ u. IsDated d.now u) vs right
+          (EachView-set (λ _ u. IsDated d.now u) views port left d.left_dated (λ j u apart e. still_dated items views b port v at d.now d.later d.others j u apart e))
+          d.right_dated;
     }
 
--- a call changes nothing but how often the pass was asked
-pub forks_asked : (port : ℕ) (v : View) → Forks IsInOrder port v (asked_once v) spent
-forks_asked port v = forks_beside port v (v.asked + 1) 0 [] (λ items views b at. has_nothing (all_of b.log))
+-- a call that asks for a number changes nothing but how often the take pass was asked
+pub forks_asked : (port : ℕ) (v : View) → v.takes ≡ true → Forks IsInOrder port v (asked_once v) spent
+forks_asked port v may = forks_beside port v (v.asked + 1) 0 [] (λ items views b at. has_nothing (all_of b.log)) (λ items views b at. record {
+  now = b.asked + 1;
+  later = omega arith;
+  left_dated = record { taker = λ _. ap (λ n. n + 1) ((b.dated port v at).taker may); witness = λ t. absurd (true≢false (sym may ∙ t)) };
+  right_dated = record { taker = λ t. absurd (true≢false (sym t)); witness = λ _ _. omega arith };
+  others = λ t. absurd (true≢false (sym may ∙ t));
+})
 
--- a witness tells how often the pass was asked
-pub forks_witness : (port : ℕ) (v : View) → Forks IsInOrder port v v (witness_of v)
-forks_witness port v = forks_beside port v v.asked v.asked [] (λ items views b at. has_nothing (all_of b.log))
+-- and so does one that asks to put, of a put pass
+pub forks_asked_put : (port : ℕ) (v : View) (splits : ℕ) → v ≡ putter splits v.sent v.asked → Forks IsInOrder port v (asked_once v) spent
+forks_asked_put port v splits is = forks_beside port v (v.asked + 1) 0 [] (λ items views b at. has_nothing (all_of b.log)) (λ items views b at. record {
+  now = b.asked;
+  later = omega arith;
+  left_dated = record {
+    taker = λ t. absurd (true≢false (sym t ∙ ap (λ (u : View). u.takes) is));
+    witness = λ _ e. let f : splits ∷ [] ≡ [] = sym (ap (λ (u : View). u.splits) is) ∙ e in absurd cc;
+  };
+  right_dated = record { taker = λ t. absurd (true≢false (sym t)); witness = λ _ _. omega arith };
+  others = λ _. refl;
+})
+
+-- a witness tells how often the take pass was asked
+pub forks_witness : (port : ℕ) (v : View) → v.takes ≡ true → Forks IsInOrder port v v (witness_of v)
+forks_witness port v may = forks_beside port v v.asked v.asked [] (λ items views b at. has_nothing (all_of b.log)) (λ items views b at. record {
+  now = b.asked;
+  later = omega arith;
+  left_dated = let d = b.dated port v at in record { taker = d.taker; witness = d.witness };
+  right_dated = record { taker = λ t. absurd (true≢false (sym t)); witness = λ _ _. omega (arith, (b.dated port v at).taker may) };
+  others = λ _. refl;
+})
 
 -- a receipt tells what was put through the pass
 pub forks_receipt : (port : ℕ) (v : View) → Forks IsInOrder port v v (receipt_of v)
 forks_receipt port v =
     forks_beside port v v.asked 0 v.sent (λ items views b at.
     subst (λ (sent : List ℕ). HasAll (sent ∷ []) (all_of b.log)) (b.fits port v at).sent_is (has_sent (pass_number port) b.log))
+    (λ items views b at. record {
+      now = b.asked;
+      later = omega arith;
+      left_dated = let d = b.dated port v at in record { taker = d.taker; witness = d.witness };
+      right_dated = record { taker = λ t. absurd (true≢false (sym t)); witness = λ _ _. omega arith };
+      others = λ _. refl;
+    })
 
 total-finer : (finest : ℕ) (views : List View) → ((number : ℕ) (v : View) → get_elem? views number ≡ some v → AreAtMost finest v.splits)
     → total (λ v. parts_of (finest + 1) v.splits) views ≡ total (λ v. parts_of finest v.splits) views + total (λ v. parts_of finest v.splits) views
@@ -275,6 +354,7 @@ forks_halves port v puts_only items views b at =
       taken = b.taken;
       log = b.log;
       finest = finest;
+      asked = b.asked;
       in_order = b.in_order;
       whole =
           let s = total-set f views port v left at in
@@ -304,6 +384,10 @@ forks_halves port v puts_only items views b at =
             own = has_nothing (all_of b.log);
             takes = λ t. absurd (true≢false (sym t));
           };
+      dated = EachView-snoc (λ _ u. IsDated b.asked u) vs right
+          (EachView-set (λ _ u. IsDated b.asked u) views port left
+          (let d = b.dated port v at in record { taker = d.taker; witness = λ t e. d.witness t (map-nil v.splits e) }) (λ j u _ e. b.dated j u e))
+          record { taker = λ t. absurd (true≢false (sym t)); witness = λ _ _. omega arith };
     }
 
 -- what the passes other than these two see of a renaming
@@ -347,6 +431,8 @@ merges port v other w may puts_only items views b at two at' =
     let l₂ : length ws ≡ length vs = length-set vs other spent in
     let near = within views other w was in
     let Now : ℕ → View → Type 0 = λ j u. j ≢ other → F j u in
+    let both_dated : EachView (λ _ u. IsDated b.asked u) vs = EachView-set (λ _ u. IsDated b.asked u) views port both
+    record { taker = λ _. (b.dated port v at).taker may; witness = λ t. absurd (true≢false (sym may ∙ t)) } (λ j u _ e. b.dated j u e) in
     let now : EachView Now vs = EachView-set Now views port both
     (λ apart. record {
       sent_is = pass_apart b.log other place port apart ∙ old.sent_is;
@@ -372,6 +458,7 @@ merges port v other w may puts_only items views b at two at' =
       taken = b.taken;
       log = log;
       finest = b.finest;
+      asked = b.asked;
       in_order = all_of-renamed other place b.log ∙ b.in_order;
       whole =
           let s = total-set f views port v both at in
@@ -389,6 +476,9 @@ merges port v other w may puts_only items views b at two at' =
             takes = λ t. absurd (true≢false (sym t));
           }
           (λ j u apart e. now j u e apart);
+      dated = EachView-set (λ _ u. IsDated b.asked u) vs other spent
+          record { taker = λ t. absurd (true≢false (sym t)); witness = λ _ _. omega arith }
+          (λ j u _ e. both_dated j u e);
     }
 
 -- the take pass takes in a receipt: of all that it knows no more changes than the own numbers that it was told of
@@ -403,6 +493,8 @@ merges_receipt port v other w u is items views b at two at' =
     let F : ℕ → View → Type 0 = FitsPass b.taker_number b.taken b.log b.finest in
     let l₁ : length vs ≡ length views = length-set views port both in
     let l₂ : length ws ≡ length vs = length-set vs other spent in
+    let both_dated : EachView (λ _ u. IsDated b.asked u) vs = EachView-set (λ _ u. IsDated b.asked u) views port both
+    (let d = b.dated port v at in record { taker = d.taker; witness = d.witness }) (λ j u _ e. b.dated j u e) in
     let now : EachView F vs = EachView-set F views port both
     record {
       sent_is = old.sent_is;
@@ -417,6 +509,7 @@ merges_receipt port v other w u is items views b at two at' =
       taken = b.taken;
       log = b.log;
       finest = b.finest;
+      asked = b.asked;
       in_order = b.in_order;
       whole =
           let s = total-set f views port v both at in
@@ -434,4 +527,7 @@ merges_receipt port v other w u is items views b at two at' =
             takes = λ t. absurd (true≢false (sym t));
           }
           (λ j y apart e. now j y e);
+      dated = EachView-set (λ _ u. IsDated b.asked u) vs other spent
+          record { taker = λ t. absurd (true≢false (sym t)); witness = λ _ _. omega arith }
+          (λ j u _ e. both_dated j u e);
     }

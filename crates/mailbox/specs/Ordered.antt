@@ -106,13 +106,20 @@ pub record FitsPass (taker_number : ℕ) (taken : List ℕ) (log : List Put) (fi
   pub own : HasAll (v.own ∷ []) (all_of log)
   pub takes : v.takes ≡ true → FitsTaker taker_number taken log number v
 
+-- whoever takes was asked so often, and no pass without a share tells of a call that is still to come
+pub record IsDated (asked : ℕ) (v : View) : Type 0 where
+  pub taker : v.takes ≡ true → v.asked ≡ asked
+  pub witness : v.takes ≡ false → v.splits ≡ [] → v.asked ≤ asked
+
 -- there is a log of all puts: what was taken, and then what the queue holds. All shares are the whole right
 pub record IsInOrder (items : List ℕ) (views : List View) : Type 0 where
   pub taker_number : ℕ
   pub taken : List ℕ
   pub log : List Put
   pub finest : ℕ
+  pub asked : ℕ
   pub in_order : all_of log ≡ taken ++ items
   pub whole : total (λ v. parts_of finest v.splits) views ≡ 2 ^ finest
   pub none_beyond : (number : ℕ) → length views ≤ number → sent_by (pass_number number) log ≡ []
   pub fits : (number : ℕ) (v : View) → get_elem? views number ≡ some v → FitsPass taker_number taken log finest number v
+  pub dated : (number : ℕ) (v : View) → get_elem? views number ≡ some v → IsDated asked v

@@ -70,6 +70,10 @@ abbrev pub is_empty_seen : ℕ → QueueSeat → QueueSeat → Bool
 is_empty_seen asked front back = saw_head front.me.view.stage && saw_tail back.me.view.stage && front.me.view.at == back.me.view.at
     && (known_to front).asked == asked && (known_to back).asked == asked
 
+-- they are passes of this mailbox
+abbrev pub AreOf : WebId → QueueSeat → QueueSeat → Type 0
+AreOf at front back = (front.web ≡ at) × (back.web ≡ at)
+
 -- the seat of a take pass, and those of the passes by which the ends of the queue were seen
 abbrev pub take_pass_view : QueueSeat → QueueSeat → QueueSeat → TakePassView
 take_pass_view seat front back = record {

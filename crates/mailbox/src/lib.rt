@@ -70,13 +70,13 @@ pub struct TakePass {
 }
 
 impl Model for TakePass {
-    ghost use Rattle.mailbox.specs.Passes.{TakePassView, take_pass_view, IsTakeSeat};
+    ghost use Rattle.mailbox.specs.Passes.{TakePassView, take_pass_view, IsTakeSeat, AreOf};
 
     ghost Value = { TakePassView };
 
     ghost view = { λ p. take_pass_view p.seat p.last.front p.last.back };
 
-    ghost invariant = { λ p. IsTakeSeat p.seat };
+    ghost invariant = { λ p. IsTakeSeat p.seat × AreOf p.seat.web p.last.front p.last.back };
 }
 
 // Two passes with no right, by which the front and the back of the queue were looked at.
@@ -95,12 +95,12 @@ pub fn split_keeps_whole()
 {}
 
 impl Mailbox {
-    ghost use Rattle.mailbox.specs.Passes.{IsFree, IsPutSeat, IsTaker, IsTakerAsKnown, known_to, saw_no_room, is_empty_seen};
+    ghost use Rattle.mailbox.specs.Passes.{IsFree, IsPutSeat, IsTaker, IsTakerAsKnown, AreOf, known_to, saw_no_room, is_empty_seen};
 
     /// An empty mailbox with its first put pass, which has the whole right to put, and its take pass. The error is
     /// want of memory.
     pub fn new(alloc: Global) -> Result<(Mailbox, PutPass, TakePass), AllocError>
-        ensures put { IfOk result (λ r. (r.1.at ≡ r.0) × (r.1.splits ≡ 0) × (r.1.put ≡ []) × (r.1.asked ≡ 0)) }
+        ensures put { IfOk result (λ r. (r.1.at ≡ r.0) × (r.1.splits ≡ 0) × (r.1.put ≡ [])) }
         ensures take { IfOk result (λ r. (r.2.at ≡ r.0) × (r.2.taken ≡ []) × (r.2.splits ≡ []) × (r.2.joined ≡ []) × (r.2.asked ≡ 0) × (r.2.own ≡ [])) }
     {
         let (line, mut first) = Line::with_rule(alloc)?;
@@ -122,7 +122,7 @@ impl Mailbox {
     pub fn split(&self, pass: &mut PutPass) -> PutPass
         requires { pass.old.at ≡ self.now }
         ensures same { (pass.new.at ≡ pass.old.at) × (pass.new.splits ≡ pass.old.splits + 1) × (pass.new.put ≡ pass.old.put) × (pass.new.asked ≡ pass.old.asked) }
-        ensures new { (result.at ≡ self.now) × (result.splits ≡ pass.old.splits + 1) × (result.put ≡ []) × (result.asked ≡ 0) }
+        ensures new { (result.at ≡ self.now) × (result.splits ≡ pass.old.splits + 1) × (result.put ≡ []) }
     {
         let seat = self.line.another::<Halves>(&mut pass.seat);
         PutPass { seat }
@@ -229,15 +229,16 @@ impl Mailbox {
         self.line.absorb::<Tells>(&mut take.seat, receipt);
     }
 
-    // The pass counts that it was asked. What it saw of the queue before no clause of the kit tells from here on.
+    // The take pass counts that it was asked. So whatever tells of this count was made from here on.
     fn ask(&self, seat: &mut LinePass)
-        requires { (seat.old.web ≡ self.now) × IsFree seat.old }
-        ensures { (seat.new.web ≡ self.now) × IsFree seat.new × (known_to seat.new ≡ asked_once (known_to seat.old)) }
+        requires { IsTakerAsKnown self.now seat.old }
+        ensures { IsTaker self.now (asked_once (known_to seat.old)) seat.new }
     {
         let _ = self.line.another::<Asks>(seat);
     }
 
-    // One step of a put pass: the number goes to the back of the queue.
+    // One step of a put pass, which counts that it was asked: the number goes to the back of the queue. What the pass saw before
+    // it was asked no clause of the kit tells then, so a refusal has looked since.
     fn push<R: Wait>(&self, rt: &R, seat: &mut LinePass, number: u32) -> Result<(), u32>
         requires { (seat.old.web ≡ self.now) × IsPutSeat seat.old }
         ensures seat { (seat.new.web ≡ self.now) × IsFree seat.new }
@@ -246,14 +247,15 @@ impl Mailbox {
         ensures none { OnErr result (known_to seat.new ≡ asked_once (known_to seat.old)) }
         ensures no_room { OnErr result (saw_no_room seat.new.me.view.stage seat.new.me.view.at ≡ true) }
     {
-        self.ask(seat);
+        let _ = self.line.another::<Asks>(seat);
         self.line.push_as::<Puts, R>(rt, seat, number)
     }
 
     // The front and the back of the queue, each seen by a new pass, where they are at one place.
     fn look(&self, seat: &mut LinePass) -> Option<Look>
-        requires { (seat.old.web ≡ self.now) × IsFree seat.old }
-        ensures seat { (seat.new.web ≡ self.now) × IsFree seat.new × (known_to seat.new ≡ known_to seat.old) }
+        requires { IsTakerAsKnown self.now seat.old }
+        ensures seat { IsTaker self.now (known_to seat.old) seat.new }
+        ensures of { IfSome result (λ look. AreOf self.now look.front look.back) }
         ensures empty { IfSome result (λ look. is_empty_seen (known_to seat.old).asked look.front look.back ≡ true) }
     {
         let mut front = self.line.another::<Looks>(seat);
@@ -273,6 +275,7 @@ impl Mailbox {
         ensures seat { (seat.new.web ≡ self.now) × IsFree seat.new }
         ensures taken { IfOk result (λ number. known_to seat.new ≡ after_take (known_to seat.old) number) }
         ensures none { OnErr result (known_to seat.new ≡ known_to seat.old) }
+        ensures of { IfErr result (λ look. AreOf self.now look.front look.back) }
         ensures looked { IfErr result (λ look. is_empty_seen (known_to seat.old).asked look.front look.back ≡ true) }
         ensures empty { OnErr result (HasAll (known_to seat.old).joined ((known_to seat.old).taken ++ [])) }
         ensures own { OnErr result (HasAll ((known_to seat.old).own ∷ []) ((known_to seat.old).taken ++ [])) }

@@ -1,4 +1,4 @@
-use Rattle.std.proofs.Common.{ap}
+use Rattle.std.proofs.Common.{ap, ◌∙◌}
 use Rattle.mailbox.specs.declared.rule.View.{View}
 use Rattle.mailbox.proofs.Moves.{begins, forks_sides, forks_witness}
 use Rattle.mailbox.proofs.Mailbox.new.Goals as goal
@@ -10,7 +10,8 @@ pub another-second-requires-clause-rule : goal.another-second-requires-clause-ru
 another-second-requires-clause-rule c = forks_sides _ _ (ap (λ (v : View). v.takes) c.in_ok-line.ensures.2)
 
 pub another-front-requires-clause-rule : goal.another-front-requires-clause-rule
-another-front-requires-clause-rule c = forks_witness _ _
+another-front-requires-clause-rule c = forks_witness _ _ (ap (λ (v : View). v.takes) c.another-second.ensures.rule.1)
 
 pub another-back-requires-clause-rule : goal.another-back-requires-clause-rule
-another-back-requires-clause-rule c = forks_witness _ _
+another-back-requires-clause-rule c =
+    forks_witness _ _ (ap (λ (v : View). v.takes) c.another-front.ensures.rule.0 ∙ ap (λ (v : View). v.takes) c.another-second.ensures.rule.1)
