@@ -1,5 +1,5 @@
 -- Tables of posts by their places, and what of them an actor hears.
-use Rattle.std.specs.Prelude.{◌≡◌, ℕ, ◌<◌, ◌⊎◌, Bool, false, if◌then◌else◌, List, [], ◌∷◌, ◌++◌, length, Option, Some, None, Contains, map, filter_map, slice_get}
+use Rattle.std.specs.Prelude.{◌≡◌, ℕ, ◌<◌, ◌⊎◌, Bool, false, if◌then◌else◌, List, [], ◌∷◌, ◌++◌, length, Option, Some, None, Contains, map, filter_map, slice_get, vec_len, vec_capacity}
 use Rattle.std.specs.BTreeMap.{BTreeMap, get, is_at}
 use Rattle.std.specs.List.{flat_map}
 use Rattle.std.specs.Option.{option_and_then}
@@ -53,6 +53,15 @@ numbers_at table p = numbers_in (get places.cmp table p)
 -- the votes at a place
 abbrev pub votes_at : Table → Place → List Vote
 votes_at table p = votes_in (get places.cmp table p)
+
+-- a bucket with room for one post more
+abbrev pub HasRoom : Option Bucket → Type 0
+HasRoom None = ⊥
+HasRoom (Some bucket) = (vec_len bucket.numbers < vec_capacity bucket.numbers) × (vec_len bucket.votes < vec_capacity bucket.votes)
+
+-- at a place there is one
+abbrev pub HasRoomAt : Table → Place → Type 0
+HasRoomAt table p = HasRoom (get places.cmp table p)
 
 -- the posts of a history that have these numbers
 abbrev pub posts_of : List Post → List ℕ → List Post

@@ -1,7 +1,7 @@
 //! Posts by their places.
-ghost use Rattle.std.specs.Prelude.{◌≡◌, ◌<◌, [], ◌∷◌, ◌++◌, vec_len, vec_capacity, IsOk, IfOk, OnOk, if◌then◌else◌};
+ghost use Rattle.std.specs.Prelude.{◌≡◌, ◌<◌, ◌≤◌, [], ◌∷◌, ◌++◌, vec_len, vec_capacity, None, IsOk, IfOk, OnOk, if◌then◌else◌};
 ghost use Rattle.post_judge.specs.declared.place.Place.{Place};
-ghost use Rattle.post_judge.specs.Tables.{same_place, numbers_at, votes_at, Adds};
+ghost use Rattle.post_judge.specs.Tables.{same_place, numbers_at, votes_at, HasRoomAt, Adds};
 
 use crate::place::Place;
 use hb_wire::Vote;
@@ -28,12 +28,14 @@ impl Bucket {
         })
     }
 
-    // Puts a number behind the others, and the vote of its post. With room for both it succeeds.
+    // Puts a number behind the others, and the vote of its post. With room for both it succeeds, and it gives no room back.
     fn push(&mut self, number: u32, vote: Vote) -> Result<(), AllocError>
         ensures numbers { OnOk result (self.new.numbers.items ≡ self.old.numbers.items ++ number ∷ []) }
         ensures votes { OnOk result (self.new.votes.items ≡ self.old.votes.items ++ vote ∷ []) }
         ensures enough { vec_len self.old.numbers < vec_capacity self.old.numbers → vec_len self.old.votes < vec_capacity self.old.votes
             → IsOk result }
+        ensures no_less { (vec_capacity self.old.numbers ≤ vec_capacity self.new.numbers)
+            × (vec_capacity self.old.votes ≤ vec_capacity self.new.votes) }
     {
         self.numbers.push(number)?;
         self.votes.push(vote)?;
@@ -69,7 +71,7 @@ impl Buckets {
         }
     }
 
-    // Puts a number behind those at a place, and the vote of its post.
+    // Puts a number behind those at a place, and the vote of its post. Where there is room for both it succeeds.
     fn add(
         &mut self,
         alloc: Global,
@@ -81,6 +83,7 @@ impl Buckets {
             ≡ (if same_place place other then numbers_at self.old.by_place place ++ number ∷ [] else numbers_at self.old.by_place other)) }
         ensures votes { OnOk result ((other : Place) → votes_at self.new.by_place other
             ≡ (if same_place place other then votes_at self.old.by_place place ++ vote ∷ [] else votes_at self.old.by_place other)) }
+        ensures enough { HasRoomAt self.old.by_place place → IsOk result }
     {
         match self.by_place.get_mut(&place) {
             Some(bucket) => {
@@ -96,7 +99,7 @@ impl Buckets {
         }
     }
 
-    // The same, if there is a place. The vote is cloned, and no byte string is copied.
+    // The same, if there is a place; else it does nothing. The vote is cloned, and no byte string is copied.
     pub(crate) fn add_at(
         &mut self,
         alloc: Global,
@@ -104,7 +107,8 @@ impl Buckets {
         number: u32,
         vote: &Vote,
     ) -> Result<(), AllocError>
-        ensures { OnOk result (Adds self.old.by_place self.new.by_place place number vote.now) }
+        ensures ok { OnOk result (Adds self.old.by_place self.new.by_place place number vote.now) }
+        ensures nowhere { place ≡ None → IsOk result }
     {
         match place {
             Some(place) => {

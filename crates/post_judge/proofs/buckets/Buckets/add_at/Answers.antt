@@ -6,8 +6,8 @@ use Rattle.post_judge.specs.Tables.{Adds}
 use Rattle.post_judge.proofs.Adding.{adds_one}
 use Rattle.post_judge.proofs.buckets.Buckets.add_at.Goals as goal
 
-pub returns-in_ok-add-in-Some : goal.returns-in_ok-add-in-Some
-returns-in_ok-add-in-Some c =
+pub returns-in_ok-add-in-Some-clause-ok : goal.returns-in_ok-add-in-Some-clause-ok
+returns-in_ok-add-in-Some-clause-ok c =
     let old = c.args.self.now.by_place in
     let new = c.add.new.self.by_place in
     subst (λ (o : Option Place). Adds old new o c.args.number c.args.vote.now) (sym c.in-Some.is)

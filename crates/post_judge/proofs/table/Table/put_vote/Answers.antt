@@ -13,8 +13,8 @@ returns-clause-told c =
     let new = c.add_at-2.new.self.by_place in
     let number = c.in_ok-number.number in
     AreTold-push t.config t.posts.items old mid new c.args.post.now c.args.vote.now number c.requires.told c.requires.vote c.in_ok-number.ensures.next
-    (subst (λ (o : Option Place). Adds old mid o number c.args.vote.now) c.cast_place-cast.ensures c.in_ok-add_at.ensures)
-    (subst (λ (o : Option Place). Adds mid new o number c.args.vote.now) c.told_place-told.ensures c.in_ok-add_at-2.ensures)
+    (subst (λ (o : Option Place). Adds old mid o number c.args.vote.now) c.cast_place-cast.ensures c.in_ok-add_at.ensures.ok)
+    (subst (λ (o : Option Place). Adds mid new o number c.args.vote.now) c.told_place-told.ensures c.in_ok-add_at-2.ensures.ok)
 
 pub returns-then-was_judged-clause-told : goal.returns-then-was_judged-clause-told
 returns-then-was_judged-clause-told c =
