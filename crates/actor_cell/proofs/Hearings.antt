@@ -38,13 +38,13 @@ pub IsSameSeat-then : (p q r : PlayerView) → IsSameSeat p q → IsSameSeat q r
 IsSameSeat-then p q r one two = record { config = two.config ∙ one.config; node = two.node ∙ one.node; actor = two.actor ∙ one.actor }
 
 pub KeepsTerms-refl : (v : ActorView) → KeepsTerms v v
-KeepsTerms-refl v = record { terms = refl; planned = refl; budget = omega arith }
+KeepsTerms-refl v = record { terms = refl; begun = λ begun. begun; planned = refl; budget = omega arith }
 
 pub KeepsTerms-then : (u v w : ActorView) → KeepsTerms u v → KeepsTerms v w → KeepsTerms u w
-KeepsTerms-then u v w one two = record { terms = two.terms ∙ one.terms; planned = two.planned ∙ one.planned; budget = omega (arith, one.budget, two.budget) }
+KeepsTerms-then u v w one two = record { terms = two.terms ∙ one.terms; begun = λ begun. two.begun (one.begun begun); planned = two.planned ∙ one.planned; budget = omega (arith, one.budget, two.budget) }
 
 pub KeepsTerms-goes : (u v : ActorView) → Goes u v → KeepsTerms u v
-KeepsTerms-goes u v goes = record { terms = goes.terms; planned = goes.planned; budget = goes.budget }
+KeepsTerms-goes u v goes = record { terms = goes.terms; begun = λ _. goes.begun; planned = goes.planned; budget = goes.budget }
 
 -- what an actor tells of its seat
 abbrev pub IsItsSeat : PlayerView → Type 0
@@ -134,6 +134,7 @@ Recovers-again old p q first fault before out out' was is seat seen goes again l
   seen = IsPrefix-then old.seat.seen p.seat.seen q.seat.seen was.seen seen;
   keeps = KeepsTerms-then old.view p.view q.view was.keeps (KeepsTerms-goes p.view q.view goes);
   fate = subst (λ (f : Fate). HasFate true f q.seat q.view) (sym running) live;
+  failed = λ ended. absurd (ended running);
   got = λ k stands. absurd (Contains-none q.view.got k again.got stands);
   again = λ _. (again.got, omega (arith, again.restarts, was.restarts));
   told = λ _.
@@ -168,6 +169,7 @@ Recovers-ended old p first fault before out was not = record {
   seen = was.seen;
   keeps = was.keeps;
   fate = HasFate-fault fault p not was.refused.cause;
+  failed = λ _. was.refused.ended;
   got = was.got;
   again = λ running. absurd (not_running_after fault running);
   told = λ running. absurd (not_running_after fault running);
@@ -182,7 +184,9 @@ Starts-begun old new before after seat seen goes live running got told = record 
   seat = seat;
   seen = seen;
   keeps = KeepsTerms-goes old.view new.view goes;
+  begun = goes.begun;
   fate = subst (λ (f : Fate). HasFate true f new.seat new.view) (sym running) live;
+  failed = λ ended. absurd (ended running);
   none = λ k. Contains-none new.view.got k got;
   told = λ _. told;
 }
@@ -195,7 +199,9 @@ Starts-recovers old p new fault before out after seat seen goes got told recover
   seat = IsSameSeat-then old p new seat recovers.seat;
   seen = IsPrefix-then old.seat.seen p.seat.seen new.seat.seen seen recovers.seen;
   keeps = KeepsTerms-then old.view p.view new.view (KeepsTerms-goes old.view p.view goes) recovers.keeps;
+  begun = recovers.keeps.begun goes.begun;
   fate = recovers.fate;
+  failed = recovers.failed;
   none = λ k stands. Contains-none p.view.got k got (recovers.got k stands);
   told = λ running. told_by_both old p new fault before out after goes told recovers journal running;
 }
@@ -218,6 +224,7 @@ Hears-step k old new before after seat seen goes live running got restarts told 
   seen = seen;
   keeps = KeepsTerms-goes old.view new.view goes;
   fate = subst (λ (f : Fate). HasFate true f new.seat new.view) (sym running) live;
+  failed = λ ended. absurd (ended running);
   got = got_more old.view new.view k (inr got);
   received = λ _. inl (got, restarts);
   told = λ _. told;
@@ -232,6 +239,7 @@ Hears-recovers k old p new fault before out after seat seen goes kept told recov
   seen = IsPrefix-then old.seat.seen p.seat.seen new.seat.seen seen recovers.seen;
   keeps = KeepsTerms-then old.view p.view new.view (KeepsTerms-goes old.view p.view goes) recovers.keeps;
   fate = recovers.fate;
+  failed = recovers.failed;
   got = λ j stands. got_more old.view p.view k kept j (recovers.got j stands);
   received = λ running. inr ((recovers.again running).0, omega (arith, (recovers.again running).1, goes.restarts));
   told = λ running. told_by_both old p new fault before out after goes told recovers journal running;

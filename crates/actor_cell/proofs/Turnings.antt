@@ -93,6 +93,7 @@ Hears-fates k p q f before after hears = record {
   seen = hears.seen;
   keeps = hears.keeps;
   fate = hears.fate;
+  failed = hears.failed;
   got = hears.got;
   received = hears.received;
   told = hears.told;
@@ -159,6 +160,7 @@ IsHeard-ended s k o q out sent comes hears ended = record {
   seen = hears.seen;
   keeps = hears.keeps;
   received = λ running. absurd (ended running);
+  heard = inr (hears.failed ended);
   sent = record { numbers = []; put = refl; all = λ running. absurd (ended running); some = inl refl };
 }
 
@@ -192,6 +194,7 @@ IsHeard-sent s k o m q out front rest before after comes hears running shown par
       seen = more;
       keeps = subst (λ (v : ActorView). KeepsTerms o.view v) (sym shown.view) hears.keeps;
       received = λ _. received_shown k o.view m.view q.view shown.view (hears.received running);
+      heard = inl (received_shown k o.view m.view q.view shown.view (hears.received running));
       sent = HasSent-of s o m q out front rest before after (hears.told running) hears.keeps.terms shown parts all put;
     }
 
@@ -203,6 +206,10 @@ IsHeard-shown s k o m q before after shown heard = record {
   seen = IsPrefix-then o.seat.seen m.seat.seen q.seat.seen (shown_longer o m shown) heard.seen;
   keeps = subst (λ (v : ActorView). KeepsTerms v q.view) shown.view heard.keeps;
   received = λ works. subst (λ (v : ActorView). HasReceived k v q.view) shown.view (heard.received works);
+  heard = elim heard.heard [
+    | inl received ↦ inl (subst (λ (v : ActorView). HasReceived k v q.view) shown.view received)
+    | inr failed ↦ inr failed
+  ];
   sent = record {
     numbers = heard.sent.numbers;
     put = heard.sent.put;
@@ -235,6 +242,7 @@ Begins-ended s o q out sent starts ended = record {
   seat = starts.seat;
   seen = starts.seen;
   keeps = starts.keeps;
+  begun = starts.begun;
   none = starts.none;
   sent = record { numbers = []; put = refl; all = λ running. absurd (ended running); some = inl refl };
 }
@@ -246,6 +254,7 @@ Begins-sent s o m q out front rest before after starts running shown parts all p
   seat = IsSameSeat-then o m q starts.seat shown.seat;
   seen = IsPrefix-then o.seat.seen m.seat.seen q.seat.seen starts.seen (shown_longer m q shown);
   keeps = subst (λ (v : ActorView). KeepsTerms o.view v) (sym shown.view) starts.keeps;
+  begun = ap (λ (v : ActorView). v.fresh) shown.view ∙ starts.begun;
   none = λ k stands. starts.none k (subst (λ (v : ActorView). Contains v.got k) shown.view stands);
   sent = HasSent-of s o m q out front rest before after (starts.told running) starts.keeps.terms shown parts all put;
 }

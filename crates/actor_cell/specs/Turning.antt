@@ -66,11 +66,16 @@ pub record IsShown (old new : PlayerView) : Type 0 where
   pub view : new.view ≡ old.view
   pub others : Told old.view.terms old.seat.seen new.seat.seen [] []
 
--- what no call of an actor changes, or makes more
+-- what no call of an actor changes, or makes more; one that was begun stays so
 pub record KeepsTerms (old new : ActorView) : Type 0 where
   pub terms : new.terms ≡ old.terms
+  pub begun : old.fresh ≡ false → new.fresh ≡ false
   pub planned : new.supply.planned ≡ old.supply.planned
   pub budget : budget new.restarts new.supply ≤ budget old.restarts old.supply
+
+-- a last call has failed, of an actor that has ended
+abbrev pub HasFailed : PlayerView → Type 0
+HasFailed p = ¬ (p.fate ≡ Running) → p.view.live ≡ false
 
 -- It was restarted after a call that failed, or has ended for a cause. The numbers of its own posts were told, if it was
 -- restarted.
@@ -79,6 +84,7 @@ pub record Recovers (old new : PlayerView) (before after : List ℕ) : Type 0 wh
   pub seen : IsPrefix old.seat.seen new.seat.seen
   pub keeps : KeepsTerms old.view new.view
   pub fate : HasFate true new.fate new.seat new.view
+  pub failed : HasFailed new
   pub got : (k : ℕ) → Contains new.view.got k → Contains old.view.got k
   pub again : new.fate ≡ Running → (new.view.got ≡ []) × (old.view.restarts < new.view.restarts)
   pub told : new.fate ≡ Running → Told old.view.terms old.seat.seen new.seat.seen before after
@@ -94,6 +100,7 @@ pub record Hears (k : ℕ) (old new : PlayerView) (before after : List ℕ) : Ty
   pub seen : IsPrefix old.seat.seen new.seat.seen
   pub keeps : KeepsTerms old.view new.view
   pub fate : HasFate true new.fate new.seat new.view
+  pub failed : HasFailed new
   pub got : (j : ℕ) → Contains new.view.got j → Contains old.view.got j ⊎ (j ≡ k)
   pub received : new.fate ≡ Running → HasReceived k old.view new.view
   pub told : new.fate ≡ Running → Told old.view.terms old.seat.seen new.seat.seen before after
@@ -111,7 +118,9 @@ pub record Starts (old new : PlayerView) (before after : List ℕ) : Type 0 wher
   pub seat : IsSameSeat old new
   pub seen : IsPrefix old.seat.seen new.seat.seen
   pub keeps : KeepsTerms old.view new.view
+  pub begun : new.view.fresh ≡ false
   pub fate : HasFate true new.fate new.seat new.view
+  pub failed : HasFailed new
   pub none : (k : ℕ) → ¬ Contains new.view.got k
   pub told : new.fate ≡ Running → Told old.view.terms old.seat.seen new.seat.seen before after
 
@@ -120,6 +129,7 @@ pub record Begins (s : Script) (old new : PlayerView) (before after : Sent) : Ty
   pub seat : IsSameSeat old new
   pub seen : IsPrefix old.seat.seen new.seat.seen
   pub keeps : KeepsTerms old.view new.view
+  pub begun : new.view.fresh ≡ false
   pub none : (k : ℕ) → ¬ Contains new.view.got k
   pub sent : HasSent s old new before after
 
@@ -138,13 +148,14 @@ pub record IsLost (old new : PlayerView) (before after : Sent) : Type 0 where
   pub fate : new.fate ≡ Memory
   pub sent : after ≡ before
 
--- its post was delivered
+-- its post was delivered: the actor has received it, or was restarted, or the call that delivered it failed
 pub record IsHeard (s : Script) (k : ℕ) (old new : PlayerView) (before after : Sent) : Type 0 where
   pub comes : IsReceived s.config s new.seat.seen new.seat.node new.seat.actor k
   pub seat : IsSameSeat old new
   pub seen : IsPrefix old.seat.seen new.seat.seen
   pub keeps : KeepsTerms old.view new.view
   pub received : new.fate ≡ Running → HasReceived k old.view new.view
+  pub heard : HasReceived k old.view new.view ⊎ (new.view.live ≡ false)
   pub sent : HasSent s old new before after
 
 abbrev pub Fares : Script → ℕ → PlayerView → PlayerView → Sent → Sent → Type 0

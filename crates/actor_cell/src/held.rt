@@ -321,6 +321,7 @@ impl<'b, B: NamedBook + Drop, A: Actor<B>, J: RunName> Held<'b, B, A, J> {
         ensures sent { (front rest : List ℕ) × (out.now ≡ front ++ rest) × (self.new.fate ≡ Running → rest ≡ [])
             × ArePut self.old.script.config (deliveries self.old.script.config self.old.script (B.seen (A.seat self.new.actor)) front)
             (sent_of self.old.mail) (sent_of self.new.mail) }
+        ensures looked { self.new.fate ≡ Memory → WasShown B.is_whole B.moved B.seen (B.node (A.seat self.old.actor)) (B.actor (A.seat self.old.actor)) self.old.book self.new.book (A.seat self.new.actor) }
     {
         match send_all(
             rt,

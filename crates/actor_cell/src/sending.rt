@@ -3,7 +3,7 @@
 ghost use Rattle.std.specs.Prelude.{◌≡◌, ℕ, ◌<◌, ◌++◌, [], List, length, OnOk, OnErr, slice_get};
 ghost use Rattle.std.specs.List.{AllByRecursion};
 ghost use Rattle.hb_rules.specs.declared.report.Fate.TheVariants.{Running};
-ghost use Rattle.actor_cell.specs.Held.{player_at};
+ghost use Rattle.actor_cell.specs.Held.{player_at, WasShown};
 ghost use Rattle.actor_cell.specs.Mail.{AreSent, IsSameTaker, of_found, deliveries};
 ghost use Rattle.actor_cell.specs.Turning.{IsShown};
 
@@ -14,7 +14,7 @@ use std::alloc::AllocError;
 use std::sync::Wait;
 
 /// Puts the numbers of these posts, by shape, for all whom they reach. Each post is read by the actor's seat. The error is want
-/// of memory to read one, and the numbers before it were put.
+/// of memory to read one, for which it looked at the whole history, and the numbers before it were put.
 pub fn send_all<R: Wait, B: Book, A: Actor<B>>(
     rt: &R,
     script: &Script,
@@ -34,6 +34,8 @@ pub fn send_all<R: Wait, B: Book, A: Actor<B>>(
     ensures all { OnOk result (AreSent script.now.config (deliveries script.now.config script.now (B.seen (A.seat actor.new)) numbers.now) mail.old mail.new) }
     ensures some { OnErr result ((front rest : List ℕ) × (numbers.now ≡ front ++ rest)
         × AreSent script.now.config (deliveries script.now.config script.now (B.seen (A.seat actor.new)) front) mail.old mail.new) }
+    ensures looked { OnErr result (WasShown B.is_whole B.moved B.seen (B.node (A.seat actor.old)) (B.actor (A.seat actor.old))
+        book.old book.new (A.seat actor.new)) }
 {
     actor.kept();
     for k in numbers {
@@ -60,6 +62,7 @@ fn send_one<R: Wait, B: Book, A: Actor<B>>(
     ensures taker { IsSameTaker mail.old mail.new }
     ensures sent { OnOk result (AreSent script.now.config (of_found script.now.config script.now (slice_get (B.seen (A.seat actor.new)) k) k) mail.old mail.new) }
     ensures none { OnErr result (mail.new ≡ mail.old) }
+    ensures whole { B.is_whole book.old book.new (A.seat actor.old) (A.seat actor.new) }
 {
     actor.kept();
     let found = actor.read(book, k)?;

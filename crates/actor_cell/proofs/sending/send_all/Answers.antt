@@ -3,9 +3,10 @@ use Rattle.std.proofs.lemmas.List.{take_more}
 use Rattle.hb_rules.specs.declared.report.Fate.TheVariants.{Running}
 use Rattle.actor_cell.specs.Held.{player_at}
 use Rattle.actor_cell.specs.Mail.{MailView, AreSent, deliveries}
-use Rattle.actor_cell.proofs.Hearings.{IsShown-then, moved_on, shown_longer, OnErr-any}
+use Rattle.actor_cell.proofs.Hearings.{IsPrefix-refl, IsSameSeat-refl, IsShown-then, moved_on, shown_longer, OnErr-any}
 use Rattle.actor_cell.proofs.Mailing.{IsSameTaker-then}
 use Rattle.actor_cell.proofs.Sendings.{deliveries-more, deliveries-kept, AreStanding-so_far, take_rest}
+use Rattle.actor_cell.proofs.Turnings.{WasShown-look, WasShown-later}
 use Rattle.actor_cell.proofs.sending.send_all.Goals as goal
 
 pub returns-in_err-send_one-clause-shown : goal.returns-in_err-send_one-clause-shown
@@ -29,6 +30,19 @@ returns-in_err-send_one-clause-some g c =
     subst (λ (m : MailView). AreSent s.config (deliveries s.config s q.seat.seen front) c.args.mail.now m) (sym c.in_err-send_one.ensures.none)
     (deliveries-kept s.config s p.seat.seen q.seat.seen front c.args.mail.now c.loop-k.mail (shown_longer p q c.send_one.ensures.shown) stand c.loop-k.invariant.sent) in
     OnErr-any c.from_residual.result _ (front, drop c.loop-k.k-index c.args.numbers.now, take_rest c.args.numbers.now c.loop-k.k-index, sent)
+
+pub returns-in_err-send_one-clause-looked : goal.returns-in_err-send_one-clause-looked
+returns-in_err-send_one-clause-looked g c =
+    let b = g.B.Book in
+    let a = g.A.Actor in
+    let o = player_at b.config b.node b.actor b.seen a.seat a.view c.args.actor.now Running in
+    let p = player_at b.config b.node b.actor b.seen a.seat a.view c.loop-k.actor Running in
+    let last = a.seat c.send_one.new.actor in
+    let new = c.send_one.new.book in
+    OnErr-any c.from_residual.result _
+    (WasShown-later b.is_whole b.moved b.seen g.met.B.Book.goes_on c.args.book.now c.loop-k.book new last o p c.loop-k.invariant.shown.seat c.loop-k.invariant.moved
+    (WasShown-look b.is_whole b.moved b.seen g.met.B.Book.stays c.loop-k.book new new (a.seat c.loop-k.actor) last last p p (IsSameSeat-refl p) c.send_one.ensures.whole
+    (g.met.B.Book.stays p.seat.node p.seat.actor new) (IsPrefix-refl (b.seen last))))
 
 pub loop-k-preserved : goal.loop-k-preserved
 loop-k-preserved g c =

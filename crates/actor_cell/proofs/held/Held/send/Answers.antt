@@ -37,3 +37,6 @@ invariant_of-self-in-Err g c =
 pub returns-in-Ok-clause-sent : goal.returns-in-Ok-clause-sent
 returns-in-Ok-clause-sent g c =
     rw (← c.self.view_is) (c.numbers.result.now, [], sym c.numbers.ensures ∙ sym (append-nil c.numbers.result.now), (λ _. refl), c.in-Ok.ensures.all.put)
+
+pub returns-in-Err-clause-looked : goal.returns-in-Err-clause-looked
+returns-in-Err-clause-looked g c = rw (← c.self.view_is) (λ _. c.in-Err.ensures.looked)
