@@ -1,5 +1,5 @@
 -- The calls of one actor, over any kind of book.
-use Rattle.std.proofs.Common.{◌≡◌, ◌⊎◌, ℕ, ◌≤◌, Bool, true, false, inl, inr, List, [], ◌∷◌, ◌++◌, length, Contains, refl, sym, ap, ◌∙◌, subst, arith, Result, Ok, Err, OnErr, IsErrOf}
+use Rattle.std.proofs.Common.{◌≡◌, ◌⊎◌, ℕ, ◌<◌, ◌≤◌, Bool, true, false, inl, inr, List, [], ◌∷◌, ◌++◌, length, Contains, refl, sym, ap, ◌∙◌, subst, arith, zero, suc, Result, Ok, Err, OnErr, IsErrOf}
 use Rattle.std.proofs.lemmas.List.{append-nil, append_assoc}
 use Rattle.std.proofs.lemmas.List.Elements.{Contains-push_cases}
 use Rattle.hb_base.specs.Numbers.{Numbers}
@@ -8,7 +8,7 @@ use Rattle.disk_model.specs.Supply.{IsNamed}
 use Rattle.hb_rules.specs.declared.actor.ActorFault.{ActorFault}
 use Rattle.hb_rules.specs.declared.actor.ActorFault.TheVariants as faults
 use Rattle.hb_rules.specs.declared.report.Fate.{Fate}
-use Rattle.hb_rules.specs.declared.report.Fate.TheVariants.{Running}
+use Rattle.hb_rules.specs.declared.report.Fate.TheVariants.{Running, Memory}
 use Rattle.hb_rules.specs.Actor.{ActorView, Goes, IsStillOff, IsOnAgain, Told}
 use Rattle.hb_rules.specs.Book.{Watched}
 use Rattle.hb_rules.specs.Ledger.{IsPrefix}
@@ -17,7 +17,7 @@ use Rattle.step_driver.specs.Places.{PlayerView}
 use Rattle.step_driver.specs.Delivering.{HasFate}
 use Rattle.step_driver.specs.Playing.{IsRefused, Explains, fate_of, may_restart}
 use Rattle.step_driver.proofs.Playing.{HasFate-fault}
-use Rattle.actor_cell.specs.Turning.{IsSameSeat, IsShown, KeepsTerms, Recovers, Starts, Hears}
+use Rattle.actor_cell.specs.Turning.{IsSameSeat, IsShown, KeepsTerms, WantedMemory, IsTried, Recovers, Starts, Hears}
 
 pub Contains-none : {A : Type 0} (xs : List A) (x : A) → xs ≡ [] → Contains xs x → ⊥
 Contains-none xs x none stands = omega (arith, stands.1, ap length none)
@@ -65,6 +65,12 @@ IsShown-of old new is same watched view =
 
 -- ---- restarts
 
+-- nothing was done since the first fault, or restarts were tried
+abbrev pub WasTried : PlayerView → PlayerView → ActorFault → ActorFault → Type 0
+WasTried old now first fault =
+    ((now ≡ old) × (fault ≡ first))
+    ⊎ ((may_restart first old.view.supply.off ≡ true) × ((old.view.restarts < now.view.restarts) ⊎ ((fault ≡ faults.Memory) × (now.view.supply.off ≡ true))))
+
 -- an actor whose call was refused, before it is restarted or ends
 pub record IsRecovering (old now : PlayerView) (first fault : ActorFault) (before out : List ℕ) : Type 0 where
   pub seat : IsSameSeat old now
@@ -75,6 +81,7 @@ pub record IsRecovering (old now : PlayerView) (first fault : ActorFault) (befor
   pub restarts : old.view.restarts ≤ now.view.restarts
   pub told : (fault ≡ faults.Memory → ⊥) → Told old.view.terms old.seat.seen now.seat.seen before out
   pub journal : (first ≡ fault) ⊎ (first ≡ faults.Journal)
+  pub tried : WasTried old now first fault
 
 pub IsRecovering-start : (p : PlayerView) (fault : ActorFault) (out : List ℕ) → IsRefused fault p → IsRecovering p p fault fault out out
 IsRecovering-start p fault out refused = record {
@@ -86,6 +93,7 @@ IsRecovering-start p fault out refused = record {
   restarts = omega arith;
   told = λ _. told_refl p.view.terms p.seat.seen out;
   journal = inl refl;
+  tried = inl (refl, refl);
 }
 
 got_after : (old new : ActorView) → IsStillOff old new ⊎ IsOnAgain old new → (k : ℕ) → Contains new.got k → Contains old.got k
@@ -108,11 +116,27 @@ journal_first : (first fault : ActorFault) → (first ≡ fault) ⊎ (first ≡ 
 journal_first first fault (inl same) is = same ∙ is
 journal_first first fault (inr journal) is = journal
 
+pub may_of : (fault : ActorFault) (off is_off told : Bool) → told ≡ may_restart fault is_off → is_off ≡ off → told ≡ true → may_restart fault off ≡ true
+may_of fault off is_off told is same may = ap (λ (o : Bool). may_restart fault o) (sym same) ∙ sym is ∙ may
+
+-- a restart may follow the first fault where one may follow now
+may_first : (old now : PlayerView) (first fault : ActorFault) → WasTried old now first fault → may_restart fault now.view.supply.off ≡ true → may_restart first old.view.supply.off ≡ true
+may_first old now first fault (inl none) may =
+    subst (λ (f : ActorFault). may_restart f old.view.supply.off ≡ true) none.1
+    (subst (λ (p : PlayerView). may_restart fault p.view.supply.off ≡ true) none.0 may)
+may_first old now first fault (inr tried) may = tried.0
+
+switched_on : (old p q : PlayerView) (next : ActorFault) → old.view.restarts ≤ p.view.restarts → IsStillOff p.view q.view ⊎ IsOnAgain p.view q.view
+    → (IsStillOff p.view q.view → next ≡ faults.Memory) → (old.view.restarts < q.view.restarts) ⊎ ((next ≡ faults.Memory) × (q.view.supply.off ≡ true))
+switched_on old p q next restarts (inl still) memory = inr (memory still, still.off)
+switched_on old p q next restarts (inr again) memory = inl (omega (arith, restarts, again.restarts))
+
 -- one more restart was refused
-pub IsRecovering-on : (old p q : PlayerView) (first fault next : ActorFault) (before out out' : List ℕ) → IsRecovering old p first fault before out → fault ≡ faults.Journal
-    → IsSameSeat p q → IsPrefix p.seat.seen q.seat.seen → Goes p.view q.view → IsStillOff p.view q.view ⊎ IsOnAgain p.view q.view → IsRefused next q
+pub IsRecovering-on : (old p q : PlayerView) (first fault next : ActorFault) (before out out' : List ℕ) → IsRecovering old p first fault before out → may_restart fault p.view.supply.off ≡ true
+    → IsSameSeat p q → IsPrefix p.seat.seen q.seat.seen → Goes p.view q.view → IsStillOff p.view q.view ⊎ IsOnAgain p.view q.view
+    → (IsStillOff p.view q.view → next ≡ faults.Memory) → IsRefused next q
     → ((next ≡ faults.Memory → ⊥) → Told p.view.terms p.seat.seen q.seat.seen out out') → IsRecovering old q first next before out'
-IsRecovering-on old p q first fault next before out out' was is seat seen goes either refused told = record {
+IsRecovering-on old p q first fault next before out out' was may seat seen goes either still refused told = record {
   seat = IsSameSeat-then old p q was.seat seat;
   seen = IsPrefix-then old.seat.seen p.seat.seen q.seat.seen was.seen seen;
   keeps = KeepsTerms-then old.view p.view q.view was.keeps (KeepsTerms-goes p.view q.view goes);
@@ -120,9 +144,10 @@ IsRecovering-on old p q first fault next before out out' was is seat seen goes e
   refused = refused;
   restarts = omega (arith, was.restarts, goes.restarts);
   told = λ other.
-      told_trans old.view.terms old.seat.seen p.seat.seen q.seat.seen before out out' (was.told (not_memory fault is))
+      told_trans old.view.terms old.seat.seen p.seat.seen q.seat.seen before out out' (was.told (not_memory fault (journal_of fault p.view.supply.off may)))
       (subst (λ t. Told t p.seat.seen q.seat.seen out out') was.keeps.terms (told other));
-  journal = inr (journal_first first fault was.journal is);
+  journal = inr (journal_first first fault was.journal (journal_of fault p.view.supply.off may));
+  tried = inr (may_first old p first fault was.tried may, switched_on old p q next was.restarts either still);
 }
 
 -- a restart succeeded
@@ -140,6 +165,14 @@ Recovers-again old p q first fault before out out' was is seat seen goes again l
   told = λ _.
       told_trans old.view.terms old.seat.seen p.seat.seen q.seat.seen before out out' (was.told (not_memory fault is))
       (subst (λ t. Told t p.seat.seen q.seat.seen out out') was.keeps.terms told);
+}
+
+-- of what was done after the first fault
+pub IsTried-again : (old p q : PlayerView) (first fault : ActorFault) (before out : List ℕ) → IsRecovering old p first fault before out → may_restart fault p.view.supply.off ≡ true
+    → IsOnAgain p.view q.view → IsTried first old q
+IsTried-again old p q first fault before out was may again = record {
+  on = λ no. absurd (cc (no, may_first old p first fault was.tried may));
+  off = λ _. inl (omega (arith, was.restarts, again.restarts));
 }
 
 pub journal_again : (old p : PlayerView) (first fault : ActorFault) (before out : List ℕ) → IsRecovering old p first fault before out → fault ≡ faults.Journal → first ≡ faults.Journal
@@ -175,6 +208,47 @@ Recovers-ended old p first fault before out was not = record {
   told = λ running. absurd (not_running_after fault running);
 }
 
+pub IsTried-ended : (old p : PlayerView) (first fault : ActorFault) (before out : List ℕ) → IsRecovering old p first fault before out → may_restart fault p.view.supply.off ≡ false
+    → IsTried first old (ended_with p fault)
+IsTried-ended old p first fault before out was not = by was.tried
+  where
+    by : WasTried old p first fault → IsTried first old (ended_with p fault)
+    by (inl none) = record {
+      on = λ _. ap (λ (f : ActorFault). ended_with p f) none.1 ∙ ap (λ (v : PlayerView). ended_with v first) none.0;
+      off = λ may. absurd (cc (may, subst (λ (f : ActorFault). may_restart f old.view.supply.off ≡ false) none.1
+          (subst (λ (v : PlayerView). may_restart fault v.view.supply.off ≡ false) none.0 not)));
+    }
+    by (inr tried) = record {
+      on = λ no. absurd (cc (no, tried.0));
+      off = λ _. elim tried.1 [
+        | inl more ↦ inl more
+        | inr left ↦ inr (ap (λ (f : ActorFault). fate_of f) left.0, left.1)
+      ];
+    }
+
+fate_memory : (fault : ActorFault) → fate_of fault ≡ Memory → fault ≡ faults.Journal → ⊥
+fate_memory faults.Journal is journal = cc (is)
+fate_memory faults.Full is journal = cc (journal)
+fate_memory faults.Memory is journal = cc (journal)
+
+wanted_by : (old p new : PlayerView) (fault : ActorFault) (may : Bool) → may_restart fault p.view.supply.off ≡ may → Goes old.view p.view
+    → ((fault ≡ faults.Journal → ⊥) → p.view.faults ≡ old.view.faults) → IsTried fault p new → new.fate ≡ Memory → WantedMemory old.view new.view
+wanted_by old p new fault true may goes unfailed tried memory = elim (tried.off may) [
+  | inl more ↦ inr (inr (omega (arith, more, goes.restarts)))
+  | inr left ↦ inr (inl left.1)
+]
+wanted_by old p new fault false may goes unfailed tried memory =
+    let same = tried.on may in
+    inl (ap (λ (q : PlayerView). q.view.faults) same ∙ unfailed (fate_memory fault (sym (ap (λ (q : PlayerView). q.fate) same) ∙ memory)))
+
+-- an actor whose call failed, and that has then ended for want of memory
+wanted_memory : (old p new : PlayerView) (fault : ActorFault) → Goes old.view p.view → ((fault ≡ faults.Journal → ⊥) → p.view.faults ≡ old.view.faults) → IsTried fault p new
+    → new.fate ≡ Memory → WantedMemory old.view new.view
+wanted_memory old p new fault goes = wanted_by old p new fault (may_restart fault p.view.supply.off) refl goes
+
+not_both : (p : PlayerView) → p.fate ≡ Running → p.fate ≡ Memory → ⊥
+not_both p running memory = cc (running, memory)
+
 -- ---- starting
 
 -- it was started
@@ -187,6 +261,7 @@ Starts-begun old new before after seat seen goes live running got told = record 
   begun = goes.begun;
   fate = subst (λ (f : Fate). HasFate true f new.seat new.view) (sym running) live;
   failed = λ ended. absurd (ended running);
+  memory = λ memory. absurd (not_both new running memory);
   none = λ k. Contains-none new.view.got k got;
   told = λ _. told;
 }
@@ -194,14 +269,15 @@ Starts-begun old new before after seat seen goes live running got told = record 
 -- its call was refused
 pub Starts-recovers : (old p new : PlayerView) (fault : ActorFault) (before out after : List ℕ) → IsSameSeat old p → IsPrefix old.seat.seen p.seat.seen → Goes old.view p.view
     → p.view.got ≡ [] → ((fault ≡ faults.Memory → ⊥) → Told old.view.terms old.seat.seen p.seat.seen before out) → Recovers p new out after
-    → (new.fate ≡ Running → fault ≡ faults.Journal) → Starts old new before after
-Starts-recovers old p new fault before out after seat seen goes got told recovers journal = record {
+    → (new.fate ≡ Running → fault ≡ faults.Journal) → ((fault ≡ faults.Journal → ⊥) → p.view.faults ≡ old.view.faults) → IsTried fault p new → Starts old new before after
+Starts-recovers old p new fault before out after seat seen goes got told recovers journal unfailed tried = record {
   seat = IsSameSeat-then old p new seat recovers.seat;
   seen = IsPrefix-then old.seat.seen p.seat.seen new.seat.seen seen recovers.seen;
   keeps = KeepsTerms-then old.view p.view new.view (KeepsTerms-goes old.view p.view goes) recovers.keeps;
   begun = recovers.keeps.begun goes.begun;
   fate = recovers.fate;
   failed = recovers.failed;
+  memory = wanted_memory old p new fault goes unfailed tried;
   none = λ k stands. Contains-none p.view.got k got (recovers.got k stands);
   told = λ running. told_by_both old p new fault before out after goes told recovers journal running;
 }
@@ -225,6 +301,7 @@ Hears-step k old new before after seat seen goes live running got restarts told 
   keeps = KeepsTerms-goes old.view new.view goes;
   fate = subst (λ (f : Fate). HasFate true f new.seat new.view) (sym running) live;
   failed = λ ended. absurd (ended running);
+  memory = λ memory. absurd (not_both new running memory);
   got = got_more old.view new.view k (inr got);
   received = λ _. inl (got, restarts);
   told = λ _. told;
@@ -233,13 +310,15 @@ Hears-step k old new before after seat seen goes live running got restarts told 
 -- its call was refused
 pub Hears-recovers : (k : ℕ) (old p new : PlayerView) (fault : ActorFault) (before out after : List ℕ) → IsSameSeat old p → IsPrefix old.seat.seen p.seat.seen → Goes old.view p.view
     → (p.view.got ≡ old.view.got) ⊎ (p.view.got ≡ old.view.got ++ k ∷ []) → ((fault ≡ faults.Memory → ⊥) → Told old.view.terms old.seat.seen p.seat.seen before out)
-    → Recovers p new out after → (new.fate ≡ Running → fault ≡ faults.Journal) → Hears k old new before after
-Hears-recovers k old p new fault before out after seat seen goes kept told recovers journal = record {
+    → Recovers p new out after → (new.fate ≡ Running → fault ≡ faults.Journal) → ((fault ≡ faults.Journal → ⊥) → p.view.faults ≡ old.view.faults) → IsTried fault p new
+    → Hears k old new before after
+Hears-recovers k old p new fault before out after seat seen goes kept told recovers journal unfailed tried = record {
   seat = IsSameSeat-then old p new seat recovers.seat;
   seen = IsPrefix-then old.seat.seen p.seat.seen new.seat.seen seen recovers.seen;
   keeps = KeepsTerms-then old.view p.view new.view (KeepsTerms-goes old.view p.view goes) recovers.keeps;
   fate = recovers.fate;
   failed = recovers.failed;
+  memory = wanted_memory old p new fault goes unfailed tried;
   got = λ j stands. got_more old.view p.view k kept j (recovers.got j stands);
   received = λ running. inr ((recovers.again running).0, omega (arith, (recovers.again running).1, goes.restarts));
   told = λ running. told_by_both old p new fault before out after goes told recovers journal running;
@@ -287,6 +366,11 @@ Explains-of faults.Full p full journal = full refl
 Explains-of faults.Memory p full journal = tt
 
 -- ---- what an answer says
+
+pub below : (n k : ℕ) → (n ≤ k → ⊥) → k < n
+below zero k none = absurd (none (omega arith))
+below (suc n) zero none = omega arith
+below (suc n) (suc k) none = omega (arith, below n k (λ le. none (omega (arith, le))))
 
 pub OnErr-any : {T E : Type 0} (r : Result T E) (P : Type 0) → P → OnErr r P
 OnErr-any (Ok x) P p = tt

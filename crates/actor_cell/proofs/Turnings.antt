@@ -1,5 +1,5 @@
 -- The turns of an actor.
-use Rattle.std.proofs.Common.{◌≡◌, ◌⊎◌, ℕ, ◌+◌, Bool, true, false, inl, inr, List, [], ◌∷◌, ◌++◌, length, Contains, Option, None, Some, refl, sym, ap, ◌∙◌, subst, arith, slice_get, get_or, length-append, if◌then◌else◌, MatchOption, IfSome}
+use Rattle.std.proofs.Common.{◌≡◌, ◌⊎◌, ℕ, zero, suc, ◌+◌, ◌<◌, Bool, true, false, inl, inr, List, [], ◌∷◌, ◌++◌, length, Contains, Option, None, Some, refl, sym, ap, ◌∙◌, subst, arith, slice_get, get_or, length-append, if◌then◌else◌, MatchOption, IfSome}
 use Rattle.std.proofs.lemmas.List.{append-nil, append_assoc}
 use Rattle.std.proofs.lemmas.List.Elements.{Contains-push_cases}
 use Rattle.hb_base.specs.Numbers.{Numbers}
@@ -27,7 +27,7 @@ use Rattle.actor_cell.specs.Boxes.{BoxesView, place_of}
 use Rattle.actor_cell.specs.Passes.{PassesView, puts_of, own_puts}
 use Rattle.actor_cell.specs.Mail.{MailView, Sent, sent_of, ArePut, IsSameTaker, deliveries}
 use Rattle.actor_cell.specs.Held.{IsHeld, WasShown}
-use Rattle.actor_cell.specs.Turning.{IsSameSeat, IsShown, KeepsTerms, Starts, Begins, HasSent, Hears, HasReceived, IsHeard, Fares, Turning, TookOnly, HoldsBack, IsDelivered, Delivers, IsServed, ServesBack, ServesNew, TakesOne, TakesNone, Turned, arrival, arrival_found, by_lateness, arrives, is_late}
+use Rattle.actor_cell.specs.Turning.{IsSameSeat, IsShown, KeepsTerms, WantedMemory, Starts, Begins, HasSent, Hears, HasReceived, IsHeard, Fares, Turning, TookOnly, HoldsBack, IsDelivered, Delivers, IsServed, ServesBack, ServesNew, TakesOne, TakesNone, Turned, arrival, arrival_found, by_lateness, arrives, is_late}
 use Rattle.actor_cell.proofs.Hearings.{shown_longer, moved_by, IsPrefix-refl, IsSameSeat-then, IsPrefix-then, IsShown-refl, IsShown-then, Contains-none}
 
 -- ---- what holds under the lock
@@ -94,6 +94,7 @@ Hears-fates k p q f before after hears = record {
   keeps = hears.keeps;
   fate = hears.fate;
   failed = hears.failed;
+  memory = hears.memory;
   got = hears.got;
   received = hears.received;
   told = hears.told;
@@ -133,6 +134,11 @@ received_by s (Some post) posts i x k a is other arrives = record {
   comes = comes_by (comes_to s.config s post i x k) (by_lateness (shape_of s.links.items post.from i k)) a arrives other;
 }
 
+stands_below : (posts : List Post) (k : ℕ) (post : Post) → slice_get posts k ≡ Some post → k < length posts
+stands_below [] k post is = absurd (cc (is))
+stands_below (p ∷ posts) zero post is = omega arith
+stands_below (p ∷ posts) (suc k) post is = omega (arith, stands_below posts k post is)
+
 -- a post that arrives comes to the actor
 pub IsReceived-arrives : (s : Script) (p : PlayerView) (k : ℕ) (a : Arrival) → (a ≡ arrivals.Aside → ⊥) → arrival s p k ≡ a → IsReceived s.config s p.seat.seen p.seat.node p.seat.actor k
 IsReceived-arrives s p k a other arrives = received_by s (slice_get p.seat.seen k) p.seat.seen p.seat.node p.seat.actor k a refl other arrives
@@ -161,16 +167,21 @@ IsHeard-ended s k o q out sent comes hears ended = record {
   keeps = hears.keeps;
   received = λ running. absurd (ended running);
   heard = inr (hears.failed ended);
-  sent = record { numbers = []; put = refl; all = λ running. absurd (ended running); some = inl refl };
+  memory = λ memory. inr (hears.memory memory);
+  sent = record { numbers = []; put = refl; all = λ running. absurd (ended running); some = inl refl; unsent = λ _ live. absurd (cc (hears.failed ended, live)) };
 }
 
 received_shown : (k : ℕ) (u v w : ActorView) → w ≡ v → HasReceived k u v → HasReceived k u w
 received_shown k u v w same received = subst (λ (a : ActorView). HasReceived k u a) (sym same) received
 
+live_shown : (m q : PlayerView) → m.fate ≡ Running → HasFate true m.fate m.seat m.view → IsShown m q → q.view.live ≡ true
+live_shown m q running fate shown = ap (λ (v : ActorView). v.live) shown.view ∙ subst (λ (f : Fate). HasFate true f m.seat m.view) running fate
+
 -- the numbers of what it made are put
 HasSent-of : (s : Script) (o m q : PlayerView) (out front rest : List ℕ) (before after : Sent) → Told o.view.terms o.seat.seen m.seat.seen [] out → m.view.terms ≡ o.view.terms
-    → IsShown m q → out ≡ front ++ rest → (q.fate ≡ Running → rest ≡ []) → ArePut s.config (deliveries s.config s q.seat.seen front) before after → HasSent s o q before after
-HasSent-of s o m q out front rest before after made terms shown parts all put =
+    → IsShown m q → out ≡ front ++ rest → (q.fate ≡ Running → rest ≡ []) → (q.fate ≡ Memory → rest ≡ [] → ⊥)
+    → ArePut s.config (deliveries s.config s q.seat.seen front) before after → HasSent s o q before after
+HasSent-of s o m q out front rest before after made terms shown parts all left put =
     let told : Told o.view.terms o.seat.seen q.seat.seen [] out =
     told_trans o.view.terms o.seat.seen m.seat.seen q.seat.seen [] out out made
     (told_beside o.view.terms m.seat.seen q.seat.seen out (subst (λ (t : Terms). Told t m.seat.seen q.seat.seen [] []) terms shown.others)) in
@@ -179,13 +190,14 @@ HasSent-of s o m q out front rest before after made terms shown parts all put =
       put = put;
       all = λ works. subst (λ (ns : List ℕ). Told o.view.terms o.seat.seen q.seat.seen [] ns) (parts ∙ ap (λ (ns : List ℕ). front ++ ns) (all works) ∙ append-nil front) told;
       some = inr (rest, subst (λ (ns : List ℕ). Told o.view.terms o.seat.seen q.seat.seen [] ns) parts told);
+      unsent = λ memory _. (rest, left memory, subst (λ (ns : List ℕ). Told o.view.terms o.seat.seen q.seat.seen [] ns) parts told);
     }
 
 -- one that works sends what it made
 pub IsHeard-sent : (s : Script) (k : ℕ) (o m q : PlayerView) (out front rest : List ℕ) (before after : Sent) → IsReceived s.config s o.seat.seen o.seat.node o.seat.actor k → Hears k o m [] out
-    → m.fate ≡ Running → IsShown m q → out ≡ front ++ rest → (q.fate ≡ Running → rest ≡ [])
+    → m.fate ≡ Running → IsShown m q → out ≡ front ++ rest → (q.fate ≡ Running → rest ≡ []) → (q.fate ≡ Memory → rest ≡ [] → ⊥)
     → ArePut s.config (deliveries s.config s q.seat.seen front) before after → IsHeard s k o q before after
-IsHeard-sent s k o m q out front rest before after comes hears running shown parts all put =
+IsHeard-sent s k o m q out front rest before after comes hears running shown parts all left put =
     let same = IsSameSeat-then o m q hears.seat shown.seat in
     let more = IsPrefix-then o.seat.seen m.seat.seen q.seat.seen hears.seen (shown_longer m q shown) in
     record {
@@ -195,7 +207,8 @@ IsHeard-sent s k o m q out front rest before after comes hears running shown par
       keeps = subst (λ (v : ActorView). KeepsTerms o.view v) (sym shown.view) hears.keeps;
       received = λ _. received_shown k o.view m.view q.view shown.view (hears.received running);
       heard = inl (received_shown k o.view m.view q.view shown.view (hears.received running));
-      sent = HasSent-of s o m q out front rest before after (hears.told running) hears.keeps.terms shown parts all put;
+      memory = λ _. inl (live_shown m q running hears.fate shown);
+      sent = HasSent-of s o m q out front rest before after (hears.told running) hears.keeps.terms shown parts all left put;
     }
 
 -- looks before a delivery
@@ -210,6 +223,10 @@ IsHeard-shown s k o m q before after shown heard = record {
     | inl received ↦ inl (subst (λ (v : ActorView). HasReceived k v q.view) shown.view received)
     | inr failed ↦ inr failed
   ];
+  memory = λ memory. elim (heard.memory memory) [
+    | inl live ↦ inl live
+    | inr wanted ↦ inr (subst (λ (v : ActorView). WantedMemory v q.view) shown.view wanted)
+  ];
   sent = record {
     numbers = heard.sent.numbers;
     put = heard.sent.put;
@@ -218,6 +235,7 @@ IsHeard-shown s k o m q before after shown heard = record {
       | inl none ↦ inl none
       | inr rest ↦ inr (rest.0, told_after shown rest.1)
     ];
+    unsent = λ memory live. let rest = heard.sent.unsent memory live in (rest.0, rest.1, told_after shown rest.2);
   };
 }
   where
@@ -243,20 +261,22 @@ Begins-ended s o q out sent starts ended = record {
   seen = starts.seen;
   keeps = starts.keeps;
   begun = starts.begun;
+  memory = λ memory. inr (starts.memory memory);
   none = starts.none;
-  sent = record { numbers = []; put = refl; all = λ running. absurd (ended running); some = inl refl };
+  sent = record { numbers = []; put = refl; all = λ running. absurd (ended running); some = inl refl; unsent = λ _ live. absurd (cc (starts.failed ended, live)) };
 }
 
 -- one that works sends what it made
 pub Begins-sent : (s : Script) (o m q : PlayerView) (out front rest : List ℕ) (before after : Sent) → Starts o m [] out → m.fate ≡ Running → IsShown m q → out ≡ front ++ rest
-    → (q.fate ≡ Running → rest ≡ []) → ArePut s.config (deliveries s.config s q.seat.seen front) before after → Begins s o q before after
-Begins-sent s o m q out front rest before after starts running shown parts all put = record {
+    → (q.fate ≡ Running → rest ≡ []) → (q.fate ≡ Memory → rest ≡ [] → ⊥) → ArePut s.config (deliveries s.config s q.seat.seen front) before after → Begins s o q before after
+Begins-sent s o m q out front rest before after starts running shown parts all left put = record {
   seat = IsSameSeat-then o m q starts.seat shown.seat;
   seen = IsPrefix-then o.seat.seen m.seat.seen q.seat.seen starts.seen (shown_longer m q shown);
   keeps = subst (λ (v : ActorView). KeepsTerms o.view v) (sym shown.view) starts.keeps;
   begun = ap (λ (v : ActorView). v.fresh) shown.view ∙ starts.begun;
+  memory = λ _. inl (live_shown m q running starts.fate shown);
   none = λ k stands. starts.none k (subst (λ (v : ActorView). Contains v.got k) shown.view stands);
-  sent = HasSent-of s o m q out front rest before after (starts.told running) starts.keeps.terms shown parts all put;
+  sent = HasSent-of s o m q out front rest before after (starts.told running) starts.keeps.terms shown parts all left put;
 }
 
 -- ---- what was shown
@@ -304,7 +324,7 @@ same_taker old new same =
     subst (λ (m : MailView). IsSameTaker old m) (sym same) (record { boxes = refl; place = refl; take = refl })
 
 abbrev pub Looked : Script → ℕ → Option Arrival → Turning → Type 0
-Looked s k found m = MatchOption found (m.player.fate ≡ Memory) (λ a. (m.player.fate ≡ Running) × (a ≡ arrival s m.player k))
+Looked s k found m = MatchOption found ((m.player.fate ≡ Memory) × (k < length m.player.seat.seen)) (λ a. (m.player.fate ≡ Running) × (a ≡ arrival s m.player k))
 
 heard_after : (s : Script) (k : ℕ) (o m q : Turning) → IsShown o.player m.player → m.mail ≡ o.mail → m.back ≡ o.back → IsDelivered s k m q → IsServed s k o q
 heard_after s k o m q shown mail back delivered = record {
@@ -319,7 +339,7 @@ pub IsServed-of : (s : Script) (k : ℕ) (found : Option Arrival) (o m q : Turni
     → Looked s k found m → Delivers s k found m q → IsServed s k o q
 IsServed-of s k None o m q running shown mail back looked same =
     subst (λ (t : Turning). IsServed s k o t) (sym same)
-    (record { fares = inr (inl (record { shown = shown; fate = looked; sent = ap (λ (all : MailView). sent_of all) mail })); taker = same_taker o.mail m.mail mail; back = back })
+    (record { fares = inr (inl (record { shown = shown; stands = looked.1; fate = looked.0; sent = ap (λ (all : MailView). sent_of all) mail })); taker = same_taker o.mail m.mail mail; back = back })
 IsServed-of s k (Some arrivals.Aside) o m q running shown mail back looked same =
     subst (λ (t : Turning). IsServed s k o t) (sym same) (record {
       fares = inl (record { shown = shown; fate = looked.0 ∙ sym running; aside = sym looked.1; sent = ap (λ (all : MailView). sent_of all) mail });
@@ -341,7 +361,7 @@ aside_not_late is = cc (is)
 -- where it was not late, it is late only if the look found no memory
 late_only : (s : Script) (k : ℕ) (found : Option Arrival) (m q : Turning) → (found ≡ Some arrivals.Late → ⊥) → Looked s k found m → Delivers s k found m q
     → arrival s q.player k ≡ arrivals.Late → q.player.fate ≡ Memory
-late_only s k None m q other looked same late = ap (λ (t : Turning). t.player.fate) same ∙ looked
+late_only s k None m q other looked same late = ap (λ (t : Turning). t.player.fate) same ∙ looked.0
 late_only s k (Some arrivals.Aside) m q other looked same late =
     absurd (not_late (arrival s q.player k) arrivals.Aside late (ap (λ (t : Turning). arrival s t.player k) same ∙ sym looked.1) aside_not_late)
 late_only s k (Some arrivals.Prompt) m q other looked delivered late =
@@ -355,20 +375,26 @@ pub ServesNew-of : (s : Script) (k : ℕ) (found : Option Arrival) (o m q : Turn
 ServesNew-of s k found o m q running shown mail back looked other delivers =
     (IsServed-of s k found o m q running shown mail back looked delivers, late_only s k found m q other looked delivers)
 
+late_looked : (s : Script) (k : ℕ) (found : Option Arrival) (m : Turning) → found ≡ Some arrivals.Late → Looked s k found m → arrival s m.player k ≡ arrivals.Late
+late_looked s k None m is looked = absurd (cc (is))
+late_looked s k (Some a) m is looked = let same : a ≡ arrivals.Late = cc (is) in sym looked.1 ∙ same
+
+late_stands : (s : Script) (k : ℕ) (found : Option Arrival) (m : Turning) → found ≡ Some arrivals.Late → Looked s k found m → k < length m.player.seat.seen
+late_stands s k found m is looked =
+    let comes = IsReceived-arrives s m.player k arrivals.Late late_not_aside (late_looked s k found m is looked) in
+    stands_below m.player.seat.seen k comes.post comes.stands
+
 -- a late one that could not be held back, and one that was
-pub ServesNew-lost : (s : Script) (k : ℕ) (o q : Turning) → IsShown o.player q.player → q.mail ≡ o.mail → q.back ≡ o.back → q.player.fate ≡ Memory → ServesNew s k true o q
-ServesNew-lost s k o q shown mail back memory = (
+pub ServesNew-lost : (s : Script) (k : ℕ) (found : Option Arrival) (o m q : Turning) → found ≡ Some arrivals.Late → Looked s k found m → IsShown o.player q.player
+    → q.player.seat ≡ m.player.seat → q.mail ≡ o.mail → q.back ≡ o.back → q.player.fate ≡ Memory → ServesNew s k true o q
+ServesNew-lost s k found o m q is looked shown seat mail back memory = (
   record {
-    fares = inr (inl (record { shown = shown; fate = memory; sent = ap (λ (all : MailView). sent_of all) mail }));
+    fares = inr (inl (record { shown = shown; stands = subst (λ (st : SeatView). k < length st.seen) (sym seat) (late_stands s k found m is looked); fate = memory; sent = ap (λ (all : MailView). sent_of all) mail }));
     taker = same_taker o.mail q.mail mail;
     back = back;
   },
   λ _. memory,
 )
-
-late_looked : (s : Script) (k : ℕ) (found : Option Arrival) (m : Turning) → found ≡ Some arrivals.Late → Looked s k found m → arrival s m.player k ≡ arrivals.Late
-late_looked s k None m is looked = absurd (cc (is))
-late_looked s k (Some a) m is looked = let same : a ≡ arrivals.Late = cc (is) in sym looked.1 ∙ same
 
 pub ServesNew-held : (s : Script) (k : ℕ) (found : Option Arrival) (o m q : Turning) → found ≡ Some arrivals.Late → Looked s k found m → IsShown o.player q.player → q.player.view ≡ m.player.view
     → q.player.seat ≡ m.player.seat → q.player.fate ≡ Running → q.mail ≡ o.mail → q.back ≡ o.back ++ k ∷ [] → ServesNew s k false o q
@@ -463,7 +489,7 @@ fares_after : (s : Script) (k : ℕ) (o m q : PlayerView) (first before after : 
 fares_after s k o m q first before after shown fate same (inl thrown) =
     inl (record { shown = IsShown-then o m q shown thrown.shown; fate = thrown.fate ∙ fate; aside = thrown.aside; sent = thrown.sent ∙ same })
 fares_after s k o m q first before after shown fate same (inr (inl lost)) =
-    inr (inl (record { shown = IsShown-then o m q shown lost.shown; fate = lost.fate; sent = lost.sent ∙ same }))
+    inr (inl (record { shown = IsShown-then o m q shown lost.shown; stands = lost.stands; fate = lost.fate; sent = lost.sent ∙ same }))
 fares_after s k o m q first before after shown fate same (inr (inr heard)) =
     inr (inr (IsHeard-shown s k o m q first after shown (subst (λ (b : Sent). IsHeard s k m q b after) same heard)))
 

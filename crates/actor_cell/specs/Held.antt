@@ -11,7 +11,8 @@ use Rattle.step_driver.specs.Delivering.{IsPlayer}
 use Rattle.actor_cell.specs.Boxes.{place_of}
 use Rattle.actor_cell.specs.Mail.{MailView}
 
--- an actor with its fate, its book, the script of the run, its mail, and the numbers that it holds back, in order
+-- an actor with its fate, its book, the script of the run, its mail, the numbers that it holds back, in order, and for how many
+-- there is room
 pub record HeldView (A B : Type 0) : Type 0 where
   pub actor : A
   pub fate : Fate
@@ -19,6 +20,7 @@ pub record HeldView (A B : Type 0) : Type 0 where
   pub script : Script
   pub mail : MailView
   pub back : List ℕ
+  pub room : ℕ
 
 -- The book and the script are those of the run, the seat is of this book, the mailboxes are of the script's config, and the
 -- mailbox from which numbers are taken is the actor's, which is one of the config. The actor goes by the script, and its fate has

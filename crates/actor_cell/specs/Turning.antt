@@ -1,5 +1,5 @@
 -- The turns of an actor. The letters: a run of script s, post k, actor x of node i.
-use Rattle.std.specs.Prelude.{◌≡◌, ◌⊎◌, ℕ, ◌+◌, ◌<◌, ◌≤◌, Bool, true, false, List, [], ◌∷◌, ◌++◌, length, if◌then◌else◌, Contains, Option, None, Some, slice_get}
+use Rattle.std.specs.Prelude.{◌≡◌, ◌≢◌, ◌⊎◌, ℕ, ◌+◌, ◌<◌, ◌≤◌, Bool, true, false, List, [], ◌∷◌, ◌++◌, length, if◌then◌else◌, Contains, Option, None, Some, slice_get}
 use Rattle.mailbox.specs.Interleaving.{HasAll}
 use Rattle.hb_base.specs.Numbers.{Numbers}
 use Rattle.hb_wire.specs.declared.post.Post.{Post}
@@ -7,12 +7,14 @@ use Rattle.net_script.specs.declared.script.Script.{Script}
 use Rattle.net_script.specs.declared.script.Shape.{Shape}
 use Rattle.net_script.specs.declared.script.Shape.TheVariants.{Once, Twice, Late, Drop}
 use Rattle.net_script.specs.Delivery.{shape_of}
+use Rattle.hb_rules.specs.declared.actor.ActorFault.{ActorFault}
 use Rattle.hb_rules.specs.declared.report.Fate.TheVariants.{Running, Memory}
 use Rattle.hb_rules.specs.Actor.{ActorView, budget, Told}
 use Rattle.hb_rules.specs.Ledger.{IsPrefix}
 use Rattle.hb_rules.specs.Report.{comes_to, IsReceived, is_running_fate}
 use Rattle.step_driver.specs.Places.{PlayerView}
 use Rattle.step_driver.specs.Delivering.{HasFate}
+use Rattle.step_driver.specs.Playing.{fate_of, may_restart}
 use Rattle.actor_cell.specs.declared.arrival.Arrival.{Arrival}
 use Rattle.actor_cell.specs.declared.arrival.Arrival.TheVariants as arrivals
 use Rattle.actor_cell.specs.declared.served.Served.{Served}
@@ -77,6 +79,17 @@ pub record KeepsTerms (old new : ActorView) : Type 0 where
 abbrev pub HasFailed : PlayerView → Type 0
 HasFailed p = ¬ (p.fate ≡ Running) → p.view.live ≡ false
 
+-- how an actor comes to want of memory: in a call in which its disk did not fail, or while it is without power, or after a restart
+abbrev pub WantedMemory : ActorView → ActorView → Type 0
+WantedMemory old new = (new.faults ≡ old.faults) ⊎ ((new.supply.off ≡ true) ⊎ (old.restarts < new.restarts))
+
+-- After a call that failed: where no restart may follow, the actor has ended with the fault, and nothing else happened. Else it
+-- was restarted, or is left without power for want of memory.
+pub record IsTried (fault : ActorFault) (old new : PlayerView) : Type 0 where
+  pub on : may_restart fault old.view.supply.off ≡ false → new ≡ record old { fate = fate_of fault }
+  pub off : may_restart fault old.view.supply.off ≡ true
+      → (old.view.restarts < new.view.restarts) ⊎ ((new.fate ≡ Memory) × (new.view.supply.off ≡ true))
+
 -- It was restarted after a call that failed, or has ended for a cause. The numbers of its own posts were told, if it was
 -- restarted.
 pub record Recovers (old new : PlayerView) (before after : List ℕ) : Type 0 where
@@ -101,17 +114,21 @@ pub record Hears (k : ℕ) (old new : PlayerView) (before after : List ℕ) : Ty
   pub keeps : KeepsTerms old.view new.view
   pub fate : HasFate true new.fate new.seat new.view
   pub failed : HasFailed new
+  pub memory : new.fate ≡ Memory → WantedMemory old.view new.view
   pub got : (j : ℕ) → Contains new.view.got j → Contains old.view.got j ⊎ (j ≡ k)
   pub received : new.fate ≡ Running → HasReceived k old.view new.view
   pub told : new.fate ≡ Running → Told old.view.terms old.seat.seen new.seat.seen before after
 
 -- The numbers of posts that the actor made were put, by shape, for all whom these reach: of all posts that it made in this turn
--- if it goes on; of the first of these, or of none, if it has ended.
+-- if it goes on; of the first of these, or of none, if it has ended. Where its last call succeeded and it has ended for want of
+-- memory, there is one that was not put.
 pub record HasSent (s : Script) (old new : PlayerView) (before after : Sent) : Type 0 where
   pub numbers : List ℕ
   pub put : ArePut s.config (deliveries s.config s new.seat.seen numbers) before after
   pub all : new.fate ≡ Running → Told old.view.terms old.seat.seen new.seat.seen [] numbers
   pub some : (numbers ≡ []) ⊎ ((rest : List ℕ) × Told old.view.terms old.seat.seen new.seat.seen [] (numbers ++ rest))
+  pub unsent : new.fate ≡ Memory → new.view.live ≡ true
+      → (rest : List ℕ) × (rest ≢ []) × Told old.view.terms old.seat.seen new.seat.seen [] (numbers ++ rest)
 
 -- an actor that was never started was started, and restarted if a stop left it without power: it works, or has ended for a cause
 pub record Starts (old new : PlayerView) (before after : List ℕ) : Type 0 where
@@ -121,6 +138,7 @@ pub record Starts (old new : PlayerView) (before after : List ℕ) : Type 0 wher
   pub begun : new.view.fresh ≡ false
   pub fate : HasFate true new.fate new.seat new.view
   pub failed : HasFailed new
+  pub memory : new.fate ≡ Memory → WantedMemory old.view new.view
   pub none : (k : ℕ) → ¬ Contains new.view.got k
   pub told : new.fate ≡ Running → Told old.view.terms old.seat.seen new.seat.seen before after
 
@@ -130,6 +148,7 @@ pub record Begins (s : Script) (old new : PlayerView) (before after : Sent) : Ty
   pub seen : IsPrefix old.seat.seen new.seat.seen
   pub keeps : KeepsTerms old.view new.view
   pub begun : new.view.fresh ≡ false
+  pub memory : new.fate ≡ Memory → (new.view.live ≡ true) ⊎ WantedMemory old.view new.view
   pub none : (k : ℕ) → ¬ Contains new.view.got k
   pub sent : HasSent s old new before after
 
@@ -142,9 +161,10 @@ pub record IsThrownAway (s : Script) (k : ℕ) (old new : PlayerView) (before af
   pub aside : arrival s new k ≡ arrivals.Aside
   pub sent : after ≡ before
 
--- there was no memory to read its post or to hold it back, and the actor has ended
-pub record IsLost (old new : PlayerView) (before after : Sent) : Type 0 where
+-- there was no memory to read its post, which stands, or to hold it back, and the actor has ended
+pub record IsLost (k : ℕ) (old new : PlayerView) (before after : Sent) : Type 0 where
   pub shown : IsShown old new
+  pub stands : k < length new.seat.seen
   pub fate : new.fate ≡ Memory
   pub sent : after ≡ before
 
@@ -156,10 +176,11 @@ pub record IsHeard (s : Script) (k : ℕ) (old new : PlayerView) (before after :
   pub keeps : KeepsTerms old.view new.view
   pub received : new.fate ≡ Running → HasReceived k old.view new.view
   pub heard : HasReceived k old.view new.view ⊎ (new.view.live ≡ false)
+  pub memory : new.fate ≡ Memory → (new.view.live ≡ true) ⊎ WantedMemory old.view new.view
   pub sent : HasSent s old new before after
 
 abbrev pub Fares : Script → ℕ → PlayerView → PlayerView → Sent → Sent → Type 0
-Fares s k old new before after = IsThrownAway s k old new before after ⊎ (IsLost old new before after ⊎ IsHeard s k old new before after)
+Fares s k old new before after = IsThrownAway s k old new before after ⊎ (IsLost k old new before after ⊎ IsHeard s k old new before after)
 
 -- ---- turns
 

@@ -1,11 +1,11 @@
 //! What an actor does with one post, over any kind of book.
 
-ghost use Rattle.std.specs.Prelude.{◌≡◌, ◌<◌, true, [], length, IfOk, slice_get};
+ghost use Rattle.std.specs.Prelude.{◌≡◌, ◌<◌, true, [], length, IfOk, OnErr, slice_get};
 ghost use Rattle.std.specs.List.{AllByRecursion};
 ghost use Rattle.hb_rules.specs.Actor.{ReachesActor};
 ghost use Rattle.step_driver.specs.Playing.{IsRefused};
 ghost use Rattle.actor_cell.specs.Held.{player_at};
-ghost use Rattle.actor_cell.specs.Turning.{arrival_found, IsShown, Recovers, Starts, Hears};
+ghost use Rattle.actor_cell.specs.Turning.{arrival_found, IsShown, IsTried, Recovers, Starts, Hears};
 
 use crate::arrival::{Arrival, arrival_found};
 use hb_rules::{Actor, ActorFault, Book, Fate, Outbox};
@@ -13,7 +13,8 @@ use net_script::Script;
 use std::alloc::{AllocError, Global};
 use step_driver::{fate_of, may_restart};
 
-/// How post k arrives at the actor. It shows the actor the whole history of that moment. Err is want of memory to read the post.
+/// How post k arrives at the actor. It shows the actor the whole history of that moment. Err is want of memory to read the post,
+/// which then stands.
 pub fn look<B: Book, A: Actor<B>>(
     script: &Script,
     book: &mut B,
@@ -28,6 +29,7 @@ pub fn look<B: Book, A: Actor<B>>(
         (player_at B.config B.node B.actor B.seen A.seat A.view actor.new Fate.Running) }
     ensures arrival { IfOk result (λ arrival. arrival ≡ arrival_found script.now (slice_get (B.seen (A.seat actor.new)) k)
         (B.node (A.seat actor.new)) (B.actor (A.seat actor.new)) k) }
+    ensures stands { OnErr result (k < length (B.seen (A.seat actor.new))) }
 {
     actor.kept();
     let found = actor.read(book, k)?;
@@ -93,6 +95,8 @@ pub fn recover<B: Book, A: Actor<B>>(
     ensures moved { B.moved (B.node (A.seat actor.old)) (B.actor (A.seat actor.old)) book.old book.new }
     ensures recovers { Recovers (player_at B.config B.node B.actor B.seen A.seat A.view actor.old Fate.Running)
         (player_at B.config B.node B.actor B.seen A.seat A.view actor.new result) out.old out.new }
+    ensures tried { IsTried fault (player_at B.config B.node B.actor B.seen A.seat A.view actor.old Fate.Running)
+        (player_at B.config B.node B.actor B.seen A.seat A.view actor.new result) }
     ensures journal { result ≡ Fate.Running → fault ≡ ActorFault.Journal }
 {
     let mut fault = fault;

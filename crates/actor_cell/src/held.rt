@@ -1,6 +1,6 @@
 //! What lies under the lock of an actor.
 
-ghost use Rattle.std.specs.Prelude.{◌≡◌, ℕ, ◌+◌, ◌<◌, ◌≤◌, ◌++◌, true, false, List, [], ◌∷◌, length, IfSome, IfNone, MatchOption};
+ghost use Rattle.std.specs.Prelude.{◌≡◌, ◌≢◌, ℕ, ◌+◌, ◌<◌, ◌≤◌, ◌++◌, true, false, List, [], ◌∷◌, length, IfSome, IfNone, MatchOption};
 ghost use Rattle.std.specs.List.{AllByRecursion};
 ghost use Rattle.mailbox.specs.Interleaving.{HasAll};
 ghost use Rattle.hb_rules.specs.declared.report.Fate.TheVariants.{Running, Memory};
@@ -46,6 +46,7 @@ pub struct Held<'b, B: NamedBook + Drop, A: Actor<B>, J: RunName> {
 }
 
 impl<'b, B: NamedBook + Drop, A: Actor<B>, J: RunName> Model for Held<'b, B, A, J> {
+    ghost use Rattle.std.specs.VecDeque.{deque_capacity};
     ghost use Rattle.actor_cell.specs.Held.{HeldView, player_at, IsHeld};
 
     ghost Value = { HeldView A B };
@@ -57,6 +58,7 @@ impl<'b, B: NamedBook + Drop, A: Actor<B>, J: RunName> Model for Held<'b, B, A, 
       script = h.script.now;
       mail = h.mail;
       back = h.back.items;
+      room = deque_capacity h.back;
     } };
 
     ghost invariant = { λ h. IsHeld B.knows J.is_script J.book (A.seat h.actor) h.book (B.name h.book) h.script.now h.mail
@@ -235,14 +237,14 @@ impl<'b, B: NamedBook + Drop, A: Actor<B>, J: RunName> Held<'b, B, A, J> {
         true
     }
 
-    // How the post with this number arrives. Where there is no memory to look, the actor has ended.
+    // How the post with this number arrives. Where there is no memory to look, the post stands, and the actor has ended.
     fn look(&mut self, k: u32) -> Option<Arrival>
         requires running { self.old.fate ≡ Running }
         ensures rest { (self.new.script ≡ self.old.script) × (self.new.mail ≡ self.old.mail) × (self.new.back ≡ self.old.back) }
         ensures moved { B.moved (B.node (A.seat self.old.actor)) (B.actor (A.seat self.old.actor)) self.old.book self.new.book }
         ensures whole { B.is_whole self.old.book self.new.book (A.seat self.old.actor) (A.seat self.new.actor) }
         ensures shown { IsShown (player_at B.config B.node B.actor B.seen A.seat A.view self.old.actor self.old.fate) (player_at B.config B.node B.actor B.seen A.seat A.view self.new.actor self.new.fate) }
-        ensures arrival { MatchOption result (self.new.fate ≡ Memory) (λ found. (self.new.fate ≡ Running)
+        ensures arrival { MatchOption result ((self.new.fate ≡ Memory) × (k < length (B.seen (A.seat self.new.actor)))) (λ found. (self.new.fate ≡ Running)
             × (found ≡ arrival self.old.script (player_at B.config B.node B.actor B.seen A.seat A.view self.new.actor self.new.fate) k)) }
     {
         match look(self.script, &mut self.book, &mut self.actor, k) {
@@ -260,6 +262,7 @@ impl<'b, B: NamedBook + Drop, A: Actor<B>, J: RunName> Held<'b, B, A, J> {
         ensures rest { (self.new.actor ≡ self.old.actor) × (self.new.book ≡ self.old.book) × (self.new.script ≡ self.old.script) × (self.new.mail ≡ self.old.mail) }
         ensures held { result ≡ false → (self.new.fate ≡ Running) × (self.new.back ≡ self.old.back ++ k ∷ []) }
         ensures lost { result ≡ true → (self.new.fate ≡ Memory) × (self.new.back ≡ self.old.back) }
+        ensures full { result ≡ true → self.old.room ≤ length self.old.back }
     {
         if self.back.push_back(k).is_ok() {
             return false;
@@ -319,6 +322,7 @@ impl<'b, B: NamedBook + Drop, A: Actor<B>, J: RunName> Held<'b, B, A, J> {
         ensures moved { B.moved (B.node (A.seat self.old.actor)) (B.actor (A.seat self.old.actor)) self.old.book self.new.book }
         ensures taker { IsSameTaker self.old.mail self.new.mail }
         ensures sent { (front rest : List ℕ) × (out.now ≡ front ++ rest) × (self.new.fate ≡ Running → rest ≡ [])
+            × (self.new.fate ≡ Memory → rest ≢ [])
             × ArePut self.old.script.config (deliveries self.old.script.config self.old.script (B.seen (A.seat self.new.actor)) front)
             (sent_of self.old.mail) (sent_of self.new.mail) }
         ensures looked { self.new.fate ≡ Memory → WasShown B.is_whole B.moved B.seen (B.node (A.seat self.old.actor)) (B.actor (A.seat self.old.actor)) self.old.book self.new.book (A.seat self.new.actor) }

@@ -1,6 +1,6 @@
 //! What an actor sends of the posts that it made, over any kind of book.
 
-ghost use Rattle.std.specs.Prelude.{◌≡◌, ℕ, ◌<◌, ◌++◌, [], List, length, OnOk, OnErr, slice_get};
+ghost use Rattle.std.specs.Prelude.{◌≡◌, ◌≢◌, ℕ, ◌<◌, ◌++◌, [], List, length, OnOk, OnErr, slice_get};
 ghost use Rattle.std.specs.List.{AllByRecursion};
 ghost use Rattle.hb_rules.specs.declared.report.Fate.TheVariants.{Running};
 ghost use Rattle.actor_cell.specs.Held.{player_at, WasShown};
@@ -32,7 +32,7 @@ pub fn send_all<R: Wait, B: Book, A: Actor<B>>(
         (player_at B.config B.node B.actor B.seen A.seat A.view actor.new Running) }
     ensures taker { IsSameTaker mail.old mail.new }
     ensures all { OnOk result (AreSent script.now.config (deliveries script.now.config script.now (B.seen (A.seat actor.new)) numbers.now) mail.old mail.new) }
-    ensures some { OnErr result ((front rest : List ℕ) × (numbers.now ≡ front ++ rest)
+    ensures some { OnErr result ((front rest : List ℕ) × (rest ≢ []) × (numbers.now ≡ front ++ rest)
         × AreSent script.now.config (deliveries script.now.config script.now (B.seen (A.seat actor.new)) front) mail.old mail.new) }
     ensures looked { OnErr result (WasShown B.is_whole B.moved B.seen (B.node (A.seat actor.old)) (B.actor (A.seat actor.old))
         book.old book.new (A.seat actor.new)) }

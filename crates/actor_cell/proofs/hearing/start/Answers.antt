@@ -15,3 +15,4 @@ returns-in-Err-clause-starts g c =
     let seat : IsSameSeat o p = record { config = c.in-Err.ensures.same.0; node = c.in-Err.ensures.same.1; actor = c.in-Err.ensures.same.2 } in
     Starts-recovers o p q c.in-Err.fault c.args.out.now c.start.new.out c.recover.new.out seat c.in-Err.ensures.seen c.in-Err.ensures.goes c.in-Err.ensures.got
     (λ other. c.in-Err.ensures.told (λ is. other (err_is c.in-Err.fault faults.Memory is))) c.recover.ensures.recovers c.recover.ensures.journal
+    (λ other. (c.in-Err.ensures.unfailed (λ is. other (err_is c.in-Err.fault faults.Journal is))).no_fault) c.recover.ensures.tried

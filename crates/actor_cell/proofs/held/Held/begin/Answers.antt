@@ -48,8 +48,8 @@ returns-clause-begun g c =
           let q = player_at b.config b.node b.actor b.seen a.seat a.view w.send.new.self.actor w.send.new.self.fate in
           let sent = w.send.ensures.sent in
           let shown : IsShown m q = rw (← put_in.0, ← put_in.1) w.send.ensures.shown in
-          let put : ArePut s.config (deliveries s.config s q.seat.seen sent.0) (sent_of c.args.mail) (sent_of w.send.new.self.mail) = rw (← put_in.3, ← mail_is) sent.4 in
-          rw w.held-is (Begins-sent s o m q out sent.0 sent.1 (sent_of c.args.mail) (sent_of w.send.new.self.mail) starts run shown sent.2 sent.3 put)
+          let put : ArePut s.config (deliveries s.config s q.seat.seen sent.0) (sent_of c.args.mail) (sent_of w.send.new.self.mail) = rw (← put_in.3, ← mail_is) sent.5 in
+          rw w.held-is (Begins-sent s o m q out sent.0 sent.1 (sent_of c.args.mail) (sent_of w.send.new.self.mail) starts run shown sent.2 sent.3 sent.4 put)
       | else-is_running w ↦
           rw (w.held-is, put_in.0, put_in.1, mail_is) (Begins-ended s o m out (sent_of c.args.mail) starts
           (not_running c.start-fate.result (sym c.is_running.ensures ∙ w.if-is_running.false)))

@@ -60,7 +60,7 @@ returns-then-is_running-clause-delivered g c =
     let sent = c.send.ensures.sent in
     rw (← c.self.view_is) (record {
       heard = IsHeard-sent c.self.inside.script.now c.args.k o m q c.hear-self-inside.new.out sent.0 sent.1 (sent_of c.self.inside.mail) (sent_of c.send.new.self.mail) comes hears run
-          c.send.ensures.shown sent.2 sent.3 sent.4;
+          c.send.ensures.shown sent.2 sent.3 sent.4 sent.5;
       taker = c.send.ensures.taker;
       back = c.send.ensures.rest.1;
     })

@@ -36,7 +36,13 @@ invariant_of-self-in-Err g c =
 
 pub returns-in-Ok-clause-sent : goal.returns-in-Ok-clause-sent
 returns-in-Ok-clause-sent g c =
-    rw (← c.self.view_is) (c.numbers.result.now, [], sym c.numbers.ensures ∙ sym (append-nil c.numbers.result.now), (λ _. refl), c.in-Ok.ensures.all.put)
+    let run : c.self.inside.fate ≡ Running = ap (λ (v : HeldView _ _). v.fate) c.self.view_is ∙ c.requires.running in
+    rw (← c.self.view_is) (c.numbers.result.now, [], sym c.numbers.ensures ∙ sym (append-nil c.numbers.result.now), (λ _. refl), (λ memory. absurd (cc (run, memory))), c.in-Ok.ensures.all.put)
+
+pub returns-in-Err-clause-sent : goal.returns-in-Err-clause-sent
+returns-in-Err-clause-sent g c =
+    let some = c.in-Err.ensures.some in
+    rw (← c.self.view_is) (some.0, some.1, sym c.numbers.ensures ∙ some.3, (λ running. absurd (cc (running))), (λ _. some.2), some.4.put)
 
 pub returns-in-Err-clause-looked : goal.returns-in-Err-clause-looked
 returns-in-Err-clause-looked g c = rw (← c.self.view_is) (λ _. c.in-Err.ensures.looked)
