@@ -394,6 +394,16 @@ Settled-from from old mid new before between after one two same =
       votes = one.votes;
       place = place;
       due = two.adds.due ∙ ap (λ (vs : List Vote). between.votes ++ vs) none ∙ append-nil between.votes ∙ one.adds.due;
+      room =
+          omega (
+            arith,
+            one.adds.spare,
+            two.adds.spare,
+            ap (λ (vs : List Vote). length vs) one.adds.due,
+            ap (λ (vs : List Vote). length vs) two.adds.due,
+            length-append before.votes one.votes,
+            length-append between.votes two.votes,
+          );
       owed = λ resting own heard shows. record {
         count = one.count;
         gives =

@@ -5,7 +5,7 @@ use Rattle.hb_rules.specs.declared.agreement_slot.AgreementSlot.{AgreementSlot}
 use Rattle.hb_rules.specs.Hearing.{Hearing}
 use Rattle.hb_rules.specs.Claims.{is_no_more}
 use Rattle.hb_rules.specs.Marks.{Mark, any_est, bears}
-use Rattle.hb_rules.specs.Room.{DueView}
+use Rattle.hb_rules.specs.Room.{DueView, KeepsRoom}
 use Rattle.hb_rules.specs.Slots.{pass, passes, IsOwed}
 use Rattle.aba_core.specs.State.{AbaView, place_of, round_in, mark_round, mark_at}
 use Rattle.aba_core.specs.Standing.{slots_at, Shows, Stands}
@@ -69,5 +69,6 @@ pub record Settled (from : ℕ) (old new : AbaView) (before after : DueView) : T
   pub votes : List Vote
   pub place : place_of new ≡ place_of old
   pub due : after.votes ≡ before.votes ++ votes
+  pub room : KeepsRoom before after
   pub owed : RestsBelow old from → (own : List Vote) (heard : List Hearing) → Shows old own heard → IsOwed (slots_at (place_of old)) own heard votes
   pub stands : RestsBelow old from → (own : List Vote) (heard : List Hearing) → Shows old own heard → Stands new (own ++ votes) heard

@@ -4,6 +4,7 @@ ghost use Rattle.hb_wire.specs.declared.vote.Vote.{Vote};
 ghost use Rattle.hb_rules.specs.Hearing.{Hearing, hearing};
 ghost use Rattle.hb_rules.specs.Marks.{decision, any_decision, has};
 ghost use Rattle.hb_rules.specs.Parts.{read_in_agreement};
+ghost use Rattle.hb_rules.specs.Room.{KeepsRoom};
 ghost use Rattle.hb_rules.specs.Slots.{IsIdle};
 ghost use Rattle.aba_core.specs.Inputs.{with_input};
 ghost use Rattle.aba_core.specs.State.{place_of, IsAba};
@@ -117,6 +118,7 @@ impl Aba {
         ensures ok { OnOk result (Takes bit self.old self.new due.old.votes due.new.votes) }
         ensures err { OnErr result ((self.new ≡ self.old) × (due.new.votes ≡ due.old.votes)) }
         ensures room { 7 * (place_of self.old).config.rounds + 1 ≤ due.old.spare → IsOk result }
+        ensures keeps_room { KeepsRoom due.old due.new }
     {
         due.reserve(self.room())?;
         self.take(bit);
@@ -135,6 +137,7 @@ impl Aba {
         ensures ok { OnOk result (Hears self.old self.new (hearing from vote.now) due.old.votes due.new.votes) }
         ensures err { OnErr result ((self.new ≡ self.old) × (due.new.votes ≡ due.old.votes)) }
         ensures room { 7 * (place_of self.old).config.rounds + 1 ≤ due.old.spare → IsOk result }
+        ensures keeps_room { KeepsRoom due.old due.new }
     {
         due.reserve(self.room())?;
         match self.noted(from, vote) {

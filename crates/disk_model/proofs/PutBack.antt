@@ -1,6 +1,6 @@
 -- Putting back what was written over.
 use Rattle.std.proofs.Common.{◌≡◌, ◌≤◌, ◌+◌, ◌-◌, ℕ, List, [], ◌∷◌, ◌++◌, length, min, take, drop, refl, sym, ap, subst, ◌∙◌, arith}
-use Rattle.std.proofs.lemmas.List.{ext_get_or, places}
+use Rattle.std.proofs.lemmas.List.{ext_get_or, places, length-take-le}
 use Rattle.disk_model.specs.declared.undo.Saved.{Saved}
 use Rattle.disk_model.specs.Disk.{overwritten}
 use Rattle.disk_model.specs.Undo.{UndoState, put_back, AreWithin}
@@ -17,6 +17,18 @@ within_parts n [] last all = (tt, all.0)
 within_parts n (first ∷ later) last all =
     let rest = within_parts n later last all.1 in
     ((all.0, rest.0), rest.1)
+
+-- putting back changes no length
+length-put_back : (saved : List Saved) (bytes : List ℕ) → AreWithin (length bytes) saved → length (put_back saved bytes) ≡ length bytes
+length-put_back [] bytes all = refl
+length-put_back (first ∷ later) bytes all =
+    let rest : length (put_back later bytes) ≡ length bytes = length-put_back later bytes all.1 in
+    omega (arith, rest, all.0, length-overwritten first.at first.bytes.items (put_back later bytes) (omega (arith, rest, all.0)))
+
+-- as many bytes as were settled
+pub length-settled : (n : ℕ) (saved : List Saved) (bytes : List ℕ) → AreWithin n saved → n ≤ length bytes → length (put_back saved (take n bytes)) ≡ n
+length-settled n saved bytes all fits =
+    length-put_back saved (take n bytes) (subst (λ (m : ℕ). AreWithin m saved) (sym (length-take-le n bytes fits)) all) ∙ length-take-le n bytes fits
 
 -- the last is put back first
 pub put_back_last : (saved : List Saved) (last : Saved) (bytes : List ℕ)

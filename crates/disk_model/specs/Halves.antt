@@ -1,4 +1,5 @@
 -- Both halves of a disk in memory.
+use Rattle.std.specs.Prelude.{◌<◌, ◌+◌, length}
 use Rattle.disk_model.specs.declared.disk.Half.{Half}
 use Rattle.disk_model.specs.declared.disk.Half.TheVariants.{A, B}
 use Rattle.disk_model.specs.declared.halves.Halves.{Halves}
@@ -27,3 +28,7 @@ settled halves = record { a = at_rest halves.a.content; b = at_rest halves.b.con
 -- what a stop leaves of both, with nothing pending
 abbrev pub restored : Leave → Halves → Halves
 restored leave halves = record { a = at_rest (left_by leave halves.a); b = at_rest (left_by leave halves.b) }
+
+-- a read of one of them gives bytes
+abbrev pub HasBytes : Halves → Type 0
+HasBytes halves = 0 < length halves.a.content + length halves.b.content

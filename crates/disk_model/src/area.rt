@@ -5,7 +5,7 @@ ghost use Rattle.disk_model.specs.Area.{IsKept, at_rest, after_write, after_cut,
 
 use crate::plan::Leave;
 use crate::span::Span;
-use crate::undo::UndoBytes;
+use crate::undo::{UndoBytes, copied};
 use std::alloc::{AllocError, Global};
 use std::marker::Model;
 
@@ -138,14 +138,15 @@ impl Area {
         self.least = self.len;
     }
 
-    /// What a stop leaves, with nothing pending.
+    /// What a stop leaves, with nothing pending. Only bytes that are left take memory.
     pub(crate) fn left(&self, leave: Leave) -> Result<Area, AllocError>
-        ensures { IfOk result (λ area. area ≡ at_rest (left_by leave self.now)) }
+        ensures ok { IfOk result (λ area. area ≡ at_rest (left_by leave self.now)) }
+        ensures wanting { OnErr result (0 < length (left_by leave self.now)) }
     {
         let alloc = *self.written.allocator();
         let bytes = match leave {
             Leave::Old => self.bytes.settled(alloc)?,
-            Leave::New => Vec::from_slice(alloc, self.content())?,
+            Leave::New => copied(alloc, self.content())?,
             Leave::Torn => torn(alloc, self.content(), &self.written)?,
         };
         Ok(Area::of(bytes))
@@ -154,9 +155,10 @@ impl Area {
 
 // Tears the ranges that were written.
 fn torn(alloc: Global, content: &[u8], written: &[Span]) -> Result<Vec<u8>, AllocError>
-    ensures { IfOk result (λ bytes. bytes.items ≡ torn_from written.now 0 content.now) }
+    ensures ok { IfOk result (λ bytes. bytes.items ≡ torn_from written.now 0 content.now) }
+    ensures wanting { OnErr result (0 < length (torn_from written.now 0 content.now)) }
 {
-    let mut bytes = Vec::from_slice(alloc, content)?;
+    let mut bytes = copied(alloc, content)?;
     for span in written {
         tear(&mut bytes, *span);
     }

@@ -3,7 +3,7 @@ ghost use Rattle.std.specs.Prelude.{◌≡◌, ◌≤◌, ◌<◌, ◌+◌, ◌^
 ghost use Rattle.disk_model.specs.Image.{half_of};
 ghost use Rattle.disk_model.specs.Disk.{Reads};
 ghost use Rattle.disk_model.specs.Area.{IsKept, at_rest, after_write, after_cut};
-ghost use Rattle.disk_model.specs.Halves.{content_of, on_half, settled, restored};
+ghost use Rattle.disk_model.specs.Halves.{HasBytes, content_of, on_half, settled, restored};
 
 use crate::area::Area;
 use crate::disk::Half;
@@ -76,7 +76,8 @@ impl Halves {
 
     /// What a stop leaves, with nothing pending.
     pub(crate) fn left(&self, leave: Leave) -> Result<Halves, AllocError>
-        ensures { IfOk result (λ halves. halves ≡ restored leave self.now) }
+        ensures ok { IfOk result (λ halves. halves ≡ restored leave self.now) }
+        ensures wanting { OnErr result (HasBytes (restored leave self.now)) }
     {
         Ok(Halves {
             a: self.a.left(leave)?,

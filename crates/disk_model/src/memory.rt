@@ -10,7 +10,7 @@ ghost use Rattle.hb_base.specs.Outside.{HasCauseOf};
 ghost use Rattle.disk_model.specs.Faults.{is_failed};
 ghost use Rattle.disk_model.specs.Supply.{Draws, IsNamed};
 ghost use Rattle.disk_model.specs.Area.{after_write, after_cut};
-ghost use Rattle.disk_model.specs.Halves.{HalvesMayLeave, content_of, on_half, settled};
+ghost use Rattle.disk_model.specs.Halves.{HalvesMayLeave, HasBytes, content_of, on_half, settled, restored};
 ghost use Rattle.disk_model.specs.Memory.{IsDisk, LeftSince, met_of, met_by, met_at, stop_at, stops_after, supply_of, new_disk};
 ghost use Rattle.disk_model.specs.Memory.{one_more, refused, faulted, restarted, Answers, AnswersOrMemory};
 ghost use Rattle.disk_model.specs.Laws.{seen_stays, only_now_left};
@@ -349,8 +349,9 @@ impl Power for MemoryDisk {
         ensures supply { OnOk result (supply_of self.new ≡ record (supply_of self.old) { off = false }) }
         ensures refused { OnErr result (self.new ≡ self.old) }
 
-        // It holds just what the stop leaves.
+        // It holds just what the stop leaves, unless no memory is left to copy that.
         ensures exact { OnOk result (IsSomeAnd self.old.off (λ leave. self.new ≡ restarted leave self.old)) }
+        ensures wanting { OnErr result (IsSomeAnd self.old.off (λ leave. HasBytes (restored leave self.old.halves))) }
     {
         self.kept();
         let Some(leave) = self.off else {

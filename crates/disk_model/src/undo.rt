@@ -111,12 +111,23 @@ impl UndoBytes {
 
     /// A copy of the bytes that were settled last.
     pub(crate) fn settled(&self, alloc: Global) -> Result<Vec<u8>, AllocError>
-        ensures { IfOk result (λ bytes. bytes.items ≡ self.now.settled) }
+        ensures ok { IfOk result (λ bytes. bytes.items ≡ self.now.settled) }
+        ensures wanting { OnErr result (0 < length self.now.settled) }
     {
-        let mut bytes = Vec::from_slice(alloc, &self.bytes[..self.settled_len])?;
+        let mut bytes = copied(alloc, &self.bytes[..self.settled_len])?;
         restore(&mut bytes, &self.saved);
         Ok(bytes)
     }
+}
+
+/// A copy of the bytes. Where there are none it takes no memory.
+pub(crate) fn copied(alloc: Global, bytes: &[u8]) -> Result<Vec<u8>, AllocError>
+    ensures ok { IfOk result (λ copy. copy.items ≡ bytes.now) }
+    ensures wanting { OnErr result (0 < length bytes.now) }
+{
+    let mut copy = Vec::with_capacity(alloc, bytes.len())?;
+    copy.extend_from_slice(bytes)?;
+    Ok(copy)
 }
 
 fn overwrite(target: &mut Vec<u8>, at: usize, bytes: &[u8]) -> Result<(), AllocError>

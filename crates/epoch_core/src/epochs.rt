@@ -6,6 +6,7 @@ ghost use Rattle.tx_pool.specs.Calls.{first_places};
 ghost use Rattle.hb_rules.specs.Hearing.{Hearing, hearing};
 ghost use Rattle.hb_rules.specs.Desk.{MayAtDesk};
 ghost use Rattle.hb_rules.specs.Owing.{desk_slots};
+ghost use Rattle.hb_rules.specs.Room.{KeepsRoom};
 ghost use Rattle.hb_rules.specs.Slots.{IsIdle};
 ghost use Rattle.hb_rules.specs.Turns.{InTurn};
 ghost use Rattle.epoch_core.specs.Tables.{ArePlaced, HearsAll};
@@ -98,6 +99,7 @@ impl Epochs {
         ensures err { OnErr result (self.new ≡ self.old) }
         ensures due { OnErr result (due.new.votes ≡ due.old.votes) }
         ensures enough { 1 ≤ due.old.spare → IsOk result }
+        ensures keeps_room { KeepsRoom due.old due.new }
     {
         due.reserve(1)?;
         push_first(self.first.take(), due);
@@ -119,6 +121,7 @@ impl Epochs {
         requires started { has_started self.old }
         ensures ok { OnOk result (Hears self.old self.new (hearing lane vote.now) due.old.votes due.new.votes) }
         ensures due { OnErr result (due.new.votes ≡ due.old.votes) }
+        ensures keeps_room { KeepsRoom due.old due.new }
     {
         let epoch = vote.epoch();
         let is_no_more_due = hear_in(alloc, &self.config, self.node, &mut self.tables, lane, vote)?;

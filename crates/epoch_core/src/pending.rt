@@ -2,6 +2,7 @@ ghost use Rattle.std.specs.Prelude.{◌≡◌, ◌+◌, ◌≤◌, ◌++◌, [],
 ghost use Rattle.std.specs.Option.{option_map, option_to_list};
 ghost use Rattle.hb_base.specs.Limits.{most_epochs};
 ghost use Rattle.hb_wire.specs.declared.vote.Vote.TheVariants.{NoMore, Propose};
+ghost use Rattle.hb_rules.specs.Room.{KeepsRoom};
 ghost use Rattle.hb_rules.specs.Slots.{when};
 
 use hb_base::Bytes;
@@ -41,6 +42,7 @@ pub(crate) fn cast(
     ensures ok { OnOk result (due.new.votes
         ≡ ((due.old.votes ++ option_to_list (when is_no_more_due (NoMore epoch))) ++ pending.closings.items) ++ pending.proposals.items) }
     ensures err { OnErr result (due.new.votes ≡ due.old.votes) }
+    ensures keeps_room { KeepsRoom due.old due.new }
 {
     let Pending {
         closings,
@@ -58,6 +60,7 @@ fn push_no_more(is_due: bool, epoch: u8, due: &mut Due)
     requires { 1 ≤ due.old.spare }
     ensures votes { due.new.votes ≡ due.old.votes ++ option_to_list (when is_due (NoMore epoch)) }
     ensures room { due.old.spare ≤ due.new.spare + 1 }
+    ensures keeps_room { KeepsRoom due.old due.new }
 {
     if is_due {
         due.push_reserved(Vote::NoMore { epoch });
@@ -67,7 +70,8 @@ fn push_no_more(is_due: bool, epoch: u8, due: &mut Due)
 // Adds the first proposal, if it has this value, for which there is room.
 pub(crate) fn push_first(value: Option<Bytes>, due: &mut Due)
     requires { 1 ≤ due.old.spare }
-    ensures { due.new.votes ≡ due.old.votes ++ option_to_list (option_map (Propose 0) value) }
+    ensures votes { due.new.votes ≡ due.old.votes ++ option_to_list (option_map (Propose 0) value) }
+    ensures keeps_room { KeepsRoom due.old due.new }
 {
     match value {
         Some(value) => due.push_reserved(Vote::Propose { epoch: 0, value }),
@@ -80,6 +84,7 @@ fn push_all(votes: Vec<Vote>, due: &mut Due)
     requires { length votes.items ≤ due.old.spare }
     ensures votes { due.new.votes ≡ due.old.votes ++ votes.items }
     ensures room { due.new.spare + length votes.items ≡ due.old.spare }
+    ensures keeps_room { KeepsRoom due.old due.new }
 {
     for vote in votes {
         due.push_reserved(vote);

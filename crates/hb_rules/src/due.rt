@@ -1,5 +1,6 @@
 //! The votes that an actor has to cast.
 ghost use Rattle.std.specs.Prelude.{◌≡◌, ◌+◌, ◌-◌, ◌^◌, ◌≤◌, min, [], ◌∷◌, ◌++◌, length, OnOk, OnErr, IsOk};
+ghost use Rattle.hb_rules.specs.Room.{KeepsRoom};
 
 use hb_wire::Vote;
 use std::alloc::{AllocError, Global};
@@ -36,6 +37,7 @@ impl Due {
         ensures room { OnOk result (more ≤ self.new.spare) }
         ensures no_less { self.old.spare ≤ self.new.spare }
         ensures enough { more ≤ self.old.spare → IsOk result }
+        ensures keeps_room { KeepsRoom self.old self.new }
     {
         self.votes.reserve(more as usize)
     }
@@ -46,6 +48,7 @@ impl Due {
         ensures err { OnErr result (self.new.votes ≡ self.old.votes) }
         ensures enough { 1 ≤ self.old.spare → IsOk result }
         ensures room { self.old.spare ≤ self.new.spare + 1 }
+        ensures keeps_room { KeepsRoom self.old self.new }
     {
         self.votes.push(vote)?;
         Ok(())
@@ -56,6 +59,7 @@ impl Due {
         requires { 1 ≤ self.old.spare }
         ensures votes { self.new.votes ≡ self.old.votes ++ vote ∷ [] }
         ensures room { self.new.spare + 1 ≡ self.old.spare }
+        ensures keeps_room { KeepsRoom self.old self.new }
     {
         self.votes.push_reserved(vote);
     }
@@ -79,6 +83,7 @@ impl Due {
     pub fn clear(&mut self)
         ensures votes { self.new.votes ≡ [] }
         ensures room { self.new.spare ≡ self.old.spare + length self.old.votes }
+        ensures keeps_room { KeepsRoom self.old self.new }
     {
         self.votes.clear();
     }

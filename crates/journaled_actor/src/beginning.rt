@@ -2,6 +2,7 @@
 ghost use Rattle.std.specs.Prelude.{◌≡◌, ◌≤◌, ◌+◌, ℕ, [], OnOk};
 ghost use Rattle.hb_wire.specs.declared.vote.Vote.{Vote};
 ghost use Rattle.hb_rules.specs.Actor.{IsFew, AreCastAgain};
+ghost use Rattle.hb_rules.specs.Room.{KeepsRoom};
 ghost use Rattle.hb_rules.specs.Same.{count};
 ghost use Rattle.hb_rules.specs.Terms.{AreLawful, cast_in};
 ghost use Rattle.vote_journal.specs.Text.{text_of};
@@ -48,6 +49,7 @@ fn begin<B: Book, D: Disk, C: Core>(
     ensures few { (most : ℕ) → 1 ≤ most → IsFew (C.terms core.old) (B.seen seat.old) most → IsFew (C.terms core.old) (B.seen seat.new) most }
     ensures nothing { votes.now ≡ [] → (C.terms core.old).owed [] [] ≡ [] → CastsNothing (C.terms core.old) (B.seen seat.old) (B.seen seat.new) result }
     ensures disk { DiskGoes D.supply D.faults D.explains (disk_of journal.old) (disk_of journal.new) result }
+    ensures keeps_room { KeepsRoom due.old due.new }
 {
     due.clear();
     core.rebuild(alloc, votes, due)?;
@@ -82,6 +84,7 @@ pub(crate) fn take_up<B: Book, D: Disk, C: Core>(
     ensures nothing { text_of (D.seen (disk_of journal.old)) ≡ [] → (C.terms core.old).owed [] [] ≡ []
         → CastsNothing (C.terms core.old) (B.seen seat.old) (B.seen seat.new) result }
     ensures disk { DiskGoes D.supply D.faults D.explains (disk_of journal.old) (disk_of journal.new) result }
+    ensures keeps_room { KeepsRoom due.old due.new }
 {
     let votes = read_back(alloc, core, journal)?;
     post_all(&votes, core, seat, book, out)?;

@@ -3,6 +3,7 @@ ghost use Rattle.std.specs.Prelude.{◌≡◌, List, [], ◌∷◌, ◌++◌, On
 ghost use Rattle.hb_wire.specs.declared.vote.Vote.{Vote};
 ghost use Rattle.hb_wire.specs.declared.post.Post.{Post};
 ghost use Rattle.hb_rules.specs.Hearing.{Hearing, hearing};
+ghost use Rattle.hb_rules.specs.Room.{KeepsRoom};
 ghost use Rattle.hb_rules.specs.Terms.{Terms, AreLawful, AreVotes};
 ghost use Rattle.journaled_actor.specs.Cores.{IsHearing};
 
@@ -42,7 +43,8 @@ pub trait Core: Drop {
         requires own { (seen : List Post) × AreVotes (terms self.old) seen own.now }
         ensures terms { terms self.new ≡ terms self.old }
         ensures owed { OnOk result (due.new.votes ≡ due.old.votes ++ (terms self.old).owed own.now []) }
-        ensures stands { OnOk result (stands self.new (own.now ++ (terms self.old).owed own.now []) []) };
+        ensures stands { OnOk result (stands self.new (own.now ++ (terms self.old).owed own.now []) []) }
+        ensures keeps_room { KeepsRoom due.old due.new };
 
     /// Hears one vote more, and adds the votes that are owed then, in their order. `from` is the node that has cast the
     /// vote; at a desk, which hears its own node's lanes alone, it is the lane. After an error the core is of no use until it
@@ -60,5 +62,6 @@ pub trait Core: Drop {
         ensures owed { OnOk result ((own : List Vote) (heard : List Hearing) → stands self.old own heard
             → due.new.votes ≡ due.old.votes ++ (terms self.old).owed own (heard ++ hearing from vote.now ∷ [])) }
         ensures stands { OnOk result ((own : List Vote) (heard : List Hearing) → stands self.old own heard
-            → stands self.new (own ++ (terms self.old).owed own (heard ++ hearing from vote.now ∷ [])) (heard ++ hearing from vote.now ∷ [])) };
+            → stands self.new (own ++ (terms self.old).owed own (heard ++ hearing from vote.now ∷ [])) (heard ++ hearing from vote.now ∷ [])) }
+        ensures keeps_room { KeepsRoom due.old due.new };
 }

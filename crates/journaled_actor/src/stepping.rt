@@ -3,6 +3,7 @@ ghost use Rattle.std.specs.Prelude.{◌≡◌, ◌≤◌, ◌<◌, ◌⊎◌, �
 ghost use Rattle.hb_wire.specs.Addresses.{reaches};
 ghost use Rattle.hb_rules.specs.Actor.{IsFew, AreSeen, ReachesActor, OwesNothing};
 ghost use Rattle.hb_rules.specs.Hearing.{Hearing};
+ghost use Rattle.hb_rules.specs.Room.{KeepsRoom};
 ghost use Rattle.hb_rules.specs.Terms.{AreLawful, cast_in, heard_got};
 ghost use Rattle.vote_journal.specs.Text.{text_of};
 ghost use Rattle.vote_journal.specs.Usable.{disk_of};
@@ -34,6 +35,7 @@ fn hear_post<C: Core>(
     ensures terms { C.terms core.new ≡ C.terms core.old }
     ensures owed { OnOk result ((own : List Vote) (heard : List Hearing) → C.stands core.old own heard → (C.terms core.old).owed own heard ≡ []
         → HearsPost (C.terms core.old) post.now own heard due.old.votes due.new.votes (C.stands core.new)) }
+    ensures keeps_room { KeepsRoom due.old due.new }
 {
     let heard = hear(alloc, &core.config(), post, core.node(), core.actor())?;
     match heard {
@@ -66,6 +68,7 @@ fn receive<B: Book, C: Core>(
     ensures owed { OnOk result ((post : Post) × (slice_get (B.seen seat.new) k ≡ Some post) × ((own : List Vote) (heard : List Hearing)
         → C.stands core.old own heard → (C.terms core.old).owed own heard ≡ []
         → HearsPost (C.terms core.old) post own heard due.old.votes due.new.votes (C.stands core.new))) }
+    ensures keeps_room { KeepsRoom due.old due.new }
 {
     let found = book.reread(seat, k)?;
     let post = found.unwrap();
@@ -112,6 +115,7 @@ pub(crate) fn advance<B: Book, D: Disk, C: Core>(
         × (cast_in (C.terms core.old) (B.seen seat.new) ≡ cast_in (C.terms core.old) (B.seen seat.old)) }
     ensures few { (most : ℕ) → 1 ≤ most → IsFew (C.terms core.old) (B.seen seat.old) most → IsFew (C.terms core.old) (B.seen seat.new) most }
     ensures disk { DiskGoes D.supply D.faults D.explains (disk_of journal.old) (disk_of journal.new) result }
+    ensures keeps_room { KeepsRoom due.old due.new }
 {
     due.clear();
     receive(alloc, k, core, seat, book, got, due)?;

@@ -6,6 +6,7 @@ ghost use Rattle.hb_rules.specs.Claims.{is_any_delivery};
 ghost use Rattle.hb_rules.specs.Hearing.{hearing};
 ghost use Rattle.hb_rules.specs.Owing.{agreement_slots};
 ghost use Rattle.hb_rules.specs.Parts.{read_in_agreement};
+ghost use Rattle.hb_rules.specs.Room.{KeepsRoom};
 ghost use Rattle.hb_rules.specs.Slots.{IsIdle};
 ghost use Rattle.hb_rules.specs.Terms.{AreSpelled};
 ghost use Rattle.rbc_core.specs.Broadcast.{IsShort};
@@ -71,6 +72,7 @@ impl Cores {
         ensures due { OnErr result (due.new.votes ≡ due.old.votes) }
         ensures kept { OnErr result (StandOn self.old self.new) }
         ensures at { StayAt self.old self.new }
+        ensures keeps_room { KeepsRoom due.old due.new }
         ensures room { is_for_broadcast vote.now ≡ false → IsOk result }
     {
         if is_for_broadcast(vote) {
@@ -98,6 +100,7 @@ impl Cores {
         ensures due { OnErr result (due.new.votes ≡ due.old.votes) }
         ensures kept { OnErr result (StandOn self.old self.new) }
         ensures at { StayAt self.old self.new }
+        ensures keeps_room { KeepsRoom due.old due.new }
     {
         let before = due.votes().len();
         self.rbc.hear(alloc, from, vote, due)?;
@@ -116,6 +119,7 @@ impl Cores {
         requires room { room_for self.old vote.now ≤ due.old.spare }
         ensures ok { OnOk result (HearsInEpoch self.old self.new (hearing from vote.now) due.old.votes due.new.votes) }
         ensures at { StayAt self.old self.new }
+        ensures keeps_room { KeepsRoom due.old due.new }
         ensures room { IsOk result }
     {
         self.aba.hear(from, vote.vote(), due)

@@ -7,6 +7,7 @@ ghost use Rattle.hb_wire.specs.Votes.{epoch_of};
 ghost use Rattle.hb_rules.specs.Hearing.{Hearing, hearing};
 ghost use Rattle.hb_rules.specs.Owing.{lane_slots};
 ghost use Rattle.hb_rules.specs.Parts.{in_epoch};
+ghost use Rattle.hb_rules.specs.Room.{KeepsRoom};
 ghost use Rattle.hb_rules.specs.Slots.{IsIdle};
 ghost use Rattle.hb_rules.specs.Terms.{AreSpelled};
 ghost use Rattle.rbc_core.specs.Broadcast.{IsShort};
@@ -104,6 +105,7 @@ impl LaneCore {
         requires short { IsShort vote.now }
         ensures ok { OnOk result (Hears self.old self.new (hearing from vote.now) due.old.votes due.new.votes) }
         ensures due { OnErr result (due.new.votes ≡ due.old.votes) }
+        ensures keeps_room { KeepsRoom due.old due.new }
         ensures kept { OnErr result (KeepsStanding self.old self.new) }
         ensures same { IsSameLane self.old self.new }
         ensures known { self.old.lane < self.old.config.n }
@@ -176,6 +178,7 @@ impl LaneCore {
         requires room { room_by self.old vote.now ≤ due.old.spare }
         ensures ok { OnOk result (Hears self.old self.new (hearing from vote.now) due.old.votes due.new.votes) }
         ensures due { OnErr result (due.new.votes ≡ due.old.votes) }
+        ensures keeps_room { KeepsRoom due.old due.new }
         ensures kept { OnErr result (KeepsStanding self.old self.new) }
         ensures same { IsSameLane self.old self.new }
         ensures room { is_for_broadcast vote.now ≡ false → IsOk result }
@@ -307,6 +310,7 @@ fn hear_in(
     ensures count { length epochs.new ≡ length epochs.old }
     ensures others { (k : ℕ) → k ≢ epoch_of vote.now → cores_at epochs.new k ≡ cores_at epochs.old k }
     ensures due { OnErr result (due.new.votes ≡ due.old.votes) }
+    ensures keeps_room { KeepsRoom due.old due.new }
     ensures kept { OnErr result (StandsOn (cores_at epochs.old (epoch_of vote.now)) (cores_at epochs.new (epoch_of vote.now))) }
     ensures room { is_for_broadcast vote.now ≡ false → IsOk result }
 {
@@ -328,6 +332,7 @@ fn hear_at(
     ensures ok { OnOk result (HearsAt place.old place.new (hearing from vote.now) due.old.votes due.new.votes) }
     ensures at { StaysAt place.old place.new }
     ensures due { OnErr result (due.new.votes ≡ due.old.votes) }
+    ensures keeps_room { KeepsRoom due.old due.new }
     ensures kept { OnErr result (StandsOn place.old place.new) }
     ensures room { is_for_broadcast vote.now ≡ false → IsOk result }
 {

@@ -12,6 +12,7 @@ ghost use Rattle.hb_rules.specs.Claims.{delivered};
 ghost use Rattle.hb_rules.specs.Hearing.{Hearing, hearing};
 ghost use Rattle.hb_rules.specs.History.{HasSpelling};
 ghost use Rattle.hb_rules.specs.Parts.{in_broadcast};
+ghost use Rattle.hb_rules.specs.Room.{KeepsRoom};
 ghost use Rattle.hb_rules.specs.Slots.{first_of};
 ghost use Rattle.hb_rules.specs.Terms.{AreSpelled};
 ghost use Rattle.rbc_core.specs.Broadcast.{place_of, IsShort, Stands, Hears, KeepsStanding, Marks, MakesNoDelivery, IsFurtherReady};
@@ -126,6 +127,7 @@ impl Rbc {
         ensures due { OnErr result (due.new.votes ≡ due.old.votes) }
         ensures enough { IsFurtherReady self.old from vote.now → 1 ≤ due.old.spare → IsOk result }
         ensures room { due.old.spare ≤ due.new.spare + (place_of self.old).config.n + 2 }
+        ensures keeps_room { KeepsRoom due.old due.new }
     {
         if vote.epoch() != self.epoch {
             return Ok(());
@@ -208,6 +210,7 @@ impl Rbc {
         ensures err { OnErr result (KeepsStanding self.old self.new) }
         ensures due { OnErr result (due.new.votes ≡ due.old.votes) }
         ensures room { due.old.spare ≤ due.new.spare + (place_of self.old).config.n }
+        ensures keeps_room { KeepsRoom due.old due.new }
     {
         if from != self.node || self.node != self.lane {
             return Ok(());
@@ -238,6 +241,7 @@ impl Rbc {
         ensures err { OnErr result (KeepsStanding self.old self.new) }
         ensures due { OnErr result (due.new.votes ≡ due.old.votes) }
         ensures room { due.old.spare ≤ due.new.spare + 1 }
+        ensures keeps_room { KeepsRoom due.old due.new }
     {
         if from != self.lane || target != self.node {
             return Ok(());
@@ -278,6 +282,7 @@ impl Rbc {
         ensures err { OnErr result (KeepsStanding self.old self.new) }
         ensures due { OnErr result (due.new.votes ≡ due.old.votes) }
         ensures room { due.old.spare ≤ due.new.spare + 2 }
+        ensures keeps_room { KeepsRoom due.old due.new }
     {
         if !is_valid {
             return Ok(());
@@ -314,6 +319,7 @@ impl Rbc {
         ensures err { OnErr result (KeepsStanding self.old self.new) }
         ensures due { OnErr result (due.new.votes ≡ due.old.votes) }
         ensures room { due.old.spare ≤ due.new.spare + 2 }
+        ensures keeps_room { KeepsRoom due.old due.new }
         ensures enough { is_some (found self.old.roots root.now) ≡ true → MakesNoDelivery self.old from root.now → 1 ≤ due.old.spare → IsOk result }
     {
         let n = self.roots.config().n();
@@ -362,6 +368,7 @@ impl Rbc {
         ensures votes { due.new.votes ≡ due.old.votes ++ votes_in self.old.epoch root.now votes }
         ensures state { self.new ≡ after_votes self.old votes }
         ensures room { due.old.spare ≤ due.new.spare + 2 }
+        ensures keeps_room { KeepsRoom due.old due.new }
     {
         let RootVotes {
             is_ready_due,
@@ -401,6 +408,7 @@ fn root_votes(
     ensures room { OnOk result ((if is_ready_due then 1 else 0) + (if is_delivery_due then 1 else 0) ≤ due.new.spare) }
     ensures votes { due.new.votes ≡ due.old.votes }
     ensures no_less { due.old.spare ≤ due.new.spare }
+    ensures keeps_room { KeepsRoom due.old due.new }
     ensures enough { is_delivery_due ≡ false → 1 ≤ due.old.spare → IsOk result }
 {
     due.reserve(count_of(is_ready_due, is_delivery_due))?;
@@ -418,6 +426,7 @@ fn push_some(vote: Option<Vote>, due: &mut Due)
     ensures votes { due.new.votes ≡ due.old.votes ++ option_to_list vote }
     ensures room { due.new.spare + length (option_to_list vote) ≡ due.old.spare }
     ensures one { due.old.spare ≤ due.new.spare + 1 }
+    ensures keeps_room { KeepsRoom due.old due.new }
 {
     match vote {
         Some(vote) => due.push_reserved(vote),
@@ -453,6 +462,7 @@ fn push_vals(epoch: u8, shards: Vec<Bytes>, tree: &Tree, cast: &NodeSet, due: &m
     requires room { length shards.items ≤ due.old.spare }
     ensures votes { due.new.votes ≡ due.old.votes ++ missing_vals epoch shards.items cast.now (length shards.items) }
     ensures room { due.old.spare ≤ due.new.spare + length shards.items }
+    ensures keeps_room { KeepsRoom due.old due.new }
 {
     let mut target = 0u8;
     for shard in shards {
@@ -468,6 +478,7 @@ fn push_val(epoch: u8, target: u8, shard: Bytes, tree: &Tree, cast: &NodeSet, du
     ensures votes { due.new.votes ≡ due.old.votes
         ++ option_to_list (unless (is_in cast.now target) (Some (Val epoch target (root_of tree.now) shard (branch_of tree.now target)))) }
     ensures room { due.old.spare ≤ due.new.spare + 1 }
+    ensures keeps_room { KeepsRoom due.old due.new }
 {
     if cast.has(target) {
         return;

@@ -29,6 +29,7 @@ returns-in_err-rebuild g c =
       few = λ most one few. few;
       nothing = λ none idle. record { not_full = λ h. cc (h); cast = refl };
       disk = disk_still (λ h. cc (h));
+      keeps_room = omega (arith, c.clear.ensures.keeps_room, c.in_err-rebuild.ensures.keeps_room);
     })
 
 pub cast-requires : goal.cast-requires
@@ -82,4 +83,5 @@ returns g c =
             cast = cast_no_vote t old new due no_due (subst (λ (v : Terms). CastSome v old new due) made.terms did.cast);
           };
       disk = did.disk;
+      keeps_room = omega (arith, c.clear.ensures.keeps_room, made.keeps_room);
     }

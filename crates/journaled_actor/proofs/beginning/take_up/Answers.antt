@@ -31,6 +31,7 @@ returns-in_err-votes g c =
       few = λ most few. few_more t posts most few;
       nothing = λ none idle. record { not_full = other_still did.other; cast = refl };
       disk = disk_again did.disk;
+      keeps_room = omega arith;
     })
 
 pub post_all-requires : goal.post_all-requires
@@ -65,6 +66,7 @@ returns-in_err-post_all g c =
       few = λ most few. few_again t old old new votes most covers.are did.cast few;
       nothing = λ none idle. absurd (cc (did.nothing (no_votes votes (sym (read.text ∙ ap payload (sym c.deref.ensures.value)) ∙ read.same ∙ none))));
       disk = disk_done read.disk did.other;
+      keeps_room = omega arith;
     })
 
 pub begin-requires : goal.begin-requires
@@ -119,4 +121,5 @@ returns g c =
           };
       few = λ most few. begun.few (most + 1) (omega arith) (few_again t old old (g.B.Book.seen c.post_all.new.seat) votes most covers.are did.cast few);
       disk = disk_then read.disk begun.disk;
+      keeps_room = begun.keeps_room;
     }

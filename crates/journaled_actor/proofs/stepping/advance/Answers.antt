@@ -48,6 +48,7 @@ returns-in_err-receive g c =
       owed = λ _. (refl, refl, same);
       few = λ most one few. few_watched t old new most same few;
       disk = disk_still (λ h. cc (h));
+      keeps_room = omega (arith, c.clear.ensures.keeps_room, did.keeps_room);
     })
 
 pub cast-requires : goal.cast-requires
@@ -136,4 +137,5 @@ returns g c =
           few_new t mid new text votes due most all same_terms.1 (subst (λ (v : Terms). CastSome v mid new due) did.terms cast.cast) one
           (few_watched t old mid most same few);
       disk = cast.disk;
+      keeps_room = omega (arith, c.clear.ensures.keeps_room, did.keeps_room);
     }

@@ -65,6 +65,7 @@ loop-shard-preserved c =
       target = omega (arith, c.loop-shard.invariant.target, length-append c.loop-shard.yielded (c.in-Some.shard ∷ []));
       split = append_assoc c.loop-shard.yielded (c.in-Some.shard ∷ []) (into_iter_items c.next.new.self) ∙ split;
       room = omega (arith, c.loop-shard.invariant.room, c.push_val.ensures.room);
+      kept = omega (arith, c.loop-shard.invariant.kept, c.push_val.ensures.keeps_room);
       spent = omega (arith, c.loop-shard.invariant.spent, c.push_val.ensures.room);
       votes =
           rw add-one (c.push_val.ensures.votes
