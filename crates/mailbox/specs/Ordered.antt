@@ -51,7 +51,7 @@ asked_once v = view_of v.takes v.splits v.sent v.taken v.joined (v.asked + 1) v.
 abbrev pub joined_with : View → View → View
 joined_with v w = view_of v.takes (v.splits ++ w.splits) v.sent v.taken (v.joined ++ w.sent ∷ []) v.asked v.own
 
--- a pass with no right, by which an end of the queue is looked at: it tells how often the take pass was asked when it was made
+-- a pass with no right, by which an end of the queue is seen: it tells how often the take pass was asked when it was made
 abbrev pub witness_of : View → View
 witness_of v = view_of false [] [] [] [] v.asked []
 

@@ -58,7 +58,8 @@ put_pass_view seat = record {
 }
 
 abbrev pub IsPutSeat : QueueSeat → Type 0
-IsPutSeat seat = IsFree seat × (known_to seat ≡ putter (slice_index (known_to seat).splits 0) (known_to seat).sent (known_to seat).asked)
+IsPutSeat seat =
+    IsFree seat × (known_to seat ≡ putter (slice_index (known_to seat).splits 0) (known_to seat).sent (known_to seat).asked)
 
 abbrev pub saw_head : Stage → Bool
 saw_head SawHead = true
@@ -67,7 +68,8 @@ saw_head _ = false
 -- one pass saw the front of the queue and another its back, at the same place, and both were made when the take pass had been
 -- asked so often
 abbrev pub is_empty_seen : ℕ → QueueSeat → QueueSeat → Bool
-is_empty_seen asked front back = saw_head front.me.view.stage && saw_tail back.me.view.stage && front.me.view.at == back.me.view.at
+is_empty_seen asked front back =
+    saw_head front.me.view.stage && saw_tail back.me.view.stage && front.me.view.at == back.me.view.at
     && (known_to front).asked == asked && (known_to back).asked == asked
 
 -- they are passes of this mailbox

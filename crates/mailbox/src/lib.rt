@@ -118,10 +118,11 @@ impl Mailbox {
     }
 
     /// A new put pass, which has put nothing. Each of the two has half of the share that `pass` had. It takes no memory.
-    #[tactic(auto, using(crate::proofs::Moves::forks_halves))]
+    #[tactic(auto, using(crate::proofs::Forks::forks_halves))]
     pub fn split(&self, pass: &mut PutPass) -> PutPass
         requires { pass.old.at ≡ self.now }
-        ensures same { (pass.new.at ≡ pass.old.at) × (pass.new.splits ≡ pass.old.splits + 1) × (pass.new.put ≡ pass.old.put) × (pass.new.asked ≡ pass.old.asked) }
+        ensures same { (pass.new.at ≡ pass.old.at) × (pass.new.splits ≡ pass.old.splits + 1) × (pass.new.put ≡ pass.old.put)
+            × (pass.new.asked ≡ pass.old.asked) }
         ensures new { (result.at ≡ self.now) × (result.splits ≡ pass.old.splits + 1) × (result.put ≡ []) }
     {
         let seat = self.line.another::<Halves>(&mut pass.seat);
@@ -166,8 +167,8 @@ impl Mailbox {
     }
 
     /// Takes the oldest number. After `None` what was taken has all that was put through the passes that were handed in, and the
-    /// receiver's own numbers that the pass was told of. The pass counts each call (`asked`), and `None` comes only where both
-    /// ends of the queue were seen at one place since this count (`looked`), and so nothing lay between them.
+    /// receiver's own numbers that the pass was told of. The pass counts each call (`asked`). `None` comes only where both ends
+    /// of the queue were seen at one place since this count (`looked`), so that nothing lay between them.
     #[tactic(auto, using(crate::proofs::Moves::all_taken))]
     pub fn take<R: Wait>(&self, rt: &R, pass: &mut TakePass) -> Option<u32>
         requires { pass.old.at ≡ self.now }
@@ -201,7 +202,8 @@ impl Mailbox {
 
     /// Ends the mailbox and gives what was not taken, in order. It asks for all passes: the shares of the put passes,
     /// those handed in before among them, are the whole right to put. What was taken and then the rest is an
-    /// interleaving of what the put passes put. The error is want of memory, comes only where something is left, and drops it.
+    /// interleaving of what the put passes put. The error is want of memory. It comes only where something is left, and drops
+    /// that.
     pub fn close<R: Wait>(
         self,
         rt: &R,
@@ -211,7 +213,8 @@ impl Mailbox {
     ) -> Result<Vec<u32>, AllocError>
         requires same { (take.at ≡ self) × All (λ p. p.at ≡ self) puts.items }
         requires all { AreWhole (take.splits ++ map (λ p. p.splits) puts.items) }
-        ensures rest { IfOk result (λ rest. IsInterleaving (take.joined ++ map (λ p. p.put) puts.items) (take.taken ++ rest.items)) }
+        ensures rest { IfOk result (λ rest.
+            IsInterleaving (take.joined ++ map (λ p. p.put) puts.items) (take.taken ++ rest.items)) }
         ensures left { OnErr result (IsMoreLeft (take.joined ++ map (λ p. p.put) puts.items) take.taken) }
     {
         let TakePass { mut seat, last: _ } = take;
@@ -222,7 +225,8 @@ impl Mailbox {
     // The take pass learns what was put through a put pass.
     fn tell(&self, take: &mut TakePass, own: &mut PutPass)
         requires { (take.old.at ≡ self.now) × (own.old.at ≡ self.now) }
-        ensures same { (own.new.at ≡ own.old.at) × (own.new.splits ≡ own.old.splits) × (own.new.put ≡ own.old.put) × (own.new.asked ≡ own.old.asked) }
+        ensures same { (own.new.at ≡ own.old.at) × (own.new.splits ≡ own.old.splits) × (own.new.put ≡ own.old.put)
+            × (own.new.asked ≡ own.old.asked) }
         ensures told { take.new ≡ record take.old { own = own.old.put } }
     {
         let receipt = self.line.another::<Receipts>(&mut own.seat);
@@ -237,8 +241,8 @@ impl Mailbox {
         let _ = self.line.another::<Asks>(seat);
     }
 
-    // One step of a put pass, which counts that it was asked: the number goes to the back of the queue. What the pass saw before
-    // it was asked no clause of the kit tells then, so a refusal has looked since.
+    // One step of a put pass, which counts that it was asked: the number goes to the back of the queue. What the pass saw
+    // before no clause of the kit tells then, so a refusal has looked since.
     fn push<R: Wait>(&self, rt: &R, seat: &mut LinePass, number: u32) -> Result<(), u32>
         requires { (seat.old.web ≡ self.now) × IsPutSeat seat.old }
         ensures seat { (seat.new.web ≡ self.now) × IsFree seat.new }
@@ -296,8 +300,10 @@ impl Mailbox {
     fn pop<R: Wait>(&self, rt: &R, seat: &mut LinePass) -> Option<u32>
         requires { IsTakerAsKnown self.now seat.old }
         ensures seat { (seat.new.web ≡ self.now) × IsFree seat.new }
-        ensures taken { MatchOption result (known_to seat.new ≡ known_to seat.old) (λ number. known_to seat.new ≡ after_take (known_to seat.old) number) }
-        ensures more { IfSome result (λ number. AreWhole (known_to seat.old).splits → IsMoreLeft (known_to seat.old).joined (known_to seat.old).taken) }
+        ensures taken { MatchOption result (known_to seat.new ≡ known_to seat.old)
+            (λ number. known_to seat.new ≡ after_take (known_to seat.old) number) }
+        ensures more { IfSome result (λ number.
+            AreWhole (known_to seat.old).splits → IsMoreLeft (known_to seat.old).joined (known_to seat.old).taken) }
         ensures empty { IfNone result (HasAll (known_to seat.old).joined ((known_to seat.old).taken ++ [])) }
         ensures own { IfNone result (HasAll ((known_to seat.old).own ∷ []) ((known_to seat.old).taken ++ [])) }
         ensures all { IfNone result (AreWhole (known_to seat.old).splits → IsInterleaving (known_to seat.old).joined ((known_to seat.old).taken ++ [])) }

@@ -1,6 +1,6 @@
 use Rattle.std.proofs.Common.{ap, ◌∙◌}
 use Rattle.mailbox.specs.declared.rule.View.{View}
-use Rattle.mailbox.proofs.Moves.{forks_witness}
+use Rattle.mailbox.proofs.Forks.{forks_witness}
 use Rattle.mailbox.proofs.Mailbox.look.Goals as goal
 
 pub another-front-requires-clause-rule : goal.another-front-requires-clause-rule

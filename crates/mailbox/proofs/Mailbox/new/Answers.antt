@@ -1,6 +1,7 @@
 use Rattle.std.proofs.Common.{ap, ◌∙◌}
 use Rattle.mailbox.specs.declared.rule.View.{View}
-use Rattle.mailbox.proofs.Moves.{begins, forks_sides, forks_witness}
+use Rattle.mailbox.proofs.Moves.{begins}
+use Rattle.mailbox.proofs.Forks.{forks_sides, forks_witness}
 use Rattle.mailbox.proofs.Mailbox.new.Goals as goal
 
 pub with_rule-requires : goal.with_rule-requires
@@ -14,4 +15,5 @@ another-front-requires-clause-rule c = forks_witness _ _ (ap (λ (v : View). v.t
 
 pub another-back-requires-clause-rule : goal.another-back-requires-clause-rule
 another-back-requires-clause-rule c =
-    forks_witness _ _ (ap (λ (v : View). v.takes) c.another-front.ensures.rule.0 ∙ ap (λ (v : View). v.takes) c.another-second.ensures.rule.1)
+    forks_witness _ _
+    (ap (λ (v : View). v.takes) c.another-front.ensures.rule.0 ∙ ap (λ (v : View). v.takes) c.another-second.ensures.rule.1)

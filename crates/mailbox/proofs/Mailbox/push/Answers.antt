@@ -1,4 +1,5 @@
-use Rattle.mailbox.proofs.Moves.{puts, still_puts, forks_asked_put}
+use Rattle.mailbox.proofs.Moves.{puts, still_puts}
+use Rattle.mailbox.proofs.Forks.{forks_asked_put}
 use Rattle.mailbox.proofs.Mailbox.push.Goals as goal
 
 pub another-requires-clause-rule : goal.another-requires-clause-rule

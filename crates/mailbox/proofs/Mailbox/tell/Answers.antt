@@ -1,4 +1,5 @@
-use Rattle.mailbox.proofs.Moves.{forks_receipt, merges_receipt}
+use Rattle.mailbox.proofs.Moves.{merges_receipt}
+use Rattle.mailbox.proofs.Forks.{forks_receipt}
 use Rattle.mailbox.proofs.Mailbox.tell.Goals as goal
 
 pub another-receipt-requires-clause-rule : goal.another-receipt-requires-clause-rule
