@@ -522,8 +522,8 @@ TakesOne-new s moved k o m m1 q was took served =
 
 -- the first of those held back was served
 pub TakesOne-back : (s : Script) (moved : List ℕ) (o m m1 q : Turning) → HoldsBack s moved o m → Took m m1 [] → IsEmptied m.mail.passes m.mail.passes.take.taken
-    → ServesBack s answers.Did m1 q → TakesOne s o q
-TakesOne-back s moved o m m1 q was took empty done =
+    → m1.mail.passes.take.saw_empty ≡ true → ServesBack s answers.Did m1 q → TakesOne s o q
+TakesOne-back s moved o m m1 q was took empty looked done =
     let all = TookOnly-taker o.mail m1.mail q.mail (moved ++ []) (TookOnly-then o.mail m.mail m1.mail moved [] was.mail took.mail) done.3 in
     let before = emptied_before o.mail m.mail moved was.mail empty in
     record {
@@ -535,6 +535,7 @@ TakesOne-back s moved o m m1 q was took empty done =
         taken = all.1 ∙ ap (λ (ks : List ℕ). o.mail.passes.take.taken ++ ks) (append-nil moved);
         empty = before.0;
         own = before.1;
+        looked = ap (λ t. t.saw_empty) done.3.take ∙ looked;
         back = sym was.back ∙ sym took.back ∙ done.1;
       });
       fares = fares_of s done.0 moved [] o m m1 q was took done.2;
@@ -548,8 +549,8 @@ both_none (x ∷ xs) ys is = absurd (omega (arith, ap (λ (zs : List ℕ). lengt
 
 -- there was none
 pub TakesNone-of : (s : Script) (moved : List ℕ) (o m m1 q : Turning) → HoldsBack s moved o m → Took m m1 [] → IsEmptied m.mail.passes m.mail.passes.take.taken
-    → ServesBack s answers.Idle m1 q → TakesNone o q
-TakesNone-of s moved o m m1 q was took empty done =
+    → m1.mail.passes.take.saw_empty ≡ true → ServesBack s answers.Idle m1 q → TakesNone o q
+TakesNone-of s moved o m m1 q was took empty looked done =
     let none = both_none o.back moved (sym was.back ∙ sym took.back ∙ done.0) in
     let player : q.player ≡ m.player = ap (λ (t : Turning). t.player) done.1 ∙ took.player in
     let all = TookOnly-then o.mail m.mail m1.mail moved [] was.mail took.mail in
@@ -564,6 +565,7 @@ TakesNone-of s moved o m m1 q was took empty done =
       mail = subst (λ (ks : List ℕ). TookOnly o.mail q.mail ks) (append-nil moved ∙ none.1) took_all;
       empty = emptied.0;
       own = emptied.1;
+      looked = ap (λ (t : Turning). t.mail.passes.take.saw_empty) done.1 ∙ looked;
       before = none.0;
       after = ap (λ (t : Turning). t.back) done.1 ∙ done.0;
     }
@@ -627,10 +629,10 @@ looked_found s k (Some how) m looked = looked
 -- ---- the answers of a turn
 
 pub Turned-back : (s : Script) (r : Served) (moved : List ℕ) (o m m1 q : Turning) → m.player.fate ≡ Running → HoldsBack s moved o m → Took m m1 []
-    → IsEmptied m.mail.passes m.mail.passes.take.taken → ServesBack s r m1 q → Turned s r o q
-Turned-back s answers.Idle moved o m m1 q running was took empty done = (sym was.fate ∙ running, TakesNone-of s moved o m m1 q was took empty done)
-Turned-back s answers.Did moved o m m1 q running was took empty done = (sym was.fate ∙ running, TakesOne-back s moved o m m1 q was took empty done)
-Turned-back s answers.Ended moved o m m1 q running was took empty done = absurd done
+    → IsEmptied m.mail.passes m.mail.passes.take.taken → m1.mail.passes.take.saw_empty ≡ true → ServesBack s r m1 q → Turned s r o q
+Turned-back s answers.Idle moved o m m1 q running was took empty looked done = (sym was.fate ∙ running, TakesNone-of s moved o m m1 q was took empty looked done)
+Turned-back s answers.Did moved o m m1 q running was took empty looked done = (sym was.fate ∙ running, TakesOne-back s moved o m m1 q was took empty looked done)
+Turned-back s answers.Ended moved o m m1 q running was took empty looked done = absurd done
 
 pub Turned-new : (s : Script) (moved : List ℕ) (k : ℕ) (o m m1 q : Turning) → m.player.fate ≡ Running → HoldsBack s moved o m → Took m m1 (k ∷ []) → ServesNew s k true m1 q
     → Turned s answers.Did o q

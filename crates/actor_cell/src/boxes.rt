@@ -107,8 +107,7 @@ impl Boxes {
     }
 
     /// Takes the oldest number from the mailbox whose take pass this is. After `None` what was taken has all that was put through
-    /// the passes that were handed in, and all own puts. The pass counts each call, and no clause says that the call looked into
-    /// the mailbox.
+    /// the passes that were handed in, and all own puts. Both ends of the mailbox's queue were seen at one place in this call.
     pub fn take<R: Wait>(&self, rt: &R, passes: &mut Passes) -> Option<u32>
         requires passes { ArePassesOf self.now passes.old }
         ensures passes { ArePassesOf self.now passes.new }
@@ -117,6 +116,7 @@ impl Boxes {
         ensures asked { passes.new.take.asked ≡ passes.old.take.asked + 1 }
         ensures empty { IfNone result (HasAll passes.old.take.joined passes.old.take.taken) }
         ensures own { IfNone result (HasAll (own_puts passes.old ∷ []) passes.old.take.taken) }
+        ensures looked { IfNone result (passes.new.take.saw_empty ≡ true) }
         ensures taken { MatchOption result (passes.new.take.taken ≡ passes.old.take.taken)
             (λ number. passes.new.take.taken ≡ passes.old.take.taken ++ number ∷ []) }
     {

@@ -68,6 +68,7 @@ impl<'b> Mail<'b> {
         ensures asked { self.new.passes.take.asked ≡ self.old.passes.take.asked + 1 }
         ensures empty { IfNone result (HasAll self.old.passes.take.joined self.old.passes.take.taken) }
         ensures own { IfNone result (HasAll (own_puts self.old.passes ∷ []) self.old.passes.take.taken) }
+        ensures looked { IfNone result (self.new.passes.take.saw_empty ≡ true) }
         ensures taken { MatchOption result (self.new.passes.take.taken ≡ self.old.passes.take.taken)
             (λ number. self.new.passes.take.taken ≡ self.old.passes.take.taken ++ number ∷ []) }
     {

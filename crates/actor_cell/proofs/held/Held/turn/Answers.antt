@@ -68,6 +68,7 @@ returns-in-None-take-clause-turned g c =
       asked = c.take.ensures.asked;
     } in
     Turned-back s c.serve_back.result c.loop.invariant.held.0 o m m1 q c.loop.invariant.running c.loop.invariant.held.1 took (c.in-None-take.ensures.empty, c.in-None-take.ensures.own)
+    c.in-None-take.ensures.looked
     (subst (λ (t : Script). ServesBack t c.serve_back.result m1 q) same c.serve_back.ensures.served)
 
 pub returns-then-serve_new-clause-moved : goal.returns-then-serve_new-clause-moved
