@@ -259,17 +259,47 @@ fn many_threads(rt: HostRuntime) -> Result<(), Fail> {
     Ok(())
 }
 
+// Puts a number for the receiver itself.
+fn put_own<R: Wait>(
+    rt: &R,
+    mailbox: &Mailbox,
+    take: &mut TakePass,
+    own: &mut PutPass,
+    number: u32,
+) -> Result<(), u32>
+    requires { (take.old.at ≡ mailbox.now) × (own.old.at ≡ mailbox.now) }
+    ensures take { (take.new.at ≡ take.old.at) × (take.new.splits ≡ take.old.splits) }
+    ensures own { (own.new.at ≡ own.old.at) × (own.new.splits ≡ own.old.splits) }
+{
+    match mailbox.put_own(rt, take, own, number) {
+        Ok(()) => Ok(()),
+        Err(back) => Err(back),
+    }
+}
+
+// Takes twice.
+fn take_two<R: Wait>(
+    rt: &R,
+    mailbox: &Mailbox,
+    take: &mut TakePass,
+) -> (Option<u32>, Option<u32>)
+    requires { take.old.at ≡ mailbox.now }
+    ensures { (take.new.at ≡ take.old.at) × (take.new.splits ≡ take.old.splits) }
+{
+    let first = mailbox.take(rt, take);
+    let second = mailbox.take(rt, take);
+    (first, second)
+}
+
 #[test]
 fn own_numbers(rt: HostRuntime) -> Result<(), Fail> {
     let (mailbox, mut first, mut take) = Mailbox::new(rt.alloc())?;
     let mut own = mailbox.split(&mut first);
-    assert_eq!(rt; mailbox.put_own(&rt, &mut take, &mut own, 5), Ok(()));
+    assert_eq!(rt; put_own(&rt, &mailbox, &mut take, &mut own, 5), Ok(()));
     assert_eq!(rt; mailbox.put(&rt, &mut first, 3), Ok(()));
-    assert_eq!(rt; mailbox.put_own(&rt, &mut take, &mut own, 7), Ok(()));
-    assert_eq!(rt; mailbox.take(&rt, &mut take), Some(5));
-    assert_eq!(rt; mailbox.take(&rt, &mut take), Some(3));
-    assert_eq!(rt; mailbox.take(&rt, &mut take), Some(7));
-    assert_eq!(rt; mailbox.take(&rt, &mut take), None);
+    assert_eq!(rt; put_own(&rt, &mailbox, &mut take, &mut own, 7), Ok(()));
+    assert_eq!(rt; take_two(&rt, &mailbox, &mut take), (Some(5), Some(3)));
+    assert_eq!(rt; take_two(&rt, &mailbox, &mut take), (Some(7), None));
     let rest = close_two(&rt, rt.alloc(), mailbox, (first, own), take)?;
     assert!(rt; rest.is_empty());
     Ok(())
