@@ -181,8 +181,9 @@ TakesOne-new moved back k o m q mail was less took goes served =
 
 -- the first of those held back was served
 pub TakesOne-back : {B : Type 0} (moved : ℕ → ℕ → B → B → Type 0) (back : List ℕ) (o m q : LiarView B) (mail : MailView) → HoldsBack back o m → length o.seat.seen ≤ length m.seat.seen
-    → Took m.mail mail [] → IsEmptied m.mail.passes m.mail.passes.take.taken → GoesOn moved (with_mail m mail) q → ServesBack answers.Did (with_mail m mail) q → TakesOne o q
-TakesOne-back moved back o m q mail was less took empty goes done =
+    → Took m.mail mail [] → IsEmptied m.mail.passes m.mail.passes.take.taken → mail.passes.take.saw_empty ≡ true
+    → GoesOn moved (with_mail m mail) q → ServesBack answers.Did (with_mail m mail) q → TakesOne o q
+TakesOne-back moved back o m q mail was less took empty looked goes done =
     let all = TookOnly-taker o.mail mail q.mail (back ++ []) (TookOnly-then o.mail m.mail mail back [] was.mail took.mail) done.3 in
     let before = emptied_before o.mail m.mail back was.mail empty in
     record {
@@ -194,6 +195,7 @@ TakesOne-back moved back o m q mail was less took empty goes done =
         taken = all.1 ∙ ap (λ (ks : List ℕ). o.mail.passes.take.taken ++ ks) (append-nil back);
         empty = before.0;
         own = before.1;
+        looked = ap (λ t. t.saw_empty) done.3.take ∙ looked;
         back = sym was.back ∙ done.1;
       });
       fares = fares_of done.0 back [] o m q mail was took less done.2;
@@ -203,8 +205,8 @@ TakesOne-back moved back o m q mail was less took empty goes done =
 
 -- there was none
 pub TakesNone-of : {B : Type 0} (back : List ℕ) (o m q : LiarView B) (mail : MailView) → HoldsBack back o m → Took m.mail mail [] → IsEmptied m.mail.passes m.mail.passes.take.taken
-    → ServesBack answers.Idle (with_mail m mail) q → TakesNone o q
-TakesNone-of {B} back o m q mail was took empty done =
+    → mail.passes.take.saw_empty ≡ true → ServesBack answers.Idle (with_mail m mail) q → TakesNone o q
+TakesNone-of {B} back o m q mail was took empty looked done =
     let none = both_none o.back back (sym was.back ∙ done.0) in
     let all : TookOnly o.mail mail (back ++ []) = TookOnly-then o.mail m.mail mail back [] was.mail took.mail in
     let emptied : IsEmptied o.mail.passes o.mail.passes.take.taken =
@@ -217,6 +219,7 @@ TakesNone-of {B} back o m q mail was took empty done =
       mail = subst (λ (ks : List ℕ). TookOnly o.mail q.mail ks) (append-nil back ∙ none.1) took_all;
       empty = emptied.0;
       own = emptied.1;
+      looked = ap (λ (v : LiarView B). v.mail.passes.take.saw_empty) done.1 ∙ looked;
       before = none.0;
       after = ap (λ (v : LiarView B). v.back) done.1 ∙ done.0;
     }
@@ -224,7 +227,8 @@ TakesNone-of {B} back o m q mail was took empty done =
 -- ---- the answers of a turn
 
 pub Turned-back : {B : Type 0} (moved : ℕ → ℕ → B → B → Type 0) (r : Served) (back : List ℕ) (o m q : LiarView B) (mail : MailView) → HoldsBack back o m → length o.seat.seen ≤ length m.seat.seen
-    → Took m.mail mail [] → IsEmptied m.mail.passes m.mail.passes.take.taken → GoesOn moved (with_mail m mail) q → ServesBack r (with_mail m mail) q → Turned r o q
-Turned-back moved answers.Idle back o m q mail was less took empty goes done = TakesNone-of back o m q mail was took empty done
-Turned-back moved answers.Did back o m q mail was less took empty goes done = TakesOne-back moved back o m q mail was less took empty goes done
-Turned-back moved answers.Ended back o m q mail was less took empty goes done = absurd done
+    → Took m.mail mail [] → IsEmptied m.mail.passes m.mail.passes.take.taken → mail.passes.take.saw_empty ≡ true
+    → GoesOn moved (with_mail m mail) q → ServesBack r (with_mail m mail) q → Turned r o q
+Turned-back moved answers.Idle back o m q mail was less took empty looked goes done = TakesNone-of back o m q mail was took empty looked done
+Turned-back moved answers.Did back o m q mail was less took empty looked goes done = TakesOne-back moved back o m q mail was less took empty looked goes done
+Turned-back moved answers.Ended back o m q mail was less took empty looked goes done = absurd done

@@ -106,13 +106,14 @@ pub record IsFromMailbox {B : Type 0} (k : ℕ) (moved : List ℕ) (old new : Li
   pub back : new.back ≡ old.back ++ moved
   pub late : IsLate new.script new.seat.seen new.seat.node k → IsThrownAway old new
 
--- the mailbox gave none: it was asked once more than gave the moved numbers, all that was put through the passes handed in was
--- taken, and all that the node had put for itself, and the number was the first of those held back
+-- The mailbox gave none: it was asked once more than gave the moved numbers, and was seen empty then. All that was put through
+-- the passes handed in was taken, and all that the node had put for itself. The number was the first of those held back.
 pub record IsFromBack {B : Type 0} (k : ℕ) (moved : List ℕ) (old new : LiarView B) : Type 0 where
   pub asked : old.mail.passes.take.asked + length moved < new.mail.passes.take.asked
   pub taken : new.mail.passes.take.taken ≡ old.mail.passes.take.taken ++ moved
   pub empty : HasAll old.mail.passes.take.joined (old.mail.passes.take.taken ++ moved)
   pub own : HasAll (own_puts old.mail.passes ∷ []) (old.mail.passes.take.taken ++ moved)
+  pub looked : new.mail.passes.take.saw_empty ≡ true
   pub back : old.back ++ moved ≡ k ∷ new.back
 
 -- One number was taken. Before it others may have been moved to those held back, since their posts are late.
@@ -125,14 +126,15 @@ pub record TakesOne {B : Type 0} (old new : LiarView B) : Type 0 where
   pub boxes : new.mail.boxes ≡ old.mail.boxes
   pub joined : new.mail.passes.take.joined ≡ old.mail.passes.take.joined
 
--- no number was taken: the mailbox was asked and gave none, all that was put through the passes handed in was taken, and all that
--- the node had put for itself, and nothing is held back
+-- No number was taken: the mailbox was asked and was seen empty then. All that was put through the passes handed in was taken,
+-- and all that the node had put for itself. Nothing is held back.
 pub record TakesNone {B : Type 0} (old new : LiarView B) : Type 0 where
   pub asked : old.mail.passes.take.asked < new.mail.passes.take.asked
   pub quiet : IsQuiet old new
   pub mail : TookOnly old.mail new.mail []
   pub empty : HasAll old.mail.passes.take.joined old.mail.passes.take.taken
   pub own : HasAll (own_puts old.mail.passes ∷ []) old.mail.passes.take.taken
+  pub looked : new.mail.passes.take.saw_empty ≡ true
   pub before : old.back ≡ []
   pub after : new.back ≡ []
 

@@ -199,6 +199,7 @@ impl<'b, B: NamedBook + Drop, L: Mouth, J: RunName> HeldLiar<'b, B, L, J> {
         ensures asked { self.new.mail.passes.take.asked ≡ self.old.mail.passes.take.asked + 1 }
         ensures empty { IfNone result (HasAll self.old.mail.passes.take.joined self.old.mail.passes.take.taken) }
         ensures own { IfNone result (HasAll (own_puts self.old.mail.passes ∷ []) self.old.mail.passes.take.taken) }
+        ensures looked { IfNone result (self.new.mail.passes.take.saw_empty ≡ true) }
         ensures taken { MatchOption result (TookOnly self.old.mail self.new.mail []) (λ k. TookOnly self.old.mail self.new.mail (k ∷ [])) }
     {
         self.mail.take(rt)

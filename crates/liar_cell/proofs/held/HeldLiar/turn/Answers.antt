@@ -31,7 +31,8 @@ returns-in-None-take-clause-turned g c =
     let goes : GoesOn b.moved (with_mail m mail) q = subst (λ (v : LiarView _). GoesOn b.moved v q) c.take.ensures.rest c.serve_back.ensures.goes in
     let served : ServesBack r (with_mail m mail) q = subst (λ (v : LiarView _). ServesBack r v q) c.take.ensures.rest c.serve_back.ensures.served in
     Turned-back b.moved r was.held.0 o m q mail was.held.1 (longer o.seat.seen m.seat.seen was.goes.seen)
-    (record { mail = c.in-None-take.ensures.taken; asked = c.take.ensures.asked }) (c.in-None-take.ensures.empty, c.in-None-take.ensures.own) goes served
+    (record { mail = c.in-None-take.ensures.taken; asked = c.take.ensures.asked }) (c.in-None-take.ensures.empty, c.in-None-take.ensures.own)
+    c.in-None-take.ensures.looked goes served
 
 pub returns-then-serve_new-clause-goes : goal.returns-then-serve_new-clause-goes
 returns-then-serve_new-clause-goes g c =
