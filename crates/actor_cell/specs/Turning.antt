@@ -79,7 +79,7 @@ pub record KeepsTerms (old new : ActorView) : Type 0 where
 abbrev pub HasFailed : PlayerView → Type 0
 HasFailed p = ¬ (p.fate ≡ Running) → p.view.live ≡ false
 
--- how an actor comes to want of memory: in a call in which its disk did not fail, or while it is without power, or after a restart
+-- how an actor comes to want of memory: in a call in which its disk did not fail, or without power, or after a restart
 abbrev pub WantedMemory : ActorView → ActorView → Type 0
 WantedMemory old new = (new.faults ≡ old.faults) ⊎ ((new.supply.off ≡ true) ⊎ (old.restarts < new.restarts))
 
