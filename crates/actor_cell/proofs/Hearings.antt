@@ -215,8 +215,11 @@ IsTried-ended old p first fault before out was not = by was.tried
     by : WasTried old p first fault → IsTried first old (ended_with p fault)
     by (inl none) = record {
       on = λ _. ap (λ (f : ActorFault). ended_with p f) none.1 ∙ ap (λ (v : PlayerView). ended_with v first) none.0;
-      off = λ may. absurd (cc (may, subst (λ (f : ActorFault). may_restart f old.view.supply.off ≡ false) none.1
-          (subst (λ (v : PlayerView). may_restart fault v.view.supply.off ≡ false) none.0 not)));
+      off = λ may. absurd (cc (
+        may,
+        subst (λ (f : ActorFault). may_restart f old.view.supply.off ≡ false) none.1
+            (subst (λ (v : PlayerView). may_restart fault v.view.supply.off ≡ false) none.0 not),
+      ));
     }
     by (inr tried) = record {
       on = λ no. absurd (cc (no, tried.0));

@@ -22,7 +22,7 @@ use step_driver::{Player, is_running};
 // counted.
 //
 // It costs a look at each new post in the two lists where those that may come to it stand. Where all are new it costs a mark
-// for each post too. The book is read twice for each post that is delivered. A restart costs a look at each post.
+// for each post too. A post that is delivered is read once, and then once more by `reread`. A restart costs a look at each post.
 pub(crate) fn catch_up<B: Book, A: Actor<B>, G: Gate>(
     alloc: Global,
     script: &Script,

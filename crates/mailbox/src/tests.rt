@@ -278,11 +278,7 @@ fn put_own<R: Wait>(
 }
 
 // Takes twice.
-fn take_two<R: Wait>(
-    rt: &R,
-    mailbox: &Mailbox,
-    take: &mut TakePass,
-) -> (Option<u32>, Option<u32>)
+fn take_two<R: Wait>(rt: &R, mailbox: &Mailbox, take: &mut TakePass) -> (Option<u32>, Option<u32>)
     requires { take.old.at ≡ mailbox.now }
     ensures { (take.new.at ≡ take.old.at) × (take.new.splits ≡ take.old.splits) }
 {

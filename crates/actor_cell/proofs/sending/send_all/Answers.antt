@@ -29,8 +29,13 @@ returns-in_err-send_one-clause-some g c =
     let sent : AreSent s.config (deliveries s.config s q.seat.seen front) c.args.mail.now c.send_one.new.mail =
     subst (λ (m : MailView). AreSent s.config (deliveries s.config s q.seat.seen front) c.args.mail.now m) (sym c.in_err-send_one.ensures.none)
     (deliveries-kept s.config s p.seat.seen q.seat.seen front c.args.mail.now c.loop-k.mail (shown_longer p q c.send_one.ensures.shown) stand c.loop-k.invariant.sent) in
-    OnErr-any c.from_residual.result _ (front, drop c.loop-k.k-index c.args.numbers.now,
-    (λ none. omega (arith, length-drop c.loop-k.k-index c.args.numbers.now, ap (λ (ks : List ℕ). length ks) none, c.loop-k-test.true)), take_rest c.args.numbers.now c.loop-k.k-index, sent)
+    OnErr-any c.from_residual.result _ (
+      front,
+      drop c.loop-k.k-index c.args.numbers.now,
+      (λ none. omega (arith, length-drop c.loop-k.k-index c.args.numbers.now, ap (λ (ks : List ℕ). length ks) none, c.loop-k-test.true)),
+      take_rest c.args.numbers.now c.loop-k.k-index,
+      sent,
+    )
 
 pub returns-in_err-send_one-clause-looked : goal.returns-in_err-send_one-clause-looked
 returns-in_err-send_one-clause-looked g c =
