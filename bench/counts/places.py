@@ -1,5 +1,4 @@
 """Finds the places of a program at which something is counted. The tools of the kit read the program."""
-import itertools
 import re
 import struct
 import subprocess
@@ -15,6 +14,8 @@ TIED = re.compile(r"j|call|ret|loop|xbegin|.*rip")
 SWAP = re.compile(r"xchgq\s+%(\w+), \(%\w+\)")
 # What the lock of a turn book is while a thread may sleep on it: `AWAITED` of turn_book.
 AWAITED = 2
+# Among how many operations behind a swap that comparison stands.
+SOON = 3
 
 
 def kit_tool(name, *words):
@@ -59,13 +60,20 @@ class Program:
         return at, end - at
 
     def freed_locks(self):
-        """The places where a turn book's lock is freed. What it was is compared at once, since a thread may have to be woken. The
+        """The places where a turn book's lock is freed. What it was is compared soon, since a thread may have to be woken. The
         compiler copies this into callers, so it is found by its shape, and not by a name."""
         places = []
-        for (at, text), (_, after) in itertools.pairwise(self.operations):
+        for number, (at, text) in enumerate(self.operations):
             swap = SWAP.fullmatch(text)
-            if swap and re.fullmatch(rf"cmpq\s+\$0x{AWAITED:x}, %{swap[1]}", after):
+            if swap and self.is_compared(number + 1, swap[1]):
                 places.append(self.place(at))
         if not places:
             raise Wrong("the program has no place where a turn book's lock is freed; places.py has what it looks like")
         return places
+
+    def is_compared(self, number, register):
+        """Whether the first of the next operations that names this register compares it with what an awaited lock is."""
+        for _, text in self.operations[number:number + SOON]:
+            if f"%{register}" in text:
+                return bool(re.fullmatch(rf"cmpq\s+\$0x{AWAITED:x}, %{register}", text))
+        return False

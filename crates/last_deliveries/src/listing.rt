@@ -42,6 +42,11 @@ impl Numbers {
         Ok(())
     }
 
+    // Forgets all, and keeps the room.
+    fn clear(&mut self) {
+        self.numbers.clear();
+    }
+
     fn as_slice(&self) -> &[u32]
         ensures { result.now ≡ self.now }
     {
@@ -86,18 +91,14 @@ impl ListedPosts {
         })
     }
 
-    // From now on none of them is new. Err is want of memory for the lists, and nothing was done.
-    pub(crate) fn grow_old(&mut self, alloc: Global) -> Result<(), AllocError>
+    // From now on none of them is new. The lists are empty then, and keep their room.
+    pub(crate) fn grow_old(&mut self)
         requires few { length self.old.posts ≤ most_posts }
-        ensures old { OnOk result (self.new ≡ listing self.old.posts (length self.old.posts)) }
-        ensures none { OnErr result (self.new ≡ self.old) }
+        ensures { self.new ≡ listing self.old.posts (length self.old.posts) }
     {
-        let to_nodes = no_numbers(alloc)?;
-        let to_actors = no_numbers(alloc)?;
         self.first = self.posts.len() as u32;
-        self.to_nodes = to_nodes;
-        self.to_actors = to_actors;
-        Ok(())
+        clear_all(&mut self.to_nodes);
+        clear_all(&mut self.to_actors);
     }
 
     // Adds a new post behind the others. Err is want of memory, and it was not added.
@@ -157,6 +158,15 @@ fn no_numbers(alloc: Global) -> Result<Vec<Numbers>, AllocError>
         lists.push(Numbers::new(alloc))?;
     }
     Ok(lists)
+}
+
+// Empties each list.
+fn clear_all(lists: &mut Vec<Numbers>)
+    ensures { length lists.new.items ≡ length lists.old.items }
+{
+    for number in 0..lists.len() {
+        lists[number].clear();
+    }
 }
 
 // Adds the number of a post to the list to which its address leads, if there is one. Err is want of memory.

@@ -171,7 +171,7 @@ fn deliver_all<B: NamedBook, A: Actor<B>, G: Gate>(
         (players_of B.config B.node B.actor B.seen A.seat A.view players.old.items) (players_of B.config B.node B.actor B.seen A.seat A.view players.new.items) }
 {
     'rounds: while may_read(players.as_slice(), reader) {
-        let is_more = read_more(alloc, script, book, players, reader, posts)?;
+        let is_more = read_more(script, book, players, reader, posts)?;
         if !is_more {
             return Ok(true);
         }
@@ -182,7 +182,6 @@ fn deliver_all<B: NamedBook, A: Actor<B>, G: Gate>(
 
 // Reads on by the seat of the actor at this place, so that only what was read now is new. Whether anything is.
 fn read_more<B: NamedBook, A: Actor<B>>(
-    alloc: Global,
     script: &Script,
     book: &mut B,
     players: &mut Vec<Player<A>>,
@@ -207,7 +206,7 @@ fn read_more<B: NamedBook, A: Actor<B>>(
     ensures more { IfOk result (λ more. more ≡ true → length posts.old.posts < length posts.new.posts) }
     ensures end { IfOk result (λ more. more ≡ false → posts.new.first ≡ length posts.new.posts) }
 {
-    posts.grow_old(alloc)?;
+    posts.grow_old();
     read_by(script, book, players, reader, posts)?;
     Ok(posts.has_new())
 }
