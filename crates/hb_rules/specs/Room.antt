@@ -7,6 +7,6 @@ pub record DueView : Type 0 where
   pub votes : List Vote
   pub spare : ℕ
 
--- no room is given back: what the votes take is room too
+-- the room, with what the votes take of it, is no less
 abbrev pub KeepsRoom : DueView → DueView → Type 0
 KeepsRoom old new = old.spare + length old.votes ≤ new.spare + length new.votes

@@ -119,8 +119,8 @@ pub trait Book {
         ensures known { IfOk result (λ post. IfSome post (λ p. p.from < (config seat.old).n)) }
         ensures none { length (seen seat.new) ≤ k → IsOk result };
 
-    /// Post k as by `read`, but it need not look at the whole history where the seat's last call was a `read` that found post k.
-    /// So who has just read a post and wants it once more takes no turn for it.
+    /// Post k of those that the seat has seen when the call returns, and else None. It is for who has just read the post and
+    /// wants it once more. No clause asks for a look: who has to know whether post k stands asks `read`.
     fn reread(&mut self, seat: &mut Self::Seat, k: u32) -> Result<Option<Post>, AllocError>
         requires seat { knows self.old seat.old }
         ensures seat { knows self.new seat.new }

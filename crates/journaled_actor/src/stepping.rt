@@ -78,8 +78,8 @@ fn receive<B: Book, C: Core>(
     Ok(())
 }
 
-/// Receives post k, and casts what is owed then. Of `due` the room alone is used, so that no delivery asks for room that one
-/// before has had.
+/// Receives post k, and casts what is owed then. Of `due` the code uses the room alone, so that no delivery asks for room that
+/// one before has had; a clause says that it has no less afterwards (`KeepsRoom`).
 pub(crate) fn advance<B: Book, D: Disk, C: Core>(
     alloc: Global,
     k: u32,

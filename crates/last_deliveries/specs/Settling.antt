@@ -41,7 +41,7 @@ pub record HasGoneOn (old new : PlayerView) : Type 0 where
   pub keeps : KeepsTerms old.view new.view
   pub ended : is_running_fate old.fate ≡ false → (new.view ≡ old.view) × (new.fate ≡ old.fate)
 
--- no post was delivered to an actor
+-- what is known of an actor apart from its seat and its fate is as before
 abbrev pub HasHeardNothing : PlayerView → PlayerView → Type 0
 HasHeardNothing old new = new.view ≡ old.view
 

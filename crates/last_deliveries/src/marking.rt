@@ -97,7 +97,7 @@ pub(crate) fn coming(
     Ok(numbers)
 }
 
-// Adds the number of post k, if it comes to this actor of this node.
+// Adds the number of post k where it comes to this actor of this node.
 fn add_coming(
     script: &Script,
     posts: &[Post],

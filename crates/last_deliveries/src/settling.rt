@@ -26,7 +26,7 @@ use step_driver::Player;
 pub struct Settled {
     /// How many posts there are: no actor or seat has seen more.
     pub posts: u32,
-    /// How many deliveries were made.
+    /// How many deliveries were made. Clauses say only what 0 means.
     pub deliveries: u64,
 }
 
@@ -36,7 +36,7 @@ pub struct Settled {
 ///
 /// An actor that a stop leaves without power is restarted at once, and hears all posts that come to it again. One with
 /// another refusal ends. So does one that finds no memory to hear a post, for the marks of what it has received, or for the
-/// numbers of what it lacks. The others go on.
+/// numbers of what it lacks. The others go on. That nobody hears a post again, or one that does not come to it, is read.
 ///
 /// Err is want of memory to read or to list the posts. It is also a book of which somebody has seen more posts than are read
 /// in it, or an actor that works fewer; there is no such book. Some posts may have been delivered then, and all that is said

@@ -24,6 +24,6 @@ pub record FirstView : Type 0 where
 abbrev pub AllJoined : FirstView → Type 0
 AllJoined first = (number : ℕ) → Contains first.given number → (posts : List Post) × Contains first.joined (number, posts)
 
--- what a seat keeps of its last call, if anything, is a post that it has seen, of one of the n nodes
+-- what a seat keeps, if anything, is a post that it has seen, of one of the n nodes
 abbrev pub IsFound : Numbers → List Post → Option Found → Type 0
 IsFound c seen last = IfSome last (λ found. (slice_get seen found.k ≡ Some found.post) × (found.post.from < c.n))

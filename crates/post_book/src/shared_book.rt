@@ -36,7 +36,7 @@ impl<'a, R, J: Naming> SharedBook<'a, R, J> {
     }
 }
 
-// What a seat keeps of a reading of post k: a post that was found, unless it has 2^63 - 1 owners.
+// What a seat may keep of a reading of post k: the post that was found.
 fn found_at(k: u32, found: &Result<Option<Post>, AllocError>) -> Option<Found>
     ensures { IfSome result (λ kept. (kept.k ≡ k) × (found.now ≡ Ok (Some kept.post))) }
 {

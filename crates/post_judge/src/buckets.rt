@@ -99,7 +99,8 @@ impl Buckets {
         }
     }
 
-    // The same, if there is a place; else it does nothing. The vote is cloned, and no byte string is copied.
+    // Puts it at the place, if there is one. The vote is cloned, and no byte string is copied; this may fail where there is room
+    // too. Without a place it succeeds, and no place has more.
     pub(crate) fn add_at(
         &mut self,
         alloc: Global,

@@ -31,7 +31,7 @@ pub struct Left<S> {
 
 /// Ends a run whose workers have returned, with all its actors in order and all seats of its nodes that lie. An actor that
 /// works and whose mailbox refused a number ends for want of memory. What is left to deliver is delivered, and each gives its
-/// end and its seat. Err is want of memory.
+/// end and its seat. Err is as of `settle`.
 pub fn finish<B, A, G>(
     alloc: Global,
     script: &Script,
