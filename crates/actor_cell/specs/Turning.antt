@@ -75,7 +75,7 @@ pub record KeepsTerms (old new : ActorView) : Type 0 where
   pub planned : new.supply.planned ≡ old.supply.planned
   pub budget : budget new.restarts new.supply ≤ budget old.restarts old.supply
 
--- a last call has failed, of an actor that has ended
+-- an actor that has ended is not live: if it was begun, its last call failed
 abbrev pub HasFailed : PlayerView → Type 0
 HasFailed p = ¬ (p.fate ≡ Running) → p.view.live ≡ false
 
@@ -161,7 +161,7 @@ pub record IsThrownAway (s : Script) (k : ℕ) (old new : PlayerView) (before af
   pub aside : arrival s new k ≡ arrivals.Aside
   pub sent : after ≡ before
 
--- there was no memory to read its post, which stands, or to hold it back, and the actor has ended
+-- its post stands, nothing of it was heard or put, and the actor has ended with the fate of want of memory
 pub record IsLost (k : ℕ) (old new : PlayerView) (before after : Sent) : Type 0 where
   pub shown : IsShown old new
   pub stands : k < length new.seat.seen
@@ -229,14 +229,15 @@ pub record IsServed (s : Script) (k : ℕ) (old new : Turning) : Type 0 where
   pub taker : IsSameTaker old.mail new.mail
   pub back : new.back ≡ old.back
 
--- the number was the next in the mailbox, and its post is not late, or could not be held back
+-- the number was taken from the mailbox, and its post is not late, or could not be held back
 pub record IsFromMailbox (s : Script) (k : ℕ) (moved : List ℕ) (old new : Turning) : Type 0 where
   pub taken : new.mail.passes.take.taken ≡ old.mail.passes.take.taken ++ (moved ++ k ∷ [])
   pub back : new.back ≡ old.back ++ moved
   pub late : arrival s new.player k ≡ arrivals.Late → new.player.fate ≡ Memory
 
--- The mailbox gave none: it was asked once more than gave the moved numbers, and was seen empty then. All that was put through
--- the passes handed in was taken, and all that the actor had put for itself. The number was the first of those held back.
+-- The mailbox gave none: it was asked at least once more than gave the moved numbers, and was seen empty then. All that was put
+-- through the passes handed in was taken, and all that the actor had put for itself. The number was the first of those held
+-- back.
 pub record IsFromBack (k : ℕ) (moved : List ℕ) (old new : Turning) : Type 0 where
   pub asked : old.mail.passes.take.asked + length moved < new.mail.passes.take.asked
   pub taken : new.mail.passes.take.taken ≡ old.mail.passes.take.taken ++ moved

@@ -73,9 +73,9 @@ impl Boxes {
         self.config
     }
 
-    /// Puts a number into the mailbox of an actor, or of its node if it lies. The error hands the number back, and comes only at
-    /// a place that needs a new block, for which there was no memory, or after 2^62 puts into that mailbox. The take pass is told
-    /// of a put into the own mailbox, and nothing else of it changes.
+    /// Puts a number into the mailbox of an actor, or of its node if it lies. The error hands the number back, and comes only
+    /// where a place was seen that needs a new block, or the end of the queue's 2^62 places. That memory was wanting no clause
+    /// says. The take pass is told of a put into the own mailbox, and nothing else of it changes.
     pub fn put<R: Wait>(
         &self,
         rt: &R,
@@ -106,8 +106,9 @@ impl Boxes {
         }
     }
 
-    /// Takes the oldest number from the mailbox whose take pass this is. After `None` what was taken has all that was put through
-    /// the passes that were handed in, and all own puts. Both ends of the mailbox's queue were seen at one place in this call.
+    /// Takes a number from the mailbox whose take pass this is, as `Mailbox::take`. After `None` both ends of its queue were seen
+    /// at one place in this call, and what was taken has all that was put through the passes that were handed in, and all own
+    /// puts.
     pub fn take<R: Wait>(&self, rt: &R, passes: &mut Passes) -> Option<u32>
         requires passes { ArePassesOf self.now passes.old }
         ensures passes { ArePassesOf self.now passes.new }

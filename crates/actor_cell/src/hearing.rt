@@ -81,7 +81,8 @@ pub fn hear<B: Book, A: Actor<B>>(
 }
 
 /// Restarts an actor whose call was refused while a stop has left it without power. Another refusal ends it, and so does a fault
-/// that leaves the power on. `out` has the numbers of the posts that the refused call made.
+/// that leaves the power on; the fate names the fault where no restart was tried. `out` has the numbers of the posts that the
+/// refused call made.
 pub fn recover<B: Book, A: Actor<B>>(
     alloc: Global,
     book: &mut B,

@@ -181,7 +181,7 @@ impl<'b, B: NamedBook + Drop, A: Actor<B>, J: RunName> Held<'b, B, A, J> {
         unreachable!()
     }
 
-    // Takes the oldest number from the mailbox.
+    // Takes a number from the mailbox.
     fn take<R: Wait>(&mut self, rt: &R) -> Option<u32>
         ensures rest { self.new ≡ record self.old { mail = self.new.mail } }
         ensures asked { self.new.mail.passes.take.asked ≡ self.old.mail.passes.take.asked + 1 }

@@ -59,7 +59,7 @@ impl<'b> Mail<'b> {
         self.noted
     }
 
-    /// Takes the oldest number from the own mailbox, as `Boxes::take`.
+    /// Takes a number from the own mailbox, as `Boxes::take`.
     pub fn take<R: Wait>(&mut self, rt: &R) -> Option<u32>
         ensures boxes { self.new.boxes ≡ self.old.boxes }
         ensures place { self.new.passes.place ≡ self.old.passes.place }

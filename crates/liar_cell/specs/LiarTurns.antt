@@ -99,15 +99,15 @@ pub record HoldsBack {B : Type 0} (moved : List ℕ) (old new : LiarView B) : Ty
   pub mail : TookOnly old.mail new.mail moved
   pub back : new.back ≡ old.back ++ moved
 
--- the number was the next in the mailbox; if its post is late it was thrown away: there was no memory to hold it back, or the
+-- the number was taken from the mailbox; if its post is late it was thrown away: there was no memory to hold it back, or the
 -- node hears no more and the number was not read
 pub record IsFromMailbox {B : Type 0} (k : ℕ) (moved : List ℕ) (old new : LiarView B) : Type 0 where
   pub taken : new.mail.passes.take.taken ≡ old.mail.passes.take.taken ++ (moved ++ k ∷ [])
   pub back : new.back ≡ old.back ++ moved
   pub late : IsLate new.script new.seat.seen new.seat.node k → IsThrownAway old new
 
--- The mailbox gave none: it was asked once more than gave the moved numbers, and was seen empty then. All that was put through
--- the passes handed in was taken, and all that the node had put for itself. The number was the first of those held back.
+-- The mailbox gave none: it was asked at least once more than gave the moved numbers, and was seen empty then. All that was put
+-- through the passes handed in was taken, and all that the node had put for itself. The number was the first of those held back.
 pub record IsFromBack {B : Type 0} (k : ℕ) (moved : List ℕ) (old new : LiarView B) : Type 0 where
   pub asked : old.mail.passes.take.asked + length moved < new.mail.passes.take.asked
   pub taken : new.mail.passes.take.taken ≡ old.mail.passes.take.taken ++ moved

@@ -9,8 +9,9 @@ use Rattle.crossbeam_queue.specs.declared.seg_queue.Stage.TheVariants.{SawHead, 
 use Rattle.mailbox.specs.declared.rule.View.{View}
 use Rattle.mailbox.specs.Ordered.{putter, taker}
 
--- the mailbox that it belongs to, how many splits it comes from, what it put, in order, how often it was asked to put, and
--- whether it saw since it was asked last a place which needs a new block of memory, or the end of the queue's 2 ^ 62 places
+-- The mailbox that it belongs to, how many splits it comes from, what it put, in order, how often it was asked to put, and
+-- whether the last that it saw of the queue is a place which needs a new block of memory, or the end of the 2 ^ 62 places.
+-- A put counts first, after which no clause tells what was seen before.
 pub record PutPassView : Type 0 where
   pub at : WebId
   pub splits : ℕ
@@ -65,8 +66,8 @@ abbrev pub saw_head : Stage → Bool
 saw_head SawHead = true
 saw_head _ = false
 
--- one pass saw the front of the queue and another its back, at the same place, and both were made when the take pass had been
--- asked so often
+-- One pass saw the front of the queue and another its back, at the same place, and both tell this count. By `IsDated` a pass
+-- with no share that does so was not made before.
 abbrev pub is_empty_seen : ℕ → QueueSeat → QueueSeat → Bool
 is_empty_seen asked front back =
     saw_head front.me.view.stage && saw_tail back.me.view.stage && front.me.view.at == back.me.view.at

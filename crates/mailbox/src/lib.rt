@@ -42,8 +42,8 @@ impl Drop for Mailbox {
 }
 
 /// The right of one sender to put numbers into one mailbox. It has no bytes. A contract sees the mailbox's name,
-/// how many splits the pass comes from, the list of what was put through it, how often it was asked to put, and whether it
-/// saw since then a place that needs a new block of memory.
+/// how many splits the pass comes from, the list of what was put through it, how often it was asked to put, and whether the
+/// last that it saw of the queue is a place that needs a new block of memory, or the end of the places.
 #[derive(Drop)]
 pub struct PutPass {
     seat: LinePass,
@@ -129,9 +129,9 @@ impl Mailbox {
         PutPass { seat }
     }
 
-    /// Puts `number` behind all that is in the mailbox. The error hands the number back, and comes only at a place that
-    /// needs a new block, for which there was no memory, or after 2^62 puts. The pass counts each call (`asked`), and what it
-    /// saw before is forgotten then: so a refusal has looked at the queue in this very call.
+    /// Puts `number` behind those that this pass has put. The error hands the number back, and comes only where a place was seen
+    /// that needs a new block, or the end of the queue's 2^62 places. That memory was wanting no clause says. The pass counts
+    /// each call (`asked`), and what it saw before is forgotten then: so a refusal has looked at the queue in this very call.
     pub fn put<R: Wait>(&self, rt: &R, pass: &mut PutPass, number: u32) -> Result<(), u32>
         requires { pass.old.at ≡ self.now }
         ensures same { (pass.new.at ≡ pass.old.at) × (pass.new.splits ≡ pass.old.splits) }
@@ -166,9 +166,10 @@ impl Mailbox {
         Ok(())
     }
 
-    /// Takes the oldest number. After `None` what was taken has all that was put through the passes that were handed in, and the
-    /// receiver's own numbers that the pass was told of. The pass counts each call (`asked`). `None` comes only where both ends
-    /// of the queue were seen at one place since this count (`looked`), so that nothing lay between them.
+    /// Takes a number; those of one put pass come in their order, as `close` tells. After `None` what was taken has all that was
+    /// put through the passes that were handed in, and the receiver's own numbers that the pass was told of. The pass counts each
+    /// call (`asked`). `None` comes only where both ends of the queue were seen at one place since this count (`looked`), so that
+    /// nothing lay between them.
     #[tactic(auto, using(crate::proofs::Moves::all_taken))]
     pub fn take<R: Wait>(&self, rt: &R, pass: &mut TakePass) -> Option<u32>
         requires { pass.old.at ≡ self.now }
